@@ -1,0 +1,141 @@
+-- Laws of orders of checks: what `or`, `when`, `given` and `firstOf` come to, once it is known which fault is there.
+use mathlib.Core.Path.{_≡_, refl, sym, ap, _∙_, subst}
+use mathlib.Core.Bool.{Bool, true, false, not, cond}
+use Prim.Native.Nat.{ℕ, zero, suc, _+_, _-_, _≤_, _<_}
+use mathlib.Core.Logic.{_⊎_, inl, inr}
+use native.Mathlib.Nat.{eq-or-lt-of-le}
+use native.Mathlib.Numerals.{add-one}
+use native.Mathlib.Omega.{arith}
+use borrow.Author.Tests.{eq-eqb, ne-eqb}
+use lib.Dec.{T, eqb}
+use lib.Ieee.{Float}
+use Rattle.answer.specs.Answer.{plusZero, refused, answered, fine, good, when, _or_, firstOf, given}
+use Rattle.answer.specs.declared.Answer.{Answer}
+
+pub clash : {A : Type 0} (b : Bool) → b ≡ true → b ≡ false → A
+clash b p q = absurd (subst T (sym p ∙ q) tt)
+
+-- ---- which answers are refusals
+pub good-fine : good fine ≡ true
+unfolding good fine answered
+good-fine = refl
+
+pub good-answered : (v : Float) → good (answered v) ≡ true
+unfolding good answered
+good-answered v = refl
+
+pub bad-refused : (n axis place : ℕ) → good (refused (suc n) axis place) ≡ false
+unfolding good refused
+bad-refused n axis place = ne-eqb (suc n) 0 (λ e. omega arith)
+
+-- ---- the code's test of a number
+pub passes : (r a : Answer) → r ≡ a → r .number ≡ 0 → good a ≡ true
+unfolding good
+passes r a e h = subst (λ (x : Answer). eqb (x .number) 0 ≡ true) e (eq-eqb (r .number) 0 h)
+
+pub fails : (r a : Answer) → r ≡ a → (r .number ≡ 0 → ⊥) → good a ≡ false
+unfolding good
+fails r a e h = subst (λ (x : Answer). eqb (x .number) 0 ≡ false) e (ne-eqb (r .number) 0 h)
+
+-- ---- rows
+module _ (b : Bool) (a : Answer) where
+  pub when-true : b ≡ true → when b a ≡ a
+  unfolding when
+  when-true h = ap (λ (t : Bool). cond t a fine) h
+
+  pub when-false : b ≡ false → when b a ≡ fine
+  unfolding when
+  when-false h = ap (λ (t : Bool). cond t a fine) h
+
+  pub good-when : b ≡ false → good (when b a) ≡ true
+  good-when h = ap good (when-false h) ∙ good-fine
+
+  -- a row whose answer is a refusal is passed only where its condition is not met
+  pub passed-when : good a ≡ false → good (when b a) ≡ true → b ≡ false
+  passed-when n h = go b refl
+    where
+      go : (t : Bool) → b ≡ t → b ≡ false
+      go true e = clash (good a) (sym (ap good (when-true e)) ∙ h) n
+      go false e = e
+
+-- ---- two checks, one after the other
+module _ (a b : Answer) where
+  pub or-good : good a ≡ true → (a or b) ≡ b
+  unfolding _or_
+  or-good h = ap (λ (t : Bool). cond t b a) h
+
+  pub or-bad : good a ≡ false → (a or b) ≡ a
+  unfolding _or_
+  or-bad h = ap (λ (t : Bool). cond t b a) h
+
+  pub bad-or : good a ≡ false → good (a or b) ≡ false
+  bad-or h = ap good (or-bad h) ∙ h
+
+  pub first-passed : good (a or b) ≡ true → good a ≡ true
+  first-passed h = go (good a) refl
+    where
+      go : (t : Bool) → good a ≡ t → good a ≡ true
+      go true e = e
+      go false e = clash (good (a or b)) h (bad-or e)
+
+  pub second-passed : good (a or b) ≡ true → good b ≡ true
+  second-passed h = sym (ap good (or-good (first-passed h))) ∙ h
+
+pub or-fine : (b : Answer) → (fine or b) ≡ b
+or-fine b = or-good fine b good-fine
+
+-- ---- what is given besides
+module _ {A : Type 0} (a : Answer) (x zeros : A) where
+  pub given-good : good a ≡ true → given a x zeros ≡ x
+  unfolding given
+  given-good h = ap (λ (t : Bool). cond t x zeros) h
+
+  pub given-bad : good a ≡ false → given a x zeros ≡ zeros
+  unfolding given
+  given-bad h = ap (λ (t : Bool). cond t x zeros) h
+
+-- ---- the first fault up to an end, place by place
+module _ (f : ℕ → Answer) where
+  first-zero : (i : ℕ) → firstOf f i zero ≡ fine
+  unfolding firstOf
+  first-zero i = refl
+
+  first-suc : (i k : ℕ) → firstOf f i (suc k) ≡ (f i or firstOf f (suc i) k)
+  unfolding firstOf
+  first-suc i k = refl
+
+  pub first-open : (i end : ℕ) → i < end → firstOf f i (end - i) ≡ (f i or firstOf f (i + 1) (end - (i + 1)))
+  first-open i end h =
+      ap (λ (k : ℕ). firstOf f i k) more ∙ first-suc i (end - suc i) ∙ ap (λ (j : ℕ). f i or firstOf f j (end - j)) (sym (add-one i))
+    where
+      more : end - i ≡ suc (end - suc i)
+      more = omega arith
+
+  pub first-step : (i end : ℕ) → i < end → good (f i) ≡ true → firstOf f i (end - i) ≡ firstOf f (i + 1) (end - (i + 1))
+  first-step i end h g = first-open i end h ∙ or-good (f i) (firstOf f (i + 1) (end - (i + 1))) g
+
+  pub first-stop : (i end : ℕ) → i < end → good (f i) ≡ false → firstOf f i (end - i) ≡ f i
+  first-stop i end h g = first-open i end h ∙ or-bad (f i) (firstOf f (i + 1) (end - (i + 1))) g
+
+  pub first-end : (i end : ℕ) → end ≤ i → firstOf f i (end - i) ≡ fine
+  first-end i end h = ap (λ (k : ℕ). firstOf f i k) none ∙ first-zero i
+    where
+      none : end - i ≡ 0
+      none = omega arith
+
+  -- where none is a fault
+  pub none-good : (i k : ℕ) → ((j : ℕ) → i ≤ j → j < i + k → good (f j) ≡ true) → firstOf f i k ≡ fine
+  none-good i zero h = first-zero i
+  none-good i (suc k) h =
+      first-suc i k ∙ or-good (f i) (firstOf f (suc i) k) (h i (omega arith) (omega arith)) ∙ none-good (suc i) k (λ j l m. h j (omega arith) (omega arith))
+
+  pub all-passed : (i k : ℕ) → good (firstOf f i k) ≡ true → (j : ℕ) → i ≤ j → j < i + k → good (f j) ≡ true
+  all-passed i zero h j l m = absurd (omega arith)
+  all-passed i (suc k) h j l m = go (eq-or-lt-of-le l) (λ n. all-passed (suc i) k (second-passed (f i) (firstOf f (suc i) k) whole) j n (omega arith))
+    where
+      whole : good (f i or firstOf f (suc i) k) ≡ true
+      whole = sym (ap good (first-suc i k)) ∙ h
+
+      go : (i ≡ j) ⊎ (i < j) → (suc i ≤ j → good (f j) ≡ true) → good (f j) ≡ true
+      go (inl e) later = subst (λ (n : ℕ). good (f n) ≡ true) e (first-passed (f i) (firstOf f (suc i) k) whole)
+      go (inr n) later = later (omega arith)

@@ -1,0 +1,15 @@
+use mathlib.Core.Path.{refl}
+use lib.Ieee.{ofBits}
+use Rattle.answer.specs.Answer.{refused, answered, plusZero}
+use Rattle.answer.proofs.refuse.Statement.{statement}
+use Rattle.answer.proofs.refuse.Tie as tie
+use Rattle.answer.proofs.refuse.Reads as reads
+use Rattle.answer.proofs.refuse.Lts as lts
+
+-- src/lib.rt:13:1
+returns : tie.Need-returns
+unfolding refused plusZero ofBits
+returns c = refl
+
+pub refuse-spec : {M : Type 1} → statement M
+refuse-spec = tie.close (tie.spec returns)

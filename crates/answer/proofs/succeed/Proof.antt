@@ -1,0 +1,15 @@
+use mathlib.Core.Path.{refl}
+use lib.Ieee.{ofBits}
+use Rattle.answer.specs.Answer.{refused, answered, plusZero}
+use Rattle.answer.proofs.succeed.Statement.{statement}
+use Rattle.answer.proofs.succeed.Tie as tie
+use Rattle.answer.proofs.succeed.Reads as reads
+use Rattle.answer.proofs.succeed.Lts as lts
+
+-- src/lib.rt:25:1
+returns : tie.Need-returns
+unfolding answered
+returns c = refl
+
+pub succeed-spec : {M : Type 1} → statement M
+succeed-spec = tie.close (tie.spec returns)

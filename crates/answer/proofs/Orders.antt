@@ -104,6 +104,13 @@ module _ (f : ℕ → Answer) where
   unfolding firstOf
   first-suc i k = refl
 
+  -- the first k places, as those up to an end
+  pub first-begin : (i k end : ℕ) → i + k ≡ end → firstOf f i k ≡ firstOf f i (end - i)
+  first-begin i k end h = ap (λ (n : ℕ). firstOf f i n) same
+    where
+      same : k ≡ end - i
+      same = omega arith
+
   pub first-open : (i end : ℕ) → i < end → firstOf f i (end - i) ≡ (f i or firstOf f (i + 1) (end - (i + 1)))
   first-open i end h =
       ap (λ (k : ℕ). firstOf f i k) more ∙ first-suc i (end - suc i) ∙ ap (λ (j : ℕ). f i or firstOf f j (end - j)) (sym (add-one i))
@@ -139,3 +146,43 @@ module _ (f : ℕ → Answer) where
       go : (i ≡ j) ⊎ (i < j) → (suc i ≤ j → good (f j) ≡ true) → good (f j) ≡ true
       go (inl e) later = subst (λ (n : ℕ). good (f n) ≡ true) e (first-passed (f i) (firstOf f (suc i) k) whole)
       go (inr n) later = later (omega arith)
+
+-- ---- a row that refuses: met, passed, and in front of the rest of an order
+module _ (b : Bool) (n axis place : ℕ) where
+  pub row-met : b ≡ true → refused (suc n) axis place ≡ when b (refused (suc n) axis place)
+  row-met h = sym (when-true b (refused (suc n) axis place) h)
+
+  pub row-passed : b ≡ false → fine ≡ when b (refused (suc n) axis place)
+  row-passed h = sym (when-false b (refused (suc n) axis place) h)
+
+  pub row-good : good (when b (refused (suc n) axis place)) ≡ true → b ≡ false
+  row-good h = passed-when b (refused (suc n) axis place) (bad-refused n axis place) h
+
+  module _ (rest : Answer) where
+    pub row-stops : b ≡ true → refused (suc n) axis place ≡ (when b (refused (suc n) axis place) or rest)
+    row-stops h = row-met h ∙ sym (or-bad (when b (refused (suc n) axis place)) rest (sym (ap good (row-met h)) ∙ bad-refused n axis place))
+
+    pub row-goes-on : b ≡ false → rest ≡ (when b (refused (suc n) axis place) or rest)
+    row-goes-on h = sym (or-good (when b (refused (suc n) axis place)) rest (good-when b (refused (suc n) axis place) h))
+
+pub or-assoc : (a b c : Answer) → ((a or b) or c) ≡ (a or b or c)
+or-assoc a b c = go (good a) refl
+  where
+    go : (t : Bool) → good a ≡ t → ((a or b) or c) ≡ (a or b or c)
+    go true e = ap (λ (x : Answer). x or c) (or-good a b e) ∙ sym (or-good a (b or c) e)
+    go false e = ap (λ (x : Answer). x or c) (or-bad a b e) ∙ or-bad a c e ∙ sym (or-bad a (b or c) e)
+
+-- ---- the same in the code's terms: r is what a check answered, and its number was tested
+module _ (r a : Answer) (e : r ≡ a) where
+  pub or-stops : (rest : Answer) → (r .number ≡ 0 → ⊥) → r ≡ (a or rest)
+  or-stops rest h = e ∙ sym (or-bad a rest (fails r a e h))
+
+  pub or-goes-on : (s rest : Answer) → r .number ≡ 0 → s ≡ rest → s ≡ (a or rest)
+  or-goes-on s rest h q = q ∙ sym (or-good a rest (passes r a e h))
+
+  module _ {A : Type 0} (x zeros : A) where
+    pub given-refused : (r .number ≡ 0 → ⊥) → zeros ≡ given a x zeros
+    given-refused h = sym (given-bad a x zeros (fails r a e h))
+
+    pub given-kept : (y : A) → r .number ≡ 0 → y ≡ x → y ≡ given a x zeros
+    given-kept y h q = q ∙ sym (given-good a x zeros (passes r a e h))

@@ -7,7 +7,7 @@ use lib.Ieee.{Float, fin}
 use Rattle.answer.specs.declared.Answer.{Answer}
 
 -- +0.0
-unfoldable pub plusZero : Float
+abbrev pub plusZero : Float
 plusZero = fin false 0 (pos 0)
 
 -- "A refusal has value +0.0"

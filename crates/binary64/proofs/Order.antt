@@ -207,6 +207,9 @@ module _ (x y : Float) (f : Fin x) (g : Fin y) where
       not-back true e = refl
       not-back false e = sym e
 
+  pub not-le-of-lt : lt x y ≡ true → le y x ≡ false
+  not-le-of-lt h = le-is-not-lt ∙ ap not h
+
   pub not-lt-of-le : le y x ≡ true → lt x y ≡ false
   not-lt-of-le h = not-back (lt x y) (sym le-is-not-lt ∙ h)
     where

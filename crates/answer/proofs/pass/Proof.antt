@@ -1,5 +1,5 @@
 use lib.Ieee.{ofBits}
-use Rattle.answer.specs.Answer.{fine, plusZero}
+use Rattle.answer.specs.Answer.{fine}
 use borrow.Author.Needs.{needs}
 use Rattle.answer.proofs.pass.Statement.{statement}
 use Rattle.answer.proofs.pass.Tie as tie
@@ -13,7 +13,7 @@ succeed-requires c κs = search needs
 
 -- src/lib.rt:37:1
 returns : tie.Need-returns
-unfolding fine plusZero ofBits
+unfolding fine ofBits
 returns c = c .succeed .ensures
 
 pub pass-spec : {M : Type 1} → statement M

@@ -1,0 +1,6 @@
+pub mod Rows
+pub mod Counts
+pub mod Axes
+pub mod Steps
+pub mod Wholes
+pub mod Primitives

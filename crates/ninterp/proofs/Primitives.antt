@@ -1,0 +1,152 @@
+-- What the public calls on an axis owe, on plain values: the answers by cases, and what is known where a call's checks were passed.
+use mathlib.Core.Path.{_≡_, refl, sym, ap, ap₂, _∙_, subst}
+use mathlib.Core.Bool.{Bool, true, false, not, cond}
+use mathlib.Core.List.{List}
+use Prim.Native.Nat.{ℕ, zero, suc, _+_, _-_, _≤_, _<_}
+use native.Mathlib.Omega.{arith}
+use borrow.Author.Tests.{lt-ltb, le-ltb, ltb-true}
+use lib.Dec.{ltb}
+use lib.ListN.{length}
+use lib.Ieee.{Float, binary64, lt, eq, sub, div}
+use lib.Ieee.Scale.{finite}
+use Rattle.answer.specs.Answer.{plusZero, refused, fine, good, when, _or_, given}
+use Rattle.answer.specs.declared.Answer.{Answer}
+use Rattle.answer.proofs.Orders as orders
+use Rattle.ninterp.specs.Check.{node, countFault, axisFault, firstFault, stepFault, directionFault, readingFault, Axis}
+use Rattle.ninterp.specs.Utils.{lowerIndex, exactNode, fraction, axisLocation, exactOr, gap, difference, gapFault}
+use Rattle.ninterp.specs.Calls.{indexAnswer, exactAnswer, axisAnswer, readFault, stepReadFault, lowerFault, exactFault, uniformReadFault}
+use Rattle.ninterp.specs.declared.strategy.utils.MaybeIndex.{MaybeIndex}
+use Rattle.ninterp.specs.declared.strategy.utils.MaybeIndex.the-variants.{Some, None}
+use Rattle.ninterp.specs.declared.strategy.utils.AxisLocation.{AxisLocation}
+use Rattle.ninterp.specs.declared.strategy.utils.AxisLocation.the-variants.{Exact, Between}
+use Rattle.ninterp.specs.declared.strategy.utils.IndexAnswer.{IndexAnswer}
+use Rattle.ninterp.specs.declared.strategy.utils.ExactAnswer.{ExactAnswer}
+use Rattle.ninterp.specs.declared.strategy.utils.AxisAnswer.{AxisAnswer}
+use Rattle.ninterp.proofs.Rows.{axis-of, reading-finite, count-enough}
+
+-- ---- the node of a cell that equals the reading
+module _ (nodes : List Float) (lower : ℕ) (p : Float) where
+  pub exact-lower : eq (node nodes lower) p ≡ true → Some lower ≡ exactNode nodes lower p
+  unfolding exactNode
+  exact-lower h = simp h
+
+  pub exact-upper : eq (node nodes lower) p ≡ false → eq (node nodes (lower + 1)) p ≡ true → Some (lower + 1) ≡ exactNode nodes lower p
+  unfolding exactNode
+  exact-upper h k = simp (h, k)
+
+  pub exact-none : eq (node nodes lower) p ≡ false → eq (node nodes (lower + 1)) p ≡ false → None ≡ exactNode nodes lower p
+  unfolding exactNode
+  exact-none h k = simp (h, k)
+
+-- ---- a location
+module _ (nodes : List Float) (p : Float) (l : ℕ) (e : l ≡ lowerIndex nodes p) (r : MaybeIndex) (q : r ≡ exactNode nodes l p) where
+  abbrev other : ℕ → AxisLocation
+  other k = Between k (fraction nodes k p)
+
+  located : axisLocation nodes p ≡ exactOr r (other l)
+  unfolding axisLocation
+  located = ap (λ (k : ℕ). exactOr (exactNode nodes k p) (other k)) (sym e) ∙ ap (λ (m : MaybeIndex). exactOr m (other l)) (sym q)
+
+  pub location-exact : (i : ℕ) → r ≡ Some i → Exact i ≡ axisLocation nodes p
+  location-exact i h = sym (located ∙ ap (λ (m : MaybeIndex). exactOr m (other l)) h)
+
+  pub location-between : r ≡ None → Between l (fraction nodes l p) ≡ axisLocation nodes p
+  location-between h = sym (located ∙ ap (λ (m : MaybeIndex). exactOr m (other l)) h)
+
+-- ---- an answer with what it gives
+module _ (r a : Answer) (e : r ≡ a) where
+  pub index-refused : (i : ℕ) → (r .number ≡ 0 → ⊥) → _≡_ {A = IndexAnswer} (record { answer = r; index = 0 }) (indexAnswer a i)
+  unfolding indexAnswer
+  index-refused i h = ap₂ (λ (b : Answer) (k : ℕ). record { answer = b; index = k }) e (orders.given-refused r a e i 0 h)
+
+  pub index-given : (j i : ℕ) → r .number ≡ 0 → j ≡ i → _≡_ {A = IndexAnswer} (record { answer = r; index = j }) (indexAnswer a i)
+  unfolding indexAnswer
+  index-given j i h q = ap₂ (λ (b : Answer) (k : ℕ). record { answer = b; index = k }) e (orders.given-kept r a e i 0 j h q)
+
+  pub exact-refused : (i : MaybeIndex) → (r .number ≡ 0 → ⊥) → _≡_ {A = ExactAnswer} (record { answer = r; index = None }) (exactAnswer a i)
+  unfolding exactAnswer
+  exact-refused i h = ap₂ (λ (b : Answer) (k : MaybeIndex). record { answer = b; index = k }) e (orders.given-refused r a e i None h)
+
+  pub exact-given : (j i : MaybeIndex) → r .number ≡ 0 → j ≡ i → _≡_ {A = ExactAnswer} (record { answer = r; index = j }) (exactAnswer a i)
+  unfolding exactAnswer
+  exact-given j i h q = ap₂ (λ (b : Answer) (k : MaybeIndex). record { answer = b; index = k }) e (orders.given-kept r a e i None j h q)
+
+  pub axis-refused : (i : AxisLocation) → (r .number ≡ 0 → ⊥) → _≡_ {A = AxisAnswer} (record { answer = r; location = Exact 0 }) (axisAnswer a i)
+  unfolding axisAnswer
+  axis-refused i h = ap₂ (λ (b : Answer) (k : AxisLocation). record { answer = b; location = k }) e (orders.given-refused r a e i (Exact 0) h)
+
+  pub axis-given : (j i : AxisLocation) → r .number ≡ 0 → j ≡ i → _≡_ {A = AxisAnswer} (record { answer = r; location = j }) (axisAnswer a i)
+  unfolding axisAnswer
+  axis-given j i h q = ap₂ (λ (b : Answer) (k : AxisLocation). record { answer = b; location = k }) e (orders.given-kept r a e i (Exact 0) j h q)
+
+-- ---- what is known where the checks were passed
+module _ (nodes : List Float) (p : Float) (h : good (readFault nodes p) ≡ true) where
+  pub read-axis : Axis nodes
+  unfolding readFault
+  read-axis = axis-of nodes (orders.first-passed (axisFault nodes) (readingFault 0 p) h)
+
+  pub read-finite : finite p ≡ true
+  unfolding readFault
+  read-finite = reading-finite 0 p (orders.second-passed (axisFault nodes) (readingFault 0 p) h)
+
+module _ (direction : ℕ) (nodes : List Float) (p : Float) (h : good (stepReadFault direction nodes p) ≡ true) where
+  abbrev rest-step : Answer
+  rest-step = directionFault 0 direction or readingFault 0 p
+
+  pub step-read-axis : Axis nodes
+  unfolding stepReadFault
+  step-read-axis = axis-of nodes (orders.first-passed (axisFault nodes) rest-step h)
+
+  pub step-read-finite : finite p ≡ true
+  unfolding stepReadFault
+  step-read-finite = reading-finite 0 p (orders.second-passed (directionFault 0 direction) (readingFault 0 p) (orders.second-passed (axisFault nodes) rest-step h))
+
+-- ---- 2, place 1
+module _ (nodes : List Float) (lower : ℕ) where
+  abbrev out : Bool
+  out = not (ltb lower (length nodes - 1))
+
+  pub lower-out : length nodes - 1 ≤ lower → refused 2 0 1 ≡ lowerFault nodes lower
+  unfolding lowerFault
+  lower-out h = orders.row-met out 1 0 1 (ap not (le-ltb lower (length nodes - 1) h))
+
+  pub lower-in : lower < length nodes - 1 → fine ≡ lowerFault nodes lower
+  unfolding lowerFault
+  lower-in h = orders.row-passed out 1 0 1 (ap not (lt-ltb lower (length nodes - 1) h))
+
+  within : good (lowerFault nodes lower) ≡ true → lower + 1 < length nodes
+  unfolding lowerFault
+  within h = let k : lower < length nodes - 1 = ltb-true lower (length nodes - 1) (not-back (ltb lower (length nodes - 1)) (orders.row-good out 1 0 1 h)) in omega arith
+    where
+      not-back : (b : Bool) → not b ≡ false → b ≡ true
+      not-back true e = refl
+      not-back false e = sym e
+
+pub exact-within : (nodes : List Float) (lower : ℕ) (p : Float) → good (exactFault nodes lower p) ≡ true → lower + 1 < length nodes
+unfolding exactFault
+exact-within nodes lower p h =
+    within nodes lower
+    (orders.first-passed (lowerFault nodes lower) (readingFault 0 p) (orders.second-passed (axisFault nodes) (lowerFault nodes lower or readingFault 0 p) h))
+
+pub uniform-enough : (first step : Float) (n : ℕ) (p : Float) → good (uniformReadFault first step n p) ≡ true → 2 ≤ n
+unfolding uniformReadFault
+uniform-enough first step n p h =
+    count-enough 0 n (orders.first-passed (countFault 0 n) (firstFault first or stepFault step or readingFault 0 p) h)
+
+-- ---- 8 of an interval
+module _ (axis : ℕ) (nodes : List Float) (tolerance : Float) (i : ℕ) (d : Float) (e : d ≡ difference (gap nodes i) (gap nodes 0)) where
+  pub gap-far : lt tolerance d ≡ true → refused 8 axis i ≡ gapFault axis nodes tolerance i
+  unfolding gapFault
+  gap-far h = orders.row-met (lt tolerance (difference (gap nodes i) (gap nodes 0))) 7 axis i (sym (ap (lt tolerance) e) ∙ h)
+
+  pub gap-near : lt tolerance d ≡ false → fine ≡ gapFault axis nodes tolerance i
+  unfolding gapFault
+  gap-near h = orders.row-passed (lt tolerance (difference (gap nodes i) (gap nodes 0))) 7 axis i (sym (ap (lt tolerance) e) ∙ h)
+
+pub difference-wider : (x y : Float) → lt y x ≡ true → sub binary64 x y ≡ difference x y
+unfolding difference
+difference-wider x y h = simp h
+
+pub difference-narrower : (x y : Float) → lt y x ≡ false → sub binary64 y x ≡ difference x y
+unfolding difference
+difference-narrower x y h = simp h

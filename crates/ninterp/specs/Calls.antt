@@ -1,0 +1,89 @@
+-- What each public call on an axis answers, for every input: "Primitives on one axis use 2, 4, 5, 6, 9 (`locate_step_index`), 10 in that order".
+use mathlib.Core.Bool.{not}
+use mathlib.Core.List.{List}
+use Prim.Native.Nat.{ℕ, _-_}
+use lib.Dec.{ltb}
+use lib.ListN.{length}
+use lib.Ieee.{Float}
+use Rattle.answer.specs.Answer.{plusZero, refused, fine, when, _or_, given}
+use Rattle.answer.specs.declared.Answer.{Answer}
+use Rattle.ninterp.specs.Check.{countFault, axisFault, firstFault, stepFault, toleranceFault, directionFault, readingFault, resultFault}
+use Rattle.ninterp.specs.Utils.{lowerIndex, exactNode, axisLocation, stepIndex, uniformIndex, uniformFault, toleranceOf}
+use Rattle.ninterp.specs.declared.strategy.utils.MaybeIndex.{MaybeIndex}
+use Rattle.ninterp.specs.declared.strategy.utils.MaybeIndex.the-variants.{Some, None}
+use Rattle.ninterp.specs.declared.strategy.utils.AxisLocation.{AxisLocation}
+use Rattle.ninterp.specs.declared.strategy.utils.AxisLocation.the-variants.{Exact, Between}
+use Rattle.ninterp.specs.declared.strategy.utils.Tolerance.{Tolerance}
+use Rattle.ninterp.specs.declared.strategy.utils.Tolerance.the-variants.{Lent, Default}
+use Rattle.ninterp.specs.declared.strategy.utils.IndexAnswer.{IndexAnswer}
+use Rattle.ninterp.specs.declared.strategy.utils.ExactAnswer.{ExactAnswer}
+use Rattle.ninterp.specs.declared.strategy.utils.AxisAnswer.{AxisAnswer}
+
+-- the paper's values of each case: the index of an index or none, the index and the fraction of a location
+abbrev pub indexOf : MaybeIndex → ℕ
+indexOf (Some i) = i
+indexOf None = 0
+
+abbrev pub locationIndex : AxisLocation → ℕ
+locationIndex (Exact i) = i
+locationIndex (Between lower frac) = lower
+
+abbrev pub locationFraction : AxisLocation → Float
+locationFraction (Exact i) = plusZero
+locationFraction (Between lower frac) = frac
+
+-- an answer with what it gives; "any index, fraction or shape it would give is zero" on a refusal
+unfoldable pub indexAnswer : Answer → ℕ → IndexAnswer
+indexAnswer a i = record { answer = a; index = given a i 0 }
+
+unfoldable pub exactAnswer : Answer → MaybeIndex → ExactAnswer
+exactAnswer a i = record { answer = a; index = given a i None }
+
+unfoldable pub axisAnswer : Answer → AxisLocation → AxisAnswer
+axisAnswer a l = record { answer = a; location = given a l (Exact 0) }
+
+-- 2, 4, 5, 6, 10
+unfoldable pub readFault : List Float → Float → Answer
+readFault nodes p = axisFault nodes or readingFault 0 p
+
+unfoldable pub locateLowerIndex : List Float → Float → IndexAnswer
+locateLowerIndex nodes p = indexAnswer (readFault nodes p) (lowerIndex nodes p)
+
+-- "`exact_index` also answers 2, place 1, after 6, when the lent lower index is not below the count less 1"
+unfoldable pub lowerFault : List Float → ℕ → Answer
+lowerFault nodes lower = when (not (ltb lower (length nodes - 1))) (refused 2 0 1)
+
+unfoldable pub exactFault : List Float → ℕ → Float → Answer
+exactFault nodes lower p = axisFault nodes or lowerFault nodes lower or readingFault 0 p
+
+unfoldable pub exactIndex : List Float → ℕ → Float → ExactAnswer
+exactIndex nodes lower p = exactAnswer (exactFault nodes lower p) (exactNode nodes lower p)
+
+-- "(`locate_axis` .. answers 12, 0, 0, as its last check, where the fraction is not finite)"
+unfoldable pub locateAxis : List Float → Float → AxisAnswer
+locateAxis nodes p = axisAnswer (readFault nodes p or resultFault (locationFraction (axisLocation nodes p))) (axisLocation nodes p)
+
+-- 2, 4, 5, 6, 9, 10
+unfoldable pub stepReadFault : ℕ → List Float → Float → Answer
+stepReadFault direction nodes p = axisFault nodes or directionFault 0 direction or readingFault 0 p
+
+unfoldable pub locateStepIndex : ℕ → List Float → Float → IndexAnswer
+locateStepIndex direction nodes p = indexAnswer (stepReadFault direction nodes p) (stepIndex direction nodes p)
+
+-- "The uniform primitive uses 2, 4 (first node), 8 (step), 10."
+unfoldable pub uniformReadFault : Float → Float → ℕ → Float → Answer
+uniformReadFault first step n p = countFault 0 n or firstFault first or stepFault step or readingFault 0 p
+
+unfoldable pub locateLowerIndexUniform : Float → Float → ℕ → Float → IndexAnswer
+locateLowerIndexUniform first step n p = indexAnswer (uniformReadFault first step n p) (uniformIndex first step n p)
+
+-- "The uniform check answers 8, after 6, for a lent tolerance"
+abbrev pub lentFault : Tolerance → Answer
+lentFault (Lent tolerance) = toleranceFault tolerance
+lentFault Default = fine
+
+unfoldable pub validateUniformGridEpsilon : List Float → Tolerance → Answer
+validateUniformGridEpsilon nodes tolerance = axisFault nodes or lentFault tolerance or uniformFault 0 nodes (toleranceOf nodes tolerance)
+
+unfoldable pub validateUniformGrid : List Float → Float → Answer
+validateUniformGrid nodes tolerance = validateUniformGridEpsilon nodes (Lent tolerance)

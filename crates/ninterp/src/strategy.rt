@@ -1,0 +1,2 @@
+// What the interpolation strategies are made of.
+pub mod utils;

@@ -1,0 +1,126 @@
+//! One line for each call: a refusal of `refusals`, or what the unchanged Rust gives.
+
+use crate::calls::Call;
+use crate::refusals::{self, Refusal};
+use ninterp::error::ValidateError;
+use ninterp::strategy::step::StepDirection;
+use ninterp::strategy::utils::{
+    exact_index, locate_axis, locate_lower_index, locate_lower_index_uniform, locate_step_index,
+    validate_uniform_grid, validate_uniform_grid_epsilon, AxisLocation,
+};
+use ninterp::views::ArrayView1;
+
+type Answer = Result<String, Refusal>;
+
+/// Before the first axis record the axis has no nodes.
+pub fn answer_list(calls: &[Call]) -> String {
+    let mut lines = String::new();
+    let mut present: &[f64] = &[];
+    for call in calls {
+        if let Call::Axis(nodes) = call {
+            present = nodes;
+        } else {
+            lines += &line(answer(call, present));
+        }
+    }
+    lines
+}
+
+fn line(answer: Answer) -> String {
+    match answer {
+        Ok(found) if found.is_empty() => "ok\n".into(),
+        Ok(found) => format!("ok {found}\n"),
+        Err(no) => format!("no {} {} {}\n", no.number, no.axis, no.place),
+    }
+}
+
+fn answer(call: &Call, nodes: &[f64]) -> Answer {
+    match *call {
+        Call::Axis(_) => Ok(String::new()),
+        Call::LocateLowerIndex { reading } => lower_index(nodes, reading),
+        Call::ExactIndex { lower, reading } => exact(nodes, lower, reading),
+        Call::LocateAxis { reading } => axis_location(nodes, reading),
+        Call::LocateStepIndex { direction, reading } => step_index(direction, nodes, reading),
+        #[rustfmt::skip]
+        Call::LocateLowerIndexUniform { grid0, step, n, reading } => {
+            uniform_index(grid0, step, n as usize, reading)
+        },
+        Call::ValidateUniformGrid { tolerance } => uniform(nodes, tolerance),
+        Call::ValidateUniformGridEpsilon { tolerance } => uniform_epsilon(nodes, tolerance),
+    }
+}
+
+fn lower_index(nodes: &[f64], reading: f64) -> Answer {
+    refusals::nodes(nodes)?;
+    refusals::reading(reading)?;
+    Ok(locate_lower_index(ArrayView1::from(nodes), &reading).to_string())
+}
+
+fn exact(nodes: &[f64], lower: u64, reading: f64) -> Answer {
+    refusals::nodes(nodes)?;
+    refusals::lower_index(lower, nodes.len())?;
+    refusals::reading(reading)?;
+    Ok(
+        match exact_index(ArrayView1::from(nodes), lower as usize, &reading) {
+            Some(index) => index.to_string(),
+            None => "none".into(),
+        },
+    )
+}
+
+fn axis_location(nodes: &[f64], reading: f64) -> Answer {
+    refusals::nodes(nodes)?;
+    refusals::reading(reading)?;
+    match locate_axis(ArrayView1::from(nodes), &reading) {
+        AxisLocation::Exact(index) => Ok(format!("exact {index}")),
+        AxisLocation::Between { lower, frac } => {
+            refusals::fraction(frac)?;
+            Ok(format!("between {lower} {:016x}", frac.to_bits()))
+        }
+    }
+}
+
+fn step_index(direction: u8, nodes: &[f64], reading: f64) -> Answer {
+    refusals::nodes(nodes)?;
+    refusals::direction(direction)?;
+    refusals::reading(reading)?;
+    let dir = if direction == 0 {
+        StepDirection::Lower
+    } else {
+        StepDirection::Upper
+    };
+    Ok(locate_step_index(dir, ArrayView1::from(nodes), &reading).to_string())
+}
+
+fn uniform_index(grid0: f64, step: f64, n: usize, reading: f64) -> Answer {
+    refusals::count(n)?;
+    refusals::first_node(grid0)?;
+    refusals::step(step)?;
+    refusals::reading(reading)?;
+    Ok(locate_lower_index_uniform(grid0, step, n, reading).to_string())
+}
+
+fn uniform(nodes: &[f64], tolerance: f64) -> Answer {
+    refusals::nodes(nodes)?;
+    refusals::tolerance(tolerance)?;
+    checked(validate_uniform_grid(ArrayView1::from(nodes), 0, tolerance))
+}
+
+fn uniform_epsilon(nodes: &[f64], tolerance: Option<f64>) -> Answer {
+    refusals::nodes(nodes)?;
+    if let Some(tolerance) = tolerance {
+        refusals::tolerance(tolerance)?;
+    }
+    checked(validate_uniform_grid_epsilon(
+        ArrayView1::from(nodes),
+        0,
+        tolerance,
+    ))
+}
+
+fn checked(result: Result<(), ValidateError>) -> Answer {
+    if let Err(ValidateError::NonUniform { index, .. }) = result {
+        refusals::not_uniform(index)?;
+    }
+    Ok(String::new())
+}

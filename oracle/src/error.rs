@@ -1,0 +1,5 @@
+/// Stand-in: the one case that `utils.rs` builds, nothing more.
+#[derive(Debug)]
+pub enum ValidateError {
+    NonUniform { dim: usize, index: usize },
+}

@@ -1,0 +1,56 @@
+//! `oracle make` writes the list, `oracle answer` answers a list, `oracle count` counts
+//! the calls of a list by kind.
+
+mod answers;
+mod calls;
+mod make;
+mod refusals;
+
+use calls::{Call, NAMES};
+use std::io::{self, Read, Write};
+use std::process::ExitCode;
+
+fn lent_list() -> Result<Vec<Call>, String> {
+    let mut bytes = Vec::new();
+    io::stdin()
+        .read_to_end(&mut bytes)
+        .map_err(|e| e.to_string())?;
+    calls::read_list(&bytes)
+}
+
+fn count_by_kind(calls: &[Call]) -> String {
+    let mut counts = [0; NAMES.len()];
+    for call in calls {
+        counts[call.op() as usize] += 1;
+    }
+    let mut text = String::new();
+    for (name, count) in NAMES.iter().zip(counts) {
+        text += &format!("{count:6} {name}\n");
+    }
+    text + &format!("{:6} calls in all, axes apart\n", calls.len() - counts[0])
+}
+
+fn run(command: Option<&str>) -> Result<Vec<u8>, String> {
+    match command {
+        Some("make") => Ok(make::list()),
+        Some("answer") => Ok(answers::answer_list(&lent_list()?).into_bytes()),
+        Some("count") => Ok(count_by_kind(&lent_list()?).into_bytes()),
+        _ => Err("usage: oracle make | answer | count".into()),
+    }
+}
+
+fn main() -> ExitCode {
+    let command = std::env::args().nth(1);
+    let written = run(command.as_deref()).and_then(|bytes| {
+        io::stdout()
+            .write_all(&bytes)
+            .map_err(|error| error.to_string())
+    });
+    match written {
+        Ok(()) => ExitCode::SUCCESS,
+        Err(message) => {
+            eprintln!("oracle: {message}");
+            ExitCode::FAILURE
+        }
+    }
+}

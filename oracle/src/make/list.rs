@@ -1,0 +1,52 @@
+//! The list while it is being made.
+
+use crate::calls::Call;
+
+#[derive(Default)]
+pub struct List {
+    bytes: Vec<u8>,
+}
+
+impl List {
+    pub fn bytes(self) -> Vec<u8> {
+        self.bytes
+    }
+
+    pub fn axis(&mut self, nodes: &[f64]) {
+        Call::Axis(nodes.to_vec()).write(&mut self.bytes);
+    }
+
+    pub fn lower(&mut self, reading: f64) {
+        Call::LocateLowerIndex { reading }.write(&mut self.bytes);
+    }
+
+    pub fn exact(&mut self, lower: u64, reading: f64) {
+        Call::ExactIndex { lower, reading }.write(&mut self.bytes);
+    }
+
+    pub fn locate(&mut self, reading: f64) {
+        Call::LocateAxis { reading }.write(&mut self.bytes);
+    }
+
+    pub fn step(&mut self, direction: u8, reading: f64) {
+        Call::LocateStepIndex { direction, reading }.write(&mut self.bytes);
+    }
+
+    pub fn uniform_index(&mut self, grid0: f64, step: f64, n: u8, reading: f64) {
+        Call::LocateLowerIndexUniform {
+            grid0,
+            step,
+            n,
+            reading,
+        }
+        .write(&mut self.bytes);
+    }
+
+    pub fn uniform(&mut self, tolerance: f64) {
+        Call::ValidateUniformGrid { tolerance }.write(&mut self.bytes);
+    }
+
+    pub fn uniform_epsilon(&mut self, tolerance: Option<f64>) {
+        Call::ValidateUniformGridEpsilon { tolerance }.write(&mut self.bytes);
+    }
+}

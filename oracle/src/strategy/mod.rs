@@ -1,0 +1,5 @@
+use super::*;
+
+pub mod step;
+
+include!(concat!(env!("OUT_DIR"), "/strategy/mods.rs"));

@@ -183,6 +183,9 @@ module _ (x y : Float) (f : Fin x) (g : Fin y) where
   pub lt-of-eq : eq x y ≡ true → lt x y ≡ false
   lt-of-eq h = let k : left x y ≡ right x y = eq→ x y f g h in lt-cross x y f g ∙ le-ltb (left x y) (right x y) (omega arith)
 
+  pub ne-of-lt : lt x y ≡ true → eq x y ≡ false
+  ne-of-lt h = let k : left x y < right x y = lt→ x y f g h in eq-cross x y f g ∙ ne-eqb (left x y) (right x y) (λ e. omega arith)
+
   pub eq-sym : eq x y ≡ true → eq y x ≡ true
   eq-sym h = let k : left x y ≡ right x y = eq→ x y f g h in →eq y x g f (omega arith)
 

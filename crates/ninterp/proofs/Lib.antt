@@ -4,3 +4,5 @@ pub mod Axes
 pub mod Steps
 pub mod Wholes
 pub mod Primitives
+pub mod Laws
+pub mod Nearests

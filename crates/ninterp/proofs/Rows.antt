@@ -3,6 +3,7 @@ use mathlib.Core.Path.{_≡_, refl, sym, ap, ap₂, _∙_, subst}
 use mathlib.Core.Bool.{Bool, true, false, not, _&&_, _||_, cond}
 use mathlib.Core.List.{List}
 use Prim.Native.Nat.{ℕ, zero, suc, _+_, _-_, _≤_, _<_}
+use native.Mathlib.Numerals.{add-one}
 use native.Mathlib.Omega.{arith}
 use borrow.Author.Tests.{lt-ltb, le-ltb, le-leb, lt-leb, leb-true}
 use lib.Dec.{leb, ltb}
@@ -151,6 +152,34 @@ unfolding axisFault
 axis-of nodes h =
     let c : good (countFault 0 (length nodes)) ≡ true = orders.first-passed (countFault 0 (length nodes)) (nodesFault 0 nodes) h in
     nodes-axis 0 nodes (count-enough 0 (length nodes) c) (count-few 0 (length nodes) c) (orders.second-passed (countFault 0 (length nodes)) (nodesFault 0 nodes) h)
+
+-- such an axis has no fault: the rows 2, 4, 5, 6 are passed exactly on good axes
+module _ (axis : ℕ) (nodes : List Float) (ax : Axis nodes) where
+  node-passed : (i : ℕ) → i < length nodes → good (nodeFault axis nodes i) ≡ true
+  node-passed zero l = sym (ap good (node-first axis nodes zero (ax .finites zero l) (omega arith))) ∙ orders.good-fine
+  node-passed (suc i) l = subst (λ (j : ℕ). good (nodeFault axis nodes j) ≡ true) (add-one i) (next (omega arith))
+    where
+      back : i + 1 - 1 ≡ i
+      back = omega arith
+
+      next : i + 1 < length nodes → good (nodeFault axis nodes (i + 1)) ≡ true
+      next m =
+          ap good
+          (sym
+          (node-rises axis nodes (i + 1) (ax .finites (i + 1) m) fine (omega arith)
+          (rise-fine axis (i + 1) (node nodes (i + 1 - 1)) (node nodes (i + 1)) (subst (λ (j : ℕ). lt (node nodes j) (node nodes (i + 1)) ≡ true) (sym back) (ax .rises i m))
+          (subst (λ (j : ℕ). finite (sub binary64 (node nodes (i + 1)) (node nodes j)) ≡ true) (sym back) (ax .gaps i m)))))
+          ∙ orders.good-fine
+
+  pub nodes-fine : nodesFault axis nodes ≡ fine
+  unfolding nodesFault
+  nodes-fine = orders.none-good (nodeFault axis nodes) 0 (length nodes) (λ j l m. node-passed j (omega arith))
+
+pub axis-fine : (nodes : List Float) → Axis nodes → axisFault nodes ≡ fine
+unfolding axisFault
+axis-fine nodes ax =
+    orders.or-good (countFault 0 (length nodes)) (nodesFault 0 nodes) (sym (ap good (count-fine 0 (length nodes) (ax .enough) (ax .few))) ∙ orders.good-fine)
+    ∙ nodes-fine 0 nodes ax
 
 -- ---- 4 of a lent first node
 module _ (first : Float) where

@@ -37,17 +37,33 @@ module _ (xs : List Float) (p : Float) (ax : Axis xs) (fp : finite p ≡ true) w
   fin-first = fin-at 0 (omega (arith, enough))
 
   -- ---- where the reading lies on the axis
-  below-is : (a b c : ℕ) → lt p first ≡ true → clamped xs p a b c ≡ a
+  pub below-is : (a b c : ℕ) → lt p first ≡ true → clamped xs p a b c ≡ a
   below-is a b c h = simp h
 
-  above-is : (a b c : ℕ) → lt p first ≡ false → lt last p ≡ true → clamped xs p a b c ≡ b
+  pub above-is : (a b c : ℕ) → lt p first ≡ false → lt last p ≡ true → clamped xs p a b c ≡ b
   above-is a b c h k = simp (h, k)
 
-  inside-is : (a b c : ℕ) → lt p first ≡ false → lt last p ≡ false → clamped xs p a b c ≡ c
+  pub inside-is : (a b c : ℕ) → lt p first ≡ false → lt last p ≡ false → clamped xs p a b c ≡ c
   inside-is a b c h k = simp (h, k)
 
+  pub under-lower : lt p first ≡ true → lowerStep xs p ≡ 0
+  unfolding lowerStep
+  under-lower h = below-is 0 (length xs - 2) (count (λ x. le x p) xs - 1) h
+
+  pub under-upper : lt p first ≡ true → upperStep xs p ≡ 1
+  unfolding upperStep
+  under-upper h = below-is 1 (length xs - 1) (countBelow xs p) h
+
+  pub over-lower : lt p first ≡ false → lt last p ≡ true → lowerStep xs p ≡ length xs - 2
+  unfolding lowerStep
+  over-lower h k = above-is 0 (length xs - 2) (count (λ x. le x p) xs - 1) h k
+
+  pub over-upper : lt p first ≡ false → lt last p ≡ true → upperStep xs p ≡ length xs - 1
+  unfolding upperStep
+  over-upper h k = above-is 1 (length xs - 1) (countBelow xs p) h k
+
   -- ---- the nodes at or below p are the first r, where node r - 1 is the last of them
-  at-most : (r : ℕ) → r + 1 ≤ length xs → le (node xs r) p ≡ true → ((k : ℕ) → r < k → k < length xs → le (node xs k) p ≡ false) → count (λ x. le x p) xs - 1 ≡ r
+  pub at-most : (r : ℕ) → r + 1 ≤ length xs → le (node xs r) p ≡ true → ((k : ℕ) → r < k → k < length xs → le (node xs k) p ≡ false) → count (λ x. le x p) xs - 1 ≡ r
   at-most r l h f =
       let e : count (λ x. le x p) xs ≡ r + 1 = count-is (λ x. le x p) xs (r + 1) splits in
       omega arith
@@ -111,14 +127,12 @@ module _ (xs : List Float) (p : Float) (ax : Axis xs) (fp : finite p ≡ true) w
     -- on neither of the two
     module _ (k : eq p (node xs (l + 1)) ≡ false) where
       under-case : lt p first ≡ true → l ≡ lowerStep xs p
-      unfolding lowerStep
       under-case u =
-          sym (below-is 0 (length xs - 2) (count (λ x. le x p) xs - 1) u ∙ lowest xs p ax fp (order.le-of-lt p first fp fin-first u))
+          sym (under-lower u ∙ lowest xs p ax fp (order.le-of-lt p first fp fin-first u))
 
       over-case : lt p first ≡ false → lt last p ≡ true → l ≡ lowerStep xs p
-      unfolding lowerStep
       over-case u v =
-          sym (above-is 0 (length xs - 2) (count (λ x. le x p) xs - 1) u v ∙ highest xs p ax fp (order.le-of-lt last p fin-last fp v))
+          sym (over-lower u v ∙ highest xs p ax fp (order.le-of-lt last p fin-last fp v))
 
       inside-case : lt p first ≡ false → lt last p ≡ false → l ≡ lowerStep xs p
       unfolding lowerStep
@@ -166,19 +180,19 @@ module _ (xs : List Float) (p : Float) (ax : Axis xs) (fp : finite p ≡ true) w
   unfolding upperStep
   upper-step-other h = go (lt p first) (lt last p) refl refl
     where
-      go : (s t : Bool) → lt p first ≡ s → lt last p ≡ t → lowerIndex xs p + 1 ≡ clamped xs p 1 (length xs - 1) (countBelow xs p)
+      go : (s t : Bool) → lt p first ≡ s → lt last p ≡ t → lowerIndex xs p + 1 ≡ upperStep xs p
       go true t u v =
           let e : 0 ≡ lowerIndex xs p = lowest xs p ax fp (order.le-of-lt p first fp fin-first u) in
-          let q : clamped xs p 1 (length xs - 1) (countBelow xs p) ≡ 1 = below-is 1 (length xs - 1) (countBelow xs p) u in
+          let q : upperStep xs p ≡ 1 = under-upper u in
           omega arith
       go false true u v =
           let e : length xs - 2 ≡ lowerIndex xs p = highest xs p ax fp (order.le-of-lt last p fin-last fp v) in
-          let q : clamped xs p 1 (length xs - 1) (countBelow xs p) ≡ length xs - 1 = above-is 1 (length xs - 1) (countBelow xs p) u v in
+          let q : upperStep xs p ≡ length xs - 1 = over-upper u v in
           omega (arith, enough)
       go false false u v =
           let s = below-count xs p ax fp in
           let e : lowerIndex xs p ≡ min (countBelow xs p - 1) (length xs - 2) = lower-is xs p ax fp in
-          let q : clamped xs p 1 (length xs - 1) (countBelow xs p) ≡ countBelow xs p = inside-is 1 (length xs - 1) (countBelow xs p) u v in
+          let q : upperStep xs p ≡ countBelow xs p = inside-is 1 (length xs - 1) (countBelow xs p) u v in
           let a : 0 < countBelow xs p = some (countBelow xs p) (s .from) (order.lt-or-eq-of-le first p fin-first fp (order.le-of-not-lt p first fp fin-first u)) in
           let b : countBelow xs p < length xs = few (countBelow xs p) (s .within) (s .before) v in
           omega (arith, enough)

@@ -1,0 +1,99 @@
+-- "Bench cases": what each call answers beside what the paper says, as one list, and one claim over all of it.
+use mathlib.Core.Path.{_≡_, refl}
+use mathlib.Core.Bool.{true, false, cond}
+use mathlib.Core.List.{List, [], _∷_, map}
+use Prim.Native.Nat.{ℕ, _+_, _-_, _^_}
+use lib.IntN.{pos, negsuc}
+use lib.Ieee.{Float, fin, binary64, ofInt, lt, le, eq, sub, mul, div}
+use Rattle.answer.specs.Answer.{refused, answered, fine, good, when, _or_, firstOf, given}
+use Rattle.answer.specs.declared.Answer.{Answer}
+use Rattle.ninterp.specs.Check.{countFault, riseFault, nodeFault, nodesFault, axisFault, firstFault, stepFault, directionFault, readingFault, resultFault}
+use Rattle.ninterp.specs.Utils.{count, lowerIndex, exactNode, fraction, axisLocation, lowerStep, upperStep, stepIndex, wholePart, uniformPlace, uniformIndex, gap, difference, gapFault, uniformFault, toleranceOf}
+use Rattle.ninterp.specs.Calls.{indexAnswer, axisAnswer, readFault, stepReadFault, uniformReadFault, locateLowerIndex, locateAxis, locateStepIndex, locateLowerIndexUniform, validateUniformGridEpsilon}
+use Rattle.ninterp.specs.Tables.{nearestIndex}
+use Rattle.ninterp.specs.declared.strategy.utils.AxisLocation.{AxisLocation}
+use Rattle.ninterp.specs.declared.strategy.utils.AxisLocation.the-variants.{Exact, Between}
+use Rattle.ninterp.specs.declared.strategy.utils.Tolerance.the-variants.{Default}
+use Rattle.ninterp.specs.declared.strategy.utils.IndexAnswer.{IndexAnswer}
+use Rattle.ninterp.specs.declared.strategy.utils.AxisAnswer.{AxisAnswer}
+
+-- what a call tells
+pub data Outcome : Type 0 where
+  refusal : ℕ → ℕ → ℕ → Outcome
+  index : ℕ → Outcome
+  location : AxisLocation → Outcome
+  passed : Outcome
+
+abbrev told : Answer → Outcome → Outcome
+told a o = cond (good a) o (refusal (a .number) (a .axis) (a .place))
+
+abbrev toldIndex : IndexAnswer → Outcome
+toldIndex r = told (r .answer) (index (r .index))
+
+abbrev toldLocation : AxisAnswer → Outcome
+toldLocation r = told (r .answer) (location (r .location))
+
+-- ---- numbers and axes
+abbrev whole : ℕ → Float
+whole n = ofInt binary64 (pos n)
+
+-- m times 2^-k
+abbrev parts : ℕ → ℕ → Float
+parts m k = fin false m (negsuc (k - 1))
+
+abbrev A : List Float
+A = whole 0 ∷ whole 1 ∷ whole 2 ∷ whole 4 ∷ []
+
+-- [-1, 1]
+abbrev span : List Float
+span = fin true 1 (pos 0) ∷ whole 1 ∷ []
+
+-- ---- the cases: on the left what a call tells, on the right what the paper says
+pub record Case : Type 0 where
+  pub tells : Outcome
+  pub paper : Outcome
+
+infix 90 _is_
+abbrev _is_ : Outcome → Outcome → Case
+a is b = record { tells = a; paper = b }
+
+pub cases : List Case
+cases =
+    -- P1
+    toldIndex (locateLowerIndex A (whole 1)) is index 0
+    ∷ toldIndex (locateLowerIndex A (whole 4)) is index 2
+    ∷ toldIndex (locateLowerIndex A (fin true 1 (pos 0))) is index 0
+    ∷ toldIndex (locateLowerIndex A (whole 9)) is index 2
+    -- P2
+    ∷ toldLocation (locateAxis A (whole 1)) is location (Exact 1)
+    ∷ toldLocation (locateAxis A (whole 3)) is location (Between 2 (parts 1 1))
+    -- P3: 1 - 2^-53
+    ∷ toldLocation (locateAxis span (parts (2 ^ 53 - 1) 53)) is location (Between 0 (whole 1))
+    -- P4: [0, 2^1000] at 2^-1074
+    ∷ toldLocation (locateAxis (whole 0 ∷ fin false 1 (pos 1000) ∷ []) (parts 1 1074)) is location (Between 0 (whole 0))
+    -- P5
+    ∷ index (nearestIndex A (whole 3)) is index 3
+    -- P6: -2^-60
+    ∷ index (nearestIndex span (fin true 1 (negsuc 59))) is index 1
+    -- P7
+    ∷ toldIndex (locateStepIndex 0 A (whole 1)) is index 1
+    ∷ toldIndex (locateStepIndex 0 A (whole 3)) is index 2
+    ∷ toldIndex (locateStepIndex 0 A (whole 4)) is index 3
+    ∷ toldIndex (locateStepIndex 1 A (whole 0)) is index 0
+    ∷ toldIndex (locateStepIndex 1 A (whole 1)) is index 1
+    ∷ toldIndex (locateStepIndex 1 A (whole 3)) is index 3
+    -- P8: the last reading is 2^70
+    ∷ toldIndex (locateLowerIndexUniform (whole 0) (whole 1) 4 (whole 1)) is index 1
+    ∷ toldIndex (locateLowerIndexUniform (whole 0) (whole 1) 4 (whole 9)) is index 2
+    ∷ toldIndex (locateLowerIndexUniform (whole 0) (whole 1) 4 (fin false 1 (pos 70))) is index 0
+    -- P10: 2 + 2^-42, 2 + 2^-41
+    ∷ told (validateUniformGridEpsilon (whole 0 ∷ whole 1 ∷ parts (2 ^ 43 + 1) 42 ∷ []) Default) passed is passed
+    ∷ told (validateUniformGridEpsilon (whole 0 ∷ whole 1 ∷ parts (2 ^ 42 + 1) 41 ∷ []) Default) passed is refusal 8 0 1
+    -- P11
+    ∷ toldIndex (locateLowerIndex (whole 0 ∷ whole 0 ∷ []) (whole 0)) is refusal 5 0 1
+    ∷ []
+
+-- the claim over all of it
+pub cases-hold : map (λ c. c .tells) cases ≡ map (λ c. c .paper) cases
+unfolding cases locateLowerIndex locateAxis locateStepIndex locateLowerIndexUniform validateUniformGridEpsilon indexAnswer axisAnswer readFault stepReadFault uniformReadFault nearestIndex count lowerIndex exactNode fraction axisLocation lowerStep upperStep stepIndex wholePart uniformPlace uniformIndex gap difference gapFault uniformFault toleranceOf countFault riseFault nodeFault nodesFault axisFault firstFault stepFault directionFault readingFault resultFault refused answered fine good when _or_ firstOf given ofInt lt le eq sub mul div
+cases-hold = refl

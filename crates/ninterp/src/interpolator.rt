@@ -1,0 +1,2 @@
+// Lookups in tables, laid out as the Rust is.
+pub mod n;

@@ -1,0 +1,2 @@
+// Lookups in tables of any number of axes.
+pub mod nearest;

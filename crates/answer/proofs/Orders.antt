@@ -20,6 +20,10 @@ pub good-fine : good fine ≡ true
 unfolding good fine answered
 good-fine = refl
 
+pub fine-number : fine .number ≡ 0
+unfolding fine answered
+fine-number = refl
+
 pub good-answered : (v : Float) → good (answered v) ≡ true
 unfolding good answered
 good-answered v = refl

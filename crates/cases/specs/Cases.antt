@@ -4,12 +4,12 @@ use mathlib.Core.Bool.{true, false, cond}
 use mathlib.Core.List.{List, [], _∷_, map}
 use Prim.Native.Nat.{ℕ, _+_, _-_, _^_}
 use lib.IntN.{pos, negsuc}
-use lib.Ieee.{Float, fin, binary64, ofInt, lt, le, eq, sub, mul, div}
+use lib.Ieee.{Float, fin, binary64, ofInt, toUnsigned, lt, le, eq, sub, mul, div}
 use Rattle.answer.specs.Answer.{refused, answered, fine, good, when, _or_, firstOf, given}
 use Rattle.answer.specs.declared.Answer.{Answer}
-use Rattle.ninterp.specs.Check.{countFault, riseFault, nodeFault, nodesFault, axisFault, firstFault, stepFault, directionFault, readingFault, resultFault}
-use Rattle.ninterp.specs.Utils.{count, lowerIndex, exactNode, fraction, axisLocation, lowerStep, upperStep, stepIndex, wholePart, uniformPlace, uniformIndex, gap, difference, gapFault, uniformFault, toleranceOf}
-use Rattle.ninterp.specs.Calls.{indexAnswer, axisAnswer, readFault, stepReadFault, uniformReadFault, locateLowerIndex, locateAxis, locateStepIndex, locateLowerIndexUniform, validateUniformGridEpsilon}
+use Rattle.judge.specs.Check.{gap, countFault, riseFault, nodeFault, nodesFault, axisFault, finiteFault, lentStepFault, directionFault, readingFault, resultFault}
+use Rattle.ninterp.specs.Utils.{howMany, lowerIndex, exactNode, fraction, axisLocation, lowerStep, upperStep, stepIndex, uniformCell, uniformIndex, apart, gapFault, uniformFault, toleranceOf}
+use Rattle.ninterp.specs.Calls.{indexAnswer, axisAnswer, axisReadingFault, directedFault, uniformReadFault, locateLowerIndex, locateAxis, locateStepIndex, locateLowerIndexUniform, validateUniformGridEpsilon}
 use Rattle.ninterp.specs.Tables.{nearestIndex}
 use Rattle.ninterp.specs.declared.strategy.utils.AxisLocation.{AxisLocation}
 use Rattle.ninterp.specs.declared.strategy.utils.AxisLocation.the-variants.{Exact, Between}
@@ -95,5 +95,5 @@ cases =
 
 -- the claim over all of it
 pub cases-hold : map (λ c. c .tells) cases ≡ map (λ c. c .paper) cases
-unfolding cases locateLowerIndex locateAxis locateStepIndex locateLowerIndexUniform validateUniformGridEpsilon indexAnswer axisAnswer readFault stepReadFault uniformReadFault nearestIndex count lowerIndex exactNode fraction axisLocation lowerStep upperStep stepIndex wholePart uniformPlace uniformIndex gap difference gapFault uniformFault toleranceOf countFault riseFault nodeFault nodesFault axisFault firstFault stepFault directionFault readingFault resultFault refused answered fine good when _or_ firstOf given ofInt lt le eq sub mul div
+unfolding cases locateLowerIndex locateAxis locateStepIndex locateLowerIndexUniform validateUniformGridEpsilon indexAnswer axisAnswer axisReadingFault directedFault uniformReadFault nearestIndex howMany lowerIndex exactNode fraction axisLocation lowerStep upperStep stepIndex uniformCell uniformIndex gap apart gapFault uniformFault toleranceOf countFault riseFault nodeFault nodesFault axisFault finiteFault lentStepFault directionFault readingFault resultFault refused answered fine good when _or_ firstOf given ofInt toUnsigned lt le eq sub mul div
 cases-hold = refl

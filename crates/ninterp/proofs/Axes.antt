@@ -12,8 +12,8 @@ use lib.Ieee.{Float, lt, le, eq}
 use lib.Ieee.Scale.{finite}
 use Rattle.answer.proofs.Orders.{clash}
 use Rattle.binary64.proofs.Order as order
-use Rattle.ninterp.specs.Check.{node, Axis}
-use Rattle.ninterp.specs.Utils.{count, countBelow, lowerIndex}
+use Rattle.judge.specs.Check.{node, Axis}
+use Rattle.ninterp.specs.Utils.{howMany, countBelow, lowerIndex}
 use Rattle.ninterp.proofs.Counts.{Splits, Falls, count-is, count-splits}
 
 module _ (xs : List Float) (ax : Axis xs) where

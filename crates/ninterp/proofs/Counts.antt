@@ -7,8 +7,8 @@ use native.Mathlib.Omega.{arith}
 use lib.ListN.{length}
 use lib.Ieee.{Float}
 use Rattle.answer.proofs.Orders.{clash}
-use Rattle.ninterp.specs.Check.{node}
-use Rattle.ninterp.specs.Utils.{count}
+use Rattle.judge.specs.Check.{node}
+use Rattle.ninterp.specs.Utils.{howMany}
 
 module _ (test : Float → Bool) where
   -- r is the count, where each element before r passes and none from r on does
@@ -17,8 +17,8 @@ module _ (test : Float → Bool) where
     pub before : (k : ℕ) → k < r → test (node xs k) ≡ true
     pub from : (k : ℕ) → r ≤ k → k < length xs → test (node xs k) ≡ false
 
-  pub count-is : (xs : List Float) (r : ℕ) → Splits xs r → count test xs ≡ r
-  unfolding count
+  pub count-is : (xs : List Float) (r : ℕ) → Splits xs r → howMany test xs ≡ r
+  unfolding howMany
   count-is [] r s = let h : r ≤ 0 = s .within in omega arith
   count-is (x ∷ xs) zero s =
       ap₂ (λ (t : Bool) (c : ℕ). cond t 1 0 + c) (s .from 0 zero-le (omega arith))
@@ -40,32 +40,32 @@ module _ (test : Float → Bool) where
       go true e = clash (test (node xs 0)) (f 0 k (omega arith) l e) h
       go false e = e
 
-  pub count-splits : (xs : List Float) → Falls xs → Splits xs (count test xs)
-  unfolding count
+  pub count-splits : (xs : List Float) → Falls xs → Splits xs (howMany test xs)
+  unfolding howMany
   count-splits [] f = record { within = zero-le; before = λ k l. absurd (omega arith); from = λ k l l′. absurd (omega arith) }
   count-splits (x ∷ xs) f = go (test x) refl (count-splits xs (λ i j l l′ e. f (suc i) (suc j) (omega arith) (omega arith) e))
     where
-      go : (t : Bool) → test x ≡ t → Splits xs (count test xs) → Splits (x ∷ xs) (cond t 1 0 + count test xs)
+      go : (t : Bool) → test x ≡ t → Splits xs (howMany test xs) → Splits (x ∷ xs) (cond t 1 0 + howMany test xs)
       go true e s = record {
-        within = let h : count test xs ≤ length xs = s .within in omega arith;
+        within = let h : howMany test xs ≤ length xs = s .within in omega arith;
         before = λ k l. first k l;
         from = λ k l l′. later k l l′;
       }
         where
-          first : (k : ℕ) → k < 1 + count test xs → test (node (x ∷ xs) k) ≡ true
+          first : (k : ℕ) → k < 1 + howMany test xs → test (node (x ∷ xs) k) ≡ true
           first zero l = e
           first (suc k) l = s .before k (omega arith)
 
-          later : (k : ℕ) → 1 + count test xs ≤ k → k < suc (length xs) → test (node (x ∷ xs) k) ≡ false
+          later : (k : ℕ) → 1 + howMany test xs ≤ k → k < suc (length xs) → test (node (x ∷ xs) k) ≡ false
           later zero l l′ = absurd (omega arith)
           later (suc k) l l′ = s .from k (omega arith) (omega arith)
       go false e s = record {
-        within = let h : 0 + count test xs ≡ 0 = nothing in omega arith;
-        before = λ k l. absurd (let h : 0 + count test xs ≡ 0 = nothing in omega arith);
+        within = let h : 0 + howMany test xs ≡ 0 = nothing in omega arith;
+        before = λ k l. absurd (let h : 0 + howMany test xs ≡ 0 = nothing in omega arith);
         from = λ k l l′. none-after (x ∷ xs) f e k l′;
       }
         where
-          nothing : 0 + count test xs ≡ 0
+          nothing : 0 + howMany test xs ≡ 0
           nothing =
-              let z : count test xs ≡ 0 = count-is xs 0 (record { within = zero-le; before = λ k l. absurd (omega arith); from = λ k l l′. none-after (x ∷ xs) f e (suc k) (omega arith) }) in
+              let z : howMany test xs ≡ 0 = count-is xs 0 (record { within = zero-le; before = λ k l. absurd (omega arith); from = λ k l l′. none-after (x ∷ xs) f e (suc k) (omega arith) }) in
               omega arith

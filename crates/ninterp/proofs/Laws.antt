@@ -10,7 +10,7 @@ use native.Mathlib.Omega.{arith}
 use lib.Dec.{T}
 use lib.IntN.{pos}
 use lib.ListN.{length}
-use lib.Ieee.{Float, nan, inf, fin, binary64, lt, le, eq, sub, div, ofInt, fits}
+use lib.Ieee.{Float, nan, inf, fin, binary64, lt, le, eq, sub, div, ofInt, toUnsigned, fits}
 use lib.Ieee.Scale.{finite}
 use Rattle.answer.specs.Answer.{plusZero, good, given}
 use Rattle.answer.specs.declared.Answer.{Answer}
@@ -18,8 +18,8 @@ use Rattle.answer.proofs.Orders.{clash, given-bad}
 use Rattle.binary64.proofs.Order as order
 use Rattle.binary64.proofs.Difference.{sub-above, sub-not-below, sub-keeps-order}
 use Rattle.binary64.proofs.Quotient.{Unit, unit-finite, div-unit}
-use Rattle.ninterp.specs.Check.{node, Axis}
-use Rattle.ninterp.specs.Utils.{count, countBelow, lowerIndex, exactNode, fraction, axisLocation, lowerStep, upperStep, uniformIndex, uniformPlace, wholePart}
+use Rattle.judge.specs.Check.{node, gap, Axis}
+use Rattle.ninterp.specs.Utils.{howMany, countBelow, lowerIndex, exactNode, fraction, axisLocation, lowerStep, upperStep, uniformIndex, uniformCell}
 use Rattle.ninterp.specs.Calls.{indexOf, locationIndex, locationFraction, indexAnswer, exactAnswer, axisAnswer}
 use Rattle.ninterp.specs.declared.strategy.utils.MaybeIndex.{MaybeIndex}
 use Rattle.ninterp.specs.declared.strategy.utils.MaybeIndex.the-variants.{Some, None}
@@ -123,7 +123,7 @@ module _ (xs : List Float) (p : Float) (ax : Axis xs) (fp : finite p ≡ true) w
     pub node-lower : lowerStep xs p ≡ i
     unfolding lowerStep
     node-lower =
-        inside-is xs p ax fp 0 (length xs - 2) (count (λ x. le x p) xs - 1) (not-under i il e) (not-over i il e)
+        inside-is xs p ax fp 0 (length xs - 2) (howMany (λ x. le x p) xs - 1) (not-under i il e) (not-over i il e)
         ∙ at-most xs p ax fp i (omega arith) (order.le-of-eq (node xs i) p fin-i fp e) (λ k h m. order.not-le-of-lt p (node xs k) fp (ax .finites k m) (after-node k h m))
 
     pub node-upper : upperStep xs p ≡ i
@@ -136,22 +136,22 @@ module _ (xs : List Float) (p : Float) (ax : Axis xs) (fp : finite p ≡ true) w
     fin-last : finite last ≡ true
     fin-last = ax .finites (length xs - 1) (omega (arith, enough))
 
-    most : AtMost xs p (count (λ x. le x p) xs)
+    most : AtMost xs p (howMany (λ x. le x p) xs)
     most = count-splits (λ x. le x p) xs falls
       where
         falls : Falls (λ x. le x p) xs
         falls i j h m e = order.le-trans (node xs i) (node xs j) p (ax .finites i (omega arith)) (ax .finites j m) fp (climbs xs ax i j h m) e
 
-    some : 0 < count (λ x. le x p) xs
-    some = go (count (λ x. le x p) xs) (most .from)
+    some : 0 < howMany (λ x. le x p) xs
+    some = go (howMany (λ x. le x p) xs) (most .from)
       where
         go : (r : ℕ) → ((k : ℕ) → r ≤ k → k < length xs → le (node xs k) p ≡ false) → 0 < r
         go zero f = clash (le first p) (order.le-of-not-lt p first fp fin-first u) (f 0 zero-le (omega (arith, enough)))
         go (suc r) f = omega arith
 
-    lower-is : lowerStep xs p ≡ count (λ x. le x p) xs - 1
+    lower-is : lowerStep xs p ≡ howMany (λ x. le x p) xs - 1
     unfolding lowerStep
-    lower-is = inside-is xs p ax fp 0 (length xs - 2) (count (λ x. le x p) xs - 1) u v
+    lower-is = inside-is xs p ax fp 0 (length xs - 2) (howMany (λ x. le x p) xs - 1) u v
 
     upper-is : upperStep xs p ≡ countBelow xs p
     unfolding upperStep
@@ -211,8 +211,8 @@ module _ (xs : List Float) (p : Float) (ax : Axis xs) (fp : finite p ≡ true) w
     fin-high = ax .finites (l + 1) fits-l
 
     pub fraction-unit : Unit (fraction xs l p)
-    unfolding fraction
-    fraction-unit = div-unit (sub binary64 p low) (sub binary64 high low) (bounded (sub binary64 p low) (sub binary64 high low) (ax .gaps l fits-l) over within) (ax .gaps l fits-l) over wide within
+    unfolding fraction gap
+    fraction-unit = div-unit (sub binary64 p low) (gap xs l) (bounded (sub binary64 p low) (gap xs l) (ax .gaps l fits-l) over within) (ax .gaps l fits-l) over wide within
       where
         over : le plusZero (sub binary64 p low) ≡ true
         over = sub-not-below p low fp fin-low (from-lower u)
@@ -244,5 +244,5 @@ abbrev pub whole : ℕ → Float
 whole n = ofInt binary64 (pos n)
 
 pub uniform-differs : (uniformIndex (whole 0) (whole 1) 4 (whole 1) ≡ 1) × (lowerIndex (whole 0 ∷ whole 1 ∷ whole 2 ∷ whole 3 ∷ []) (whole 1) ≡ 0)
-unfolding uniformIndex uniformPlace wholePart lowerIndex count sub div lt ofInt
+unfolding uniformIndex uniformCell lowerIndex howMany sub div lt ofInt toUnsigned
 uniform-differs = (refl, refl)

@@ -1,4 +1,3 @@
-pub mod Rows
 pub mod Counts
 pub mod Axes
 pub mod Steps

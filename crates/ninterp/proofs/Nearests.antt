@@ -4,7 +4,7 @@ use mathlib.Core.Bool.{true, false}
 use mathlib.Core.List.{List}
 use Prim.Native.Nat.{ℕ, _+_}
 use lib.Ieee.{Float, binary64, lt, sub}
-use Rattle.ninterp.specs.Check.{node}
+use Rattle.judge.specs.Check.{node}
 use Rattle.ninterp.specs.Utils.{lowerIndex}
 use Rattle.ninterp.specs.Tables.{nearer, nearestIndex}
 

@@ -12,9 +12,9 @@ use lib.Ieee.Scale.{finite}
 use Rattle.answer.specs.Answer.{plusZero, refused, fine, good, when, _or_, given}
 use Rattle.answer.specs.declared.Answer.{Answer}
 use Rattle.answer.proofs.Orders as orders
-use Rattle.ninterp.specs.Check.{node, countFault, axisFault, firstFault, stepFault, directionFault, readingFault, Axis}
-use Rattle.ninterp.specs.Utils.{lowerIndex, exactNode, fraction, axisLocation, exactOr, gap, difference, gapFault}
-use Rattle.ninterp.specs.Calls.{indexAnswer, exactAnswer, axisAnswer, readFault, stepReadFault, lowerFault, exactFault, uniformReadFault}
+use Rattle.judge.specs.Check.{node, gap, countFault, finiteFault, axisFault, lentStepFault, directionFault, readingFault, Axis}
+use Rattle.ninterp.specs.Utils.{lowerIndex, exactNode, fraction, axisLocation, locationAt, apart, gapFault}
+use Rattle.ninterp.specs.Calls.{indexAnswer, exactAnswer, axisAnswer, axisReadingFault, directedFault, lowerFault, exactFault, uniformReadFault}
 use Rattle.ninterp.specs.declared.strategy.utils.MaybeIndex.{MaybeIndex}
 use Rattle.ninterp.specs.declared.strategy.utils.MaybeIndex.the-variants.{Some, None}
 use Rattle.ninterp.specs.declared.strategy.utils.AxisLocation.{AxisLocation}
@@ -22,7 +22,7 @@ use Rattle.ninterp.specs.declared.strategy.utils.AxisLocation.the-varian
 use Rattle.ninterp.specs.declared.strategy.utils.IndexAnswer.{IndexAnswer}
 use Rattle.ninterp.specs.declared.strategy.utils.ExactAnswer.{ExactAnswer}
 use Rattle.ninterp.specs.declared.strategy.utils.AxisAnswer.{AxisAnswer}
-use Rattle.ninterp.proofs.Rows.{axis-of, reading-finite, count-enough}
+use Rattle.judge.proofs.Rows.{axis-of, reading-finite, count-enough}
 
 -- ---- the node of a cell that equals the reading
 module _ (nodes : List Float) (lower : ℕ) (p : Float) where
@@ -40,18 +40,15 @@ module _ (nodes : List Float) (lower : ℕ) (p : Float) where
 
 -- ---- a location
 module _ (nodes : List Float) (p : Float) (l : ℕ) (e : l ≡ lowerIndex nodes p) (r : MaybeIndex) (q : r ≡ exactNode nodes l p) where
-  abbrev other : ℕ → AxisLocation
-  other k = Between k (fraction nodes k p)
-
-  located : axisLocation nodes p ≡ exactOr r (other l)
+  located : axisLocation nodes p ≡ locationAt nodes l p
   unfolding axisLocation
-  located = ap (λ (k : ℕ). exactOr (exactNode nodes k p) (other k)) (sym e) ∙ ap (λ (m : MaybeIndex). exactOr m (other l)) (sym q)
+  located = ap (λ (k : ℕ). locationAt nodes k p) (sym e)
 
   pub location-exact : (i : ℕ) → r ≡ Some i → Exact i ≡ axisLocation nodes p
-  location-exact i h = sym (located ∙ ap (λ (m : MaybeIndex). exactOr m (other l)) h)
+  location-exact i h = sym (located ∙ rw (← q, h))
 
   pub location-between : r ≡ None → Between l (fraction nodes l p) ≡ axisLocation nodes p
-  location-between h = sym (located ∙ ap (λ (m : MaybeIndex). exactOr m (other l)) h)
+  location-between h = sym (located ∙ rw (← q, h))
 
 -- ---- an answer with what it gives
 module _ (r a : Answer) (e : r ≡ a) where
@@ -80,26 +77,26 @@ module _ (r a : Answer) (e : r ≡ a) where
   axis-given j i h q = ap₂ (λ (b : Answer) (k : AxisLocation). record { answer = b; location = k }) e (orders.given-kept r a e i (Exact 0) j h q)
 
 -- ---- what is known where the checks were passed
-module _ (nodes : List Float) (p : Float) (h : good (readFault nodes p) ≡ true) where
+module _ (nodes : List Float) (p : Float) (h : good (axisReadingFault nodes p) ≡ true) where
   pub read-axis : Axis nodes
-  unfolding readFault
+  unfolding axisReadingFault
   read-axis = axis-of nodes (orders.first-passed (axisFault nodes) (readingFault 0 p) h)
 
   pub read-finite : finite p ≡ true
-  unfolding readFault
+  unfolding axisReadingFault
   read-finite = reading-finite 0 p (orders.second-passed (axisFault nodes) (readingFault 0 p) h)
 
-module _ (direction : ℕ) (nodes : List Float) (p : Float) (h : good (stepReadFault direction nodes p) ≡ true) where
+module _ (direction : ℕ) (nodes : List Float) (p : Float) (h : good (directedFault direction nodes p) ≡ true) where
   abbrev rest-step : Answer
   rest-step = directionFault 0 direction or readingFault 0 p
 
-  pub step-read-axis : Axis nodes
-  unfolding stepReadFault
-  step-read-axis = axis-of nodes (orders.first-passed (axisFault nodes) rest-step h)
+  pub directed-axis : Axis nodes
+  unfolding directedFault
+  directed-axis = axis-of nodes (orders.first-passed (axisFault nodes) rest-step h)
 
-  pub step-read-finite : finite p ≡ true
-  unfolding stepReadFault
-  step-read-finite = reading-finite 0 p (orders.second-passed (directionFault 0 direction) (readingFault 0 p) (orders.second-passed (axisFault nodes) rest-step h))
+  pub directed-finite : finite p ≡ true
+  unfolding directedFault
+  directed-finite = reading-finite 0 p (orders.second-passed (directionFault 0 direction) (readingFault 0 p) (orders.second-passed (axisFault nodes) rest-step h))
 
 -- ---- 2, place 1
 module _ (nodes : List Float) (lower : ℕ) where
@@ -131,22 +128,22 @@ exact-within nodes lower p h =
 pub uniform-enough : (first step : Float) (n : ℕ) (p : Float) → good (uniformReadFault first step n p) ≡ true → 2 ≤ n
 unfolding uniformReadFault
 uniform-enough first step n p h =
-    count-enough 0 n (orders.first-passed (countFault 0 n) (firstFault first or stepFault step or readingFault 0 p) h)
+    count-enough 0 n (orders.first-passed (countFault 0 n) (finiteFault 0 0 first or lentStepFault step or readingFault 0 p) h)
 
 -- ---- 8 of an interval
-module _ (axis : ℕ) (nodes : List Float) (tolerance : Float) (i : ℕ) (d : Float) (e : d ≡ difference (gap nodes i) (gap nodes 0)) where
+module _ (axis : ℕ) (nodes : List Float) (tolerance : Float) (i : ℕ) (d : Float) (e : d ≡ apart (gap nodes i) (gap nodes 0)) where
   pub gap-far : lt tolerance d ≡ true → refused 8 axis i ≡ gapFault axis nodes tolerance i
   unfolding gapFault
-  gap-far h = orders.row-met (lt tolerance (difference (gap nodes i) (gap nodes 0))) 7 axis i (sym (ap (lt tolerance) e) ∙ h)
+  gap-far h = orders.row-met (lt tolerance (apart (gap nodes i) (gap nodes 0))) 7 axis i (sym (ap (lt tolerance) e) ∙ h)
 
   pub gap-near : lt tolerance d ≡ false → fine ≡ gapFault axis nodes tolerance i
   unfolding gapFault
-  gap-near h = orders.row-passed (lt tolerance (difference (gap nodes i) (gap nodes 0))) 7 axis i (sym (ap (lt tolerance) e) ∙ h)
+  gap-near h = orders.row-passed (lt tolerance (apart (gap nodes i) (gap nodes 0))) 7 axis i (sym (ap (lt tolerance) e) ∙ h)
 
-pub difference-wider : (x y : Float) → lt y x ≡ true → sub binary64 x y ≡ difference x y
-unfolding difference
-difference-wider x y h = simp h
+pub apart-wider : (x y : Float) → lt y x ≡ true → sub binary64 x y ≡ apart x y
+unfolding apart
+apart-wider x y h = simp h
 
-pub difference-narrower : (x y : Float) → lt y x ≡ false → sub binary64 y x ≡ difference x y
-unfolding difference
-difference-narrower x y h = simp h
+pub apart-narrower : (x y : Float) → lt y x ≡ false → sub binary64 y x ≡ apart x y
+unfolding apart
+apart-narrower x y h = simp h

@@ -12,8 +12,8 @@ use lib.Ieee.{Float, lt, le, eq}
 use lib.Ieee.Scale.{finite}
 use Rattle.answer.proofs.Orders.{clash}
 use Rattle.binary64.proofs.Order as order
-use Rattle.ninterp.specs.Check.{node, Axis}
-use Rattle.ninterp.specs.Utils.{count, countBelow, lowerIndex, clamped, lowerStep, upperStep, stepIndex}
+use Rattle.judge.specs.Check.{node, Axis}
+use Rattle.ninterp.specs.Utils.{howMany, countBelow, lowerIndex, byRange, lowerStep, upperStep, stepIndex}
 use Rattle.ninterp.proofs.Counts.{Splits, count-is}
 use Rattle.ninterp.proofs.Axes.{rises-all, climbs, AtMost, Below, below-count, lower-is, lower-fits, cell-low, cell-high, lowest, highest}
 
@@ -37,18 +37,18 @@ module _ (xs : List Float) (p : Float) (ax : Axis xs) (fp : finite p ≡ true) w
   fin-first = fin-at 0 (omega (arith, enough))
 
   -- ---- where the reading lies on the axis
-  pub below-is : (a b c : ℕ) → lt p first ≡ true → clamped xs p a b c ≡ a
+  pub below-is : (a b c : ℕ) → lt p first ≡ true → byRange xs p a b c ≡ a
   below-is a b c h = simp h
 
-  pub above-is : (a b c : ℕ) → lt p first ≡ false → lt last p ≡ true → clamped xs p a b c ≡ b
+  pub above-is : (a b c : ℕ) → lt p first ≡ false → lt last p ≡ true → byRange xs p a b c ≡ b
   above-is a b c h k = simp (h, k)
 
-  pub inside-is : (a b c : ℕ) → lt p first ≡ false → lt last p ≡ false → clamped xs p a b c ≡ c
+  pub inside-is : (a b c : ℕ) → lt p first ≡ false → lt last p ≡ false → byRange xs p a b c ≡ c
   inside-is a b c h k = simp (h, k)
 
   pub under-lower : lt p first ≡ true → lowerStep xs p ≡ 0
   unfolding lowerStep
-  under-lower h = below-is 0 (length xs - 2) (count (λ x. le x p) xs - 1) h
+  under-lower h = below-is 0 (length xs - 2) (howMany (λ x. le x p) xs - 1) h
 
   pub under-upper : lt p first ≡ true → upperStep xs p ≡ 1
   unfolding upperStep
@@ -56,16 +56,16 @@ module _ (xs : List Float) (p : Float) (ax : Axis xs) (fp : finite p ≡ true) w
 
   pub over-lower : lt p first ≡ false → lt last p ≡ true → lowerStep xs p ≡ length xs - 2
   unfolding lowerStep
-  over-lower h k = above-is 0 (length xs - 2) (count (λ x. le x p) xs - 1) h k
+  over-lower h k = above-is 0 (length xs - 2) (howMany (λ x. le x p) xs - 1) h k
 
   pub over-upper : lt p first ≡ false → lt last p ≡ true → upperStep xs p ≡ length xs - 1
   unfolding upperStep
   over-upper h k = above-is 1 (length xs - 1) (countBelow xs p) h k
 
   -- ---- the nodes at or below p are the first r, where node r - 1 is the last of them
-  pub at-most : (r : ℕ) → r + 1 ≤ length xs → le (node xs r) p ≡ true → ((k : ℕ) → r < k → k < length xs → le (node xs k) p ≡ false) → count (λ x. le x p) xs - 1 ≡ r
+  pub at-most : (r : ℕ) → r + 1 ≤ length xs → le (node xs r) p ≡ true → ((k : ℕ) → r < k → k < length xs → le (node xs k) p ≡ false) → howMany (λ x. le x p) xs - 1 ≡ r
   at-most r l h f =
-      let e : count (λ x. le x p) xs ≡ r + 1 = count-is (λ x. le x p) xs (r + 1) splits in
+      let e : howMany (λ x. le x p) xs ≡ r + 1 = count-is (λ x. le x p) xs (r + 1) splits in
       omega arith
     where
       splits : AtMost xs p (r + 1)
@@ -85,7 +85,7 @@ module _ (xs : List Float) (p : Float) (ax : Axis xs) (fp : finite p ≡ true) w
   pub lower-step-last : eq p last ≡ true → length xs - 1 ≡ lowerStep xs p
   unfolding lowerStep
   lower-step-last h =
-      sym (inside-is 0 (length xs - 2) (count (λ x. le x p) xs - 1) not-under not-over
+      sym (inside-is 0 (length xs - 2) (howMany (λ x. le x p) xs - 1) not-under not-over
       ∙ at-most (length xs - 1) (omega (arith, enough)) (order.le-of-eq last p fin-last fp (order.eq-sym p last fp fin-last h)) (λ k l m. absurd (omega arith)))
     where
       not-under : lt p first ≡ false
@@ -105,7 +105,7 @@ module _ (xs : List Float) (p : Float) (ax : Axis xs) (fp : finite p ≡ true) w
     lower-step-upper : eq p (node xs (l + 1)) ≡ true → l + 1 ≡ lowerStep xs p
     unfolding lowerStep
     lower-step-upper k =
-        sym (inside-is 0 (length xs - 2) (count (λ x. le x p) xs - 1) not-under not-over
+        sym (inside-is 0 (length xs - 2) (howMany (λ x. le x p) xs - 1) not-under not-over
         ∙ at-most (l + 1) (omega (arith, fits)) at-it (λ j m m′. above-it j m m′))
       where
         at-it : le (node xs (l + 1)) p ≡ true
@@ -137,7 +137,7 @@ module _ (xs : List Float) (p : Float) (ax : Axis xs) (fp : finite p ≡ true) w
       inside-case : lt p first ≡ false → lt last p ≡ false → l ≡ lowerStep xs p
       unfolding lowerStep
       inside-case u v =
-          sym (inside-is 0 (length xs - 2) (count (λ x. le x p) xs - 1) u v
+          sym (inside-is 0 (length xs - 2) (howMany (λ x. le x p) xs - 1) u v
           ∙ at-most l (omega (arith, fits)) (at-it (order.lt-or-eq-of-le first p fin-first fp (order.le-of-not-lt p first fp fin-first u))) (λ j m m′. after (l + 1) strictly j (omega arith) m′))
         where
           at-it : (lt first p ≡ true) ⊎ (eq first p ≡ true) → le (node xs l) p ≡ true

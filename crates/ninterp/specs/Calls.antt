@@ -7,7 +7,7 @@ use lib.ListN.{length}
 use lib.Ieee.{Float}
 use Rattle.answer.specs.Answer.{plusZero, refused, fine, when, _or_, given}
 use Rattle.answer.specs.declared.Answer.{Answer}
-use Rattle.ninterp.specs.Check.{countFault, axisFault, firstFault, stepFault, toleranceFault, directionFault, readingFault, resultFault}
+use Rattle.judge.specs.Check.{countFault, finiteFault, axisFault, lentStepFault, toleranceFault, directionFault, readingFault, resultFault}
 use Rattle.ninterp.specs.Utils.{lowerIndex, exactNode, axisLocation, stepIndex, uniformIndex, uniformFault, toleranceOf}
 use Rattle.ninterp.specs.declared.strategy.utils.MaybeIndex.{MaybeIndex}
 use Rattle.ninterp.specs.declared.strategy.utils.MaybeIndex.the-variants.{Some, None}
@@ -19,7 +19,7 @@ use Rattle.ninterp.specs.declared.strategy.utils.IndexAnswer.{IndexAnswe
 use Rattle.ninterp.specs.declared.strategy.utils.ExactAnswer.{ExactAnswer}
 use Rattle.ninterp.specs.declared.strategy.utils.AxisAnswer.{AxisAnswer}
 
--- the paper's values of each case: the index of an index or none, the index and the fraction of a location
+-- "When an answer is an enum, a definition gives this paper's number and values for each of its cases."
 abbrev pub indexOf : MaybeIndex → ℕ
 indexOf (Some i) = i
 indexOf None = 0
@@ -43,11 +43,11 @@ unfoldable pub axisAnswer : Answer → AxisLocation → AxisAnswer
 axisAnswer a l = record { answer = a; location = given a l (Exact 0) }
 
 -- 2, 4, 5, 6, 10
-unfoldable pub readFault : List Float → Float → Answer
-readFault nodes p = axisFault nodes or readingFault 0 p
+unfoldable pub axisReadingFault : List Float → Float → Answer
+axisReadingFault nodes p = axisFault nodes or readingFault 0 p
 
 unfoldable pub locateLowerIndex : List Float → Float → IndexAnswer
-locateLowerIndex nodes p = indexAnswer (readFault nodes p) (lowerIndex nodes p)
+locateLowerIndex nodes p = indexAnswer (axisReadingFault nodes p) (lowerIndex nodes p)
 
 -- "`exact_index` also answers 2, place 1, after 6, when the lent lower index is not below the count less 1"
 unfoldable pub lowerFault : List Float → ℕ → Answer
@@ -61,23 +61,23 @@ exactIndex nodes lower p = exactAnswer (exactFault nodes lower p) (exactNode nod
 
 -- "(`locate_axis` .. answers 12, 0, 0, as its last check, where the fraction is not finite)"
 unfoldable pub locateAxis : List Float → Float → AxisAnswer
-locateAxis nodes p = axisAnswer (readFault nodes p or resultFault (locationFraction (axisLocation nodes p))) (axisLocation nodes p)
+locateAxis nodes p = axisAnswer (axisReadingFault nodes p or resultFault (locationFraction (axisLocation nodes p))) (axisLocation nodes p)
 
 -- 2, 4, 5, 6, 9, 10
-unfoldable pub stepReadFault : ℕ → List Float → Float → Answer
-stepReadFault direction nodes p = axisFault nodes or directionFault 0 direction or readingFault 0 p
+unfoldable pub directedFault : ℕ → List Float → Float → Answer
+directedFault direction nodes p = axisFault nodes or directionFault 0 direction or readingFault 0 p
 
 unfoldable pub locateStepIndex : ℕ → List Float → Float → IndexAnswer
-locateStepIndex direction nodes p = indexAnswer (stepReadFault direction nodes p) (stepIndex direction nodes p)
+locateStepIndex direction nodes p = indexAnswer (directedFault direction nodes p) (stepIndex direction nodes p)
 
 -- "The uniform primitive uses 2, 4 (first node), 8 (step), 10."
 unfoldable pub uniformReadFault : Float → Float → ℕ → Float → Answer
-uniformReadFault first step n p = countFault 0 n or firstFault first or stepFault step or readingFault 0 p
+uniformReadFault first step n p = countFault 0 n or finiteFault 0 0 first or lentStepFault step or readingFault 0 p
 
 unfoldable pub locateLowerIndexUniform : Float → Float → ℕ → Float → IndexAnswer
 locateLowerIndexUniform first step n p = indexAnswer (uniformReadFault first step n p) (uniformIndex first step n p)
 
--- "The uniform check answers 8, after 6, for a lent tolerance"
+-- "The uniform check answers 8, after 6, for a lent tolerance that is not finite or is below 0, axis 0, place 0."
 abbrev pub lentFault : Tolerance → Answer
 lentFault (Lent tolerance) = toleranceFault tolerance
 lentFault Default = fine

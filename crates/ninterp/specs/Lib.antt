@@ -1,4 +1,3 @@
-pub mod Check
 pub mod Utils
 pub mod Calls
 pub mod Tables

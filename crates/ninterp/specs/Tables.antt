@@ -3,7 +3,7 @@ use mathlib.Core.Bool.{cond}
 use mathlib.Core.List.{List}
 use Prim.Native.Nat.{ℕ, _+_}
 use lib.Ieee.{Float, binary64, lt, sub}
-use Rattle.ninterp.specs.Check.{node}
+use Rattle.judge.specs.Check.{node}
 use Rattle.ninterp.specs.Utils.{lowerIndex}
 
 -- "the lower node if (p - lower) is less than (upper - p) as rounded, else the upper"

@@ -5,10 +5,9 @@ ghost use mathlib.Core.Bool.{true};
 ghost use Prim.Native.Nat.{_+_, _<_, _≤_};
 ghost use lib.ListN.{length};
 ghost use lib.Ieee.Scale.{finite};
-ghost use Rattle.ninterp.specs.Check.{Axis};
-ghost use Rattle.ninterp.specs.Utils.{lowerIndex, exactNode, axisLocation, lowerStep, upperStep, stepIndex, uniformPlace, uniformIndex, difference, gapFault, uniformFault, toleranceOf};
-ghost use Rattle.ninterp.specs.Calls.{locationFraction, readFault, stepReadFault, lowerFault, exactFault, uniformReadFault, lentFault, locateLowerIndex, exactIndex, locateAxis, locateStepIndex, locateLowerIndexUniform, validateUniformGrid, validateUniformGridEpsilon};
-use crate::check;
+ghost use Rattle.judge.specs.Check.{Axis};
+ghost use Rattle.ninterp.specs.Utils.{lowerIndex, exactNode, axisLocation, lowerStep, upperStep, stepIndex, uniformCell, uniformIndex, apart, gapFault, uniformFault, toleranceOf};
+ghost use Rattle.ninterp.specs.Calls.{locationFraction, axisReadingFault, directedFault, lowerFault, exactFault, uniformReadFault, lentFault, locateLowerIndex, exactIndex, locateAxis, locateStepIndex, locateLowerIndexUniform, validateUniformGrid, validateUniformGridEpsilon};
 use answer::Answer;
 
 // An index, or none: the Rust's Option<usize>.
@@ -153,10 +152,10 @@ pub(crate) fn step_index(direction: u8, grid: &[f64], point: f64) -> usize
     }
 }
 
-// The whole part of t, held to the cells; 0 where t is 2^64 or more.
-fn uniform_place(n: usize, t: f64) -> usize
+// The cell of t on a uniform axis: its whole part, at most the last cell; 0 where t is 2^64 or more.
+fn uniform_cell(n: usize, t: f64) -> usize
     requires { ⌜ 2 ≤ n ⌝ }
-    ensures { λ r. ⌜ r ≡ uniformPlace n t ⌝ }
+    ensures { λ r. ⌜ r ≡ uniformCell n t ⌝ }
 {
     if t < 0.0 {
         return 0;
@@ -173,12 +172,12 @@ pub(crate) fn uniform_index(first: f64, step: f64, n: usize, point: f64) -> usiz
     requires { ⌜ 2 ≤ n ⌝ }
     ensures { λ r. ⌜ r ≡ uniformIndex first step n point ⌝ }
 {
-    uniform_place(n, (point - first) / step)
+    uniform_cell(n, (point - first) / step)
 }
 
 // How far two gaps differ.
-fn gap_difference(spacing: f64, step: f64) -> f64
-    ensures { λ r. ⌜ r ≡ difference spacing step ⌝ }
+fn gaps_apart(spacing: f64, step: f64) -> f64
+    ensures { λ r. ⌜ r ≡ apart spacing step ⌝ }
 {
     if spacing > step {
         spacing - step
@@ -194,14 +193,14 @@ fn gap_fault(axis: usize, grid: &[f64], tolerance: f64, i: usize) -> Answer
 {
     let step = grid[1] - grid[0];
     let spacing = grid[i + 1] - grid[i];
-    if gap_difference(spacing, step) > tolerance {
+    if gaps_apart(spacing, step) > tolerance {
         answer::refuse(8, axis, i)
     } else {
         answer::pass()
     }
 }
 
-// 8 of the first interval that differs from the first gap.
+// 8 of the first interval that differs from the first gap by more than the tolerance.
 pub(crate) fn uniform_fault(axis: usize, grid: &[f64], tolerance: f64) -> Answer
     requires { ⌜ 2 ≤ length (now grid) ⌝ }
     ensures { λ r. ⌜ r ≡ uniformFault axis (now (grid .entry)) tolerance ⌝ }
@@ -234,7 +233,7 @@ fn lent_fault(tolerance: Tolerance) -> Answer
     ensures { λ r. ⌜ r ≡ lentFault tolerance ⌝ }
 {
     match tolerance {
-        Tolerance::Lent(lent) => check::tolerance_fault(lent),
+        Tolerance::Lent(lent) => judge::tolerance_fault(lent),
         Tolerance::Default => answer::pass(),
     }
 }
@@ -242,20 +241,20 @@ fn lent_fault(tolerance: Tolerance) -> Answer
 // ---- the seven primitives
 
 // 2, 4, 5, 6, then 10.
-fn read_fault(grid: &[f64], point: f64) -> Answer
-    ensures { λ r. ⌜ r ≡ readFault (now (grid .entry)) point ⌝ }
+fn axis_reading_fault(grid: &[f64], point: f64) -> Answer
+    ensures { λ r. ⌜ r ≡ axisReadingFault (now (grid .entry)) point ⌝ }
 {
-    let fault = check::axis_fault(grid);
+    let fault = judge::axis_fault(grid);
     if fault.number != 0 {
         return fault;
     }
-    check::reading_fault(0, point)
+    judge::reading_fault(0, point)
 }
 
 pub fn locate_lower_index(grid: &[f64], point: f64) -> IndexAnswer
     ensures { λ r. ⌜ r ≡ locateLowerIndex (now (grid .entry)) point ⌝ }
 {
-    let answer = read_fault(grid, point);
+    let answer = axis_reading_fault(grid, point);
     if answer.number != 0 {
         return IndexAnswer { answer, index: 0 };
     }
@@ -266,7 +265,7 @@ pub fn locate_lower_index(grid: &[f64], point: f64) -> IndexAnswer
 pub fn locate_axis(grid: &[f64], point: f64) -> AxisAnswer
     ensures { λ r. ⌜ r ≡ locateAxis (now (grid .entry)) point ⌝ }
 {
-    let fault = read_fault(grid, point);
+    let fault = axis_reading_fault(grid, point);
     if fault.number != 0 {
         return AxisAnswer {
             answer: fault,
@@ -274,7 +273,7 @@ pub fn locate_axis(grid: &[f64], point: f64) -> AxisAnswer
         };
     }
     let location = axis_location(grid, point);
-    let answer = check::result_fault(location_fraction(location));
+    let answer = judge::result_fault(location_fraction(location));
     if answer.number != 0 {
         return AxisAnswer {
             answer,
@@ -285,24 +284,24 @@ pub fn locate_axis(grid: &[f64], point: f64) -> AxisAnswer
 }
 
 // 2, 4, 5, 6, then 9, then 10.
-fn step_read_fault(direction: u8, grid: &[f64], point: f64) -> Answer
-    ensures { λ r. ⌜ r ≡ stepReadFault direction (now (grid .entry)) point ⌝ }
+fn directed_fault(direction: u8, grid: &[f64], point: f64) -> Answer
+    ensures { λ r. ⌜ r ≡ directedFault direction (now (grid .entry)) point ⌝ }
 {
-    let fault = check::axis_fault(grid);
+    let fault = judge::axis_fault(grid);
     if fault.number != 0 {
         return fault;
     }
-    let fault = check::direction_fault(0, direction);
+    let fault = judge::direction_fault(0, direction);
     if fault.number != 0 {
         return fault;
     }
-    check::reading_fault(0, point)
+    judge::reading_fault(0, point)
 }
 
 pub fn locate_step_index(direction: u8, grid: &[f64], point: f64) -> IndexAnswer
     ensures { λ r. ⌜ r ≡ locateStepIndex direction (now (grid .entry)) point ⌝ }
 {
-    let answer = step_read_fault(direction, grid, point);
+    let answer = directed_fault(direction, grid, point);
     if answer.number != 0 {
         return IndexAnswer { answer, index: 0 };
     }
@@ -326,7 +325,7 @@ fn lower_fault(grid: &[f64], lower: usize) -> Answer
 fn exact_fault(grid: &[f64], lower: usize, point: f64) -> Answer
     ensures { λ r. ⌜ r ≡ exactFault (now (grid .entry)) lower point ⌝ }
 {
-    let fault = check::axis_fault(grid);
+    let fault = judge::axis_fault(grid);
     if fault.number != 0 {
         return fault;
     }
@@ -334,7 +333,7 @@ fn exact_fault(grid: &[f64], lower: usize, point: f64) -> Answer
     if fault.number != 0 {
         return fault;
     }
-    check::reading_fault(0, point)
+    judge::reading_fault(0, point)
 }
 
 pub fn exact_index(grid: &[f64], lower: usize, point: f64) -> ExactAnswer
@@ -355,19 +354,19 @@ pub fn exact_index(grid: &[f64], lower: usize, point: f64) -> ExactAnswer
 fn uniform_read_fault(first: f64, step: f64, n: usize, point: f64) -> Answer
     ensures { λ r. ⌜ r ≡ uniformReadFault first step n point ⌝ }
 {
-    let fault = check::count_fault(0, n);
+    let fault = judge::count_fault(0, n);
     if fault.number != 0 {
         return fault;
     }
-    let fault = check::first_fault(first);
+    let fault = judge::finite_fault(0, 0, first);
     if fault.number != 0 {
         return fault;
     }
-    let fault = check::step_fault(step);
+    let fault = judge::lent_step_fault(step);
     if fault.number != 0 {
         return fault;
     }
-    check::reading_fault(0, point)
+    judge::reading_fault(0, point)
 }
 
 pub fn locate_lower_index_uniform(first: f64, step: f64, n: usize, point: f64) -> IndexAnswer
@@ -390,7 +389,7 @@ pub fn validate_uniform_grid(grid: &[f64], tolerance: f64) -> Answer
 pub fn validate_uniform_grid_epsilon(grid: &[f64], tolerance: Tolerance) -> Answer
     ensures { λ r. ⌜ r ≡ validateUniformGridEpsilon (now (grid .entry)) tolerance ⌝ }
 {
-    let fault = check::axis_fault(grid);
+    let fault = judge::axis_fault(grid);
     if fault.number != 0 {
         return fault;
     }

@@ -2,7 +2,7 @@
 ghost use mathlib.Core.Path.{_≡_};
 ghost use mathlib.Core.Bool.{true};
 ghost use lib.Ieee.Scale.{finite};
-ghost use Rattle.ninterp.specs.Check.{Axis};
+ghost use Rattle.judge.specs.Check.{Axis};
 ghost use Rattle.ninterp.specs.Tables.{nearestIndex};
 use crate::strategy::utils;
 

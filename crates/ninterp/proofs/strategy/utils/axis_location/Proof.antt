@@ -1,4 +1,5 @@
 use mathlib.Core.Path.{_≡_, refl, sym, ap, ap₂, _∙_}
+use Rattle.judge.specs.Check.{gap}
 use Rattle.ninterp.specs.Utils.{fraction}
 use Rattle.ninterp.proofs.Primitives.{location-exact, location-between}
 use borrow.Author.Needs.{needs}
@@ -44,7 +45,7 @@ returns c =
     location-exact _ _ _ (m .before .lower-index .ensures .0) _ (m .exact-node .ensures) _ (c .before .node .given .1)
 
 returns-2 : tie.Need-returns-2
-unfolding fraction
+unfolding fraction gap
 returns-2 c =
     let t = c .before .before .before in
     let m = t .before .before in

@@ -1,7 +1,7 @@
 use mathlib.Core.Path.{_≡_, refl, sym, ap, ap₂, _∙_}
 use native.Mathlib.Omega.{arith}
 use Rattle.answer.proofs.Orders.{or-stops, or-goes-on, passes}
-use Rattle.ninterp.proofs.Rows.{axis-of}
+use Rattle.judge.proofs.Rows.{axis-of}
 use Rattle.ninterp.specs.Calls.{exactFault}
 use borrow.Author.Needs.{needs}
 use Rattle.ninterp.proofs.strategy.utils.exact_fault.Statement.{statement}

@@ -1,5 +1,5 @@
 use mathlib.Core.Path.{_≡_, refl, sym, ap, ap₂, _∙_}
-use Rattle.ninterp.specs.Utils.{gap}
+use Rattle.judge.specs.Check.{gap}
 use Rattle.ninterp.proofs.Primitives.{gap-far, gap-near}
 use borrow.Author.Needs.{needs}
 use Rattle.ninterp.proofs.strategy.utils.gap_fault.Statement.{statement}
@@ -26,8 +26,8 @@ mul-spacing-2 c = search needs
 shared-slice-read-spacing-2 : tie.Need-shared-slice-read-spacing-2
 shared-slice-read-spacing-2 c = search needs
 
-gap-difference-requires : tie.Need-gap-difference-requires
-gap-difference-requires c κs = search needs
+gaps-apart-requires : tie.Need-gaps-apart-requires
+gaps-apart-requires c κs = search needs
 
 refuse-requires : tie.Need-refuse-requires
 refuse-requires c κs = search needs
@@ -37,11 +37,11 @@ pass-requires c κs = search needs
 
 returns : tie.Need-returns
 unfolding gap
-returns c = c .refuse .ensures ∙ gap-far _ _ _ _ _ (c .before .before .gap-difference .ensures) (c .before .if1 .taken)
+returns c = c .refuse .ensures ∙ gap-far _ _ _ _ _ (c .before .before .gaps-apart .ensures) (c .before .if1 .taken)
 
 returns-2 : tie.Need-returns-2
 unfolding gap
-returns-2 c = c .pass .ensures ∙ gap-near _ _ _ _ _ (c .before .before .gap-difference .ensures) (c .before .if1 .left)
+returns-2 c = c .pass .ensures ∙ gap-near _ _ _ _ _ (c .before .before .gaps-apart .ensures) (c .before .if1 .left)
 
 pub gap-fault-spec : {M : Type 1} → statement M
 gap-fault-spec =
@@ -54,7 +54,7 @@ gap-fault-spec =
     shared-slice-read-spacing
     mul-spacing-2
     shared-slice-read-spacing-2
-    gap-difference-requires
+    gaps-apart-requires
     refuse-requires
     pass-requires
     returns

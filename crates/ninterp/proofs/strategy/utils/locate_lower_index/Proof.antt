@@ -6,23 +6,23 @@ use borrow.Author.Needs.{needs}
 use Rattle.ninterp.proofs.strategy.utils.locate_lower_index.Statement.{statement}
 use Rattle.ninterp.proofs.strategy.utils.locate_lower_index.Tie as tie
 
-read-fault-requires : tie.Need-read-fault-requires
-read-fault-requires c κs = search needs
+axis-reading-fault-requires : tie.Need-axis-reading-fault-requires
+axis-reading-fault-requires c κs = search needs
 
 returns : tie.Need-returns
 unfolding locateLowerIndex
-returns c = let f = c .before .before in index-refused _ _ (f .read-fault .ensures) _ (c .if1 .taken)
+returns c = let f = c .before .before in index-refused _ _ (f .axis-reading-fault .ensures) _ (c .if1 .taken)
 
 lower-index-requires : tie.Need-lower-index-requires
 lower-index-requires c κs =
     let f = c .before .before in
-    let g = passes _ _ (f .read-fault .ensures) (c .if1 .left) in
+    let g = passes _ _ (f .axis-reading-fault .ensures) (c .if1 .left) in
     (read-axis _ _ g, read-finite _ _ g)
 
 returns-2 : tie.Need-returns-2
 unfolding locateLowerIndex
-returns-2 c = let f = c .before .before .before in index-given _ _ (f .read-fault .ensures) _ _ (c .before .if1 .left) (c .lower-index .ensures .0)
+returns-2 c = let f = c .before .before .before in index-given _ _ (f .axis-reading-fault .ensures) _ _ (c .before .if1 .left) (c .lower-index .ensures .0)
 
 pub locate-lower-index-spec : {M : Type 1} → statement M
 locate-lower-index-spec =
-    tie.close (tie.spec read-fault-requires returns lower-index-requires returns-2)
+    tie.close (tie.spec axis-reading-fault-requires returns lower-index-requires returns-2)

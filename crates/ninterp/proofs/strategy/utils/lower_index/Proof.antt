@@ -11,7 +11,7 @@ use lib.Ieee.Scale.{finite}
 use borrow.Author.Needs.{needs}
 use Rattle.ninterp.proofs.Axes.{Bracket, bracket-start, bracket-up, bracket-down, lower-fits, lowest, highest, met-above, met-first, met-never}
 use Rattle.binary64.proofs.Order.{le-of-lt}
-use Rattle.ninterp.specs.Check.{Axis}
+use Rattle.judge.specs.Check.{Axis}
 use Rattle.ninterp.specs.Utils.{lowerIndex}
 use Rattle.ninterp.proofs.strategy.utils.lower_index.Statement.{statement}
 use Rattle.ninterp.proofs.strategy.utils.lower_index.Tie as tie

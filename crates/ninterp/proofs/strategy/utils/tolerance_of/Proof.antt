@@ -1,7 +1,8 @@
 use mathlib.Core.Path.{_≡_, refl, sym, ap, ap₂, _∙_}
 use denote.Ref.{now}
 use lib.Ieee.{ofBits}
-use Rattle.ninterp.specs.Utils.{toleranceOf, gap}
+use Rattle.judge.specs.Check.{gap}
+use Rattle.ninterp.specs.Utils.{toleranceOf}
 use borrow.Author.Needs.{needs}
 use Rattle.ninterp.proofs.strategy.utils.tolerance_of.Statement.{statement}
 use Rattle.ninterp.proofs.strategy.utils.tolerance_of.Tie as tie

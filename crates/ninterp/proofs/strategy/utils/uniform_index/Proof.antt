@@ -4,12 +4,12 @@ use borrow.Author.Needs.{needs}
 use Rattle.ninterp.proofs.strategy.utils.uniform_index.Statement.{statement}
 use Rattle.ninterp.proofs.strategy.utils.uniform_index.Tie as tie
 
-uniform-place-requires : tie.Need-uniform-place-requires
-uniform-place-requires c κs = search needs
+uniform-cell-requires : tie.Need-uniform-cell-requires
+uniform-cell-requires c κs = search needs
 
 returns : tie.Need-returns
 unfolding uniformIndex
-returns c = c .uniform-place .ensures
+returns c = c .uniform-cell .ensures
 
 pub uniform-index-spec : {M : Type 1} → statement M
-uniform-index-spec = tie.close (tie.spec uniform-place-requires returns)
+uniform-index-spec = tie.close (tie.spec uniform-cell-requires returns)

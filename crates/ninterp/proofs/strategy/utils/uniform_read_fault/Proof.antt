@@ -14,8 +14,8 @@ returns c =
     let f0 = c .before .before in
     or-stops _ _ (f0 .count-fault .ensures) _ (c .if1 .taken)
 
-first-fault-requires : tie.Need-first-fault-requires
-first-fault-requires c κs = search needs
+finite-fault-requires : tie.Need-finite-fault-requires
+finite-fault-requires c κs = search needs
 
 returns-2 : tie.Need-returns-2
 unfolding uniformReadFault
@@ -23,10 +23,10 @@ returns-2 c =
     let f1 = c .before .before in
     let e0 = f1 .before in
     let f0 = e0 .before .before in
-    or-goes-on _ _ (f0 .count-fault .ensures) _ _ (e0 .if1 .left) (or-stops _ _ (f1 .first-fault .ensures) _ (c .if2 .taken))
+    or-goes-on _ _ (f0 .count-fault .ensures) _ _ (e0 .if1 .left) (or-stops _ _ (f1 .finite-fault .ensures) _ (c .if2 .taken))
 
-step-fault-requires : tie.Need-step-fault-requires
-step-fault-requires c κs = search needs
+lent-step-fault-requires : tie.Need-lent-step-fault-requires
+lent-step-fault-requires c κs = search needs
 
 returns-3 : tie.Need-returns-3
 unfolding uniformReadFault
@@ -36,7 +36,7 @@ returns-3 c =
     let f1 = e1 .before .before in
     let e0 = f1 .before in
     let f0 = e0 .before .before in
-    or-goes-on _ _ (f0 .count-fault .ensures) _ _ (e0 .if1 .left) (or-goes-on _ _ (f1 .first-fault .ensures) _ _ (e1 .if2 .left) (or-stops _ _ (f2 .step-fault .ensures) _ (c .if3 .taken)))
+    or-goes-on _ _ (f0 .count-fault .ensures) _ _ (e0 .if1 .left) (or-goes-on _ _ (f1 .finite-fault .ensures) _ _ (e1 .if2 .left) (or-stops _ _ (f2 .lent-step-fault .ensures) _ (c .if3 .taken)))
 
 reading-fault-requires : tie.Need-reading-fault-requires
 reading-fault-requires c κs = search needs
@@ -50,7 +50,7 @@ returns-4 c =
     let f1 = e1 .before .before in
     let e0 = f1 .before in
     let f0 = e0 .before .before in
-    or-goes-on _ _ (f0 .count-fault .ensures) _ _ (e0 .if1 .left) (or-goes-on _ _ (f1 .first-fault .ensures) _ _ (e1 .if2 .left) (or-goes-on _ _ (f2 .step-fault .ensures) _ _ (e2 .if3 .left) (c .reading-fault .ensures)))
+    or-goes-on _ _ (f0 .count-fault .ensures) _ _ (e0 .if1 .left) (or-goes-on _ _ (f1 .finite-fault .ensures) _ _ (e1 .if2 .left) (or-goes-on _ _ (f2 .lent-step-fault .ensures) _ _ (e2 .if3 .left) (c .reading-fault .ensures)))
 
 pub uniform-read-fault-spec : {M : Type 1} → statement M
 uniform-read-fault-spec =
@@ -58,9 +58,9 @@ uniform-read-fault-spec =
     (tie.spec
     count-fault-requires
     returns
-    first-fault-requires
+    finite-fault-requires
     returns-2
-    step-fault-requires
+    lent-step-fault-requires
     returns-3
     reading-fault-requires
     returns-4)

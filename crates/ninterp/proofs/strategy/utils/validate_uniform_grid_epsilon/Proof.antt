@@ -1,6 +1,6 @@
 use mathlib.Core.Path.{_≡_, refl, sym, ap, ap₂, _∙_}
 use Rattle.answer.proofs.Orders.{passes, or-stops, or-goes-on}
-use Rattle.ninterp.proofs.Rows.{axis-of}
+use Rattle.judge.proofs.Rows.{axis-of}
 use Rattle.ninterp.specs.Utils.{uniformFault}
 use Rattle.ninterp.specs.Calls.{validateUniformGridEpsilon}
 use borrow.Author.Needs.{needs}

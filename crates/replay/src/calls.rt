@@ -1,0 +1,103 @@
+// One call of the list, answered by the port.
+use crate::line::Reply;
+use crate::list;
+use crate::list::Header;
+use answer::Answer;
+use ninterp::strategy::utils;
+use ninterp::strategy::utils::AxisAnswer;
+use ninterp::strategy::utils::AxisLocation;
+use ninterp::strategy::utils::ExactAnswer;
+use ninterp::strategy::utils::IndexAnswer;
+use ninterp::strategy::utils::MaybeIndex;
+use ninterp::strategy::utils::Tolerance;
+
+fn of_index(found: IndexAnswer) -> Reply {
+    let answer = found.answer;
+    if answer.number != 0 {
+        return Reply::Refused(answer);
+    }
+    Reply::Index(found.index)
+}
+
+fn of_exact(found: ExactAnswer) -> Reply {
+    let answer = found.answer;
+    if answer.number != 0 {
+        return Reply::Refused(answer);
+    }
+    let index = found.index;
+    match index {
+        MaybeIndex::Some(index) => Reply::Index(index),
+        MaybeIndex::None => Reply::None,
+    }
+}
+
+fn of_location(found: AxisAnswer) -> Reply {
+    let answer = found.answer;
+    if answer.number != 0 {
+        return Reply::Refused(answer);
+    }
+    let location = found.location;
+    match location {
+        AxisLocation::Exact(index) => Reply::Exact(index),
+        AxisLocation::Between { lower, frac } => Reply::Between { lower, frac },
+    }
+}
+
+fn of_check(answer: Answer) -> Reply {
+    if answer.number != 0 {
+        return Reply::Refused(answer);
+    }
+    Reply::Done
+}
+
+fn locate_lower_index(nodes: &[f64], call: Header) -> Reply {
+    of_index(utils::locate_lower_index(nodes, call.reading))
+}
+
+fn exact_index(nodes: &[f64], call: Header) -> Reply {
+    of_exact(utils::exact_index(nodes, call.second as usize, call.reading))
+}
+
+fn locate_axis(nodes: &[f64], call: Header) -> Reply {
+    of_location(utils::locate_axis(nodes, call.reading))
+}
+
+fn locate_step_index(nodes: &[f64], call: Header) -> Reply {
+    of_index(utils::locate_step_index(call.small, nodes, call.reading))
+}
+
+fn locate_lower_index_uniform(call: Header) -> Reply {
+    let first = binary64::float_of_bits(call.second);
+    let n = list::wide(call.small);
+    of_index(utils::locate_lower_index_uniform(first, call.third, n, call.reading))
+}
+
+fn validate_uniform_grid(nodes: &[f64], call: Header) -> Reply {
+    let tolerance = binary64::float_of_bits(call.second);
+    of_check(utils::validate_uniform_grid(nodes, tolerance))
+}
+
+fn validate_uniform_grid_epsilon(nodes: &[f64], call: Header) -> Reply {
+    let small = call.small;
+    let tolerance = match small {
+        0 => Tolerance::Default,
+        1 => Tolerance::Lent(binary64::float_of_bits(call.second)),
+        _ => return Reply::Bad,
+    };
+    of_check(utils::validate_uniform_grid_epsilon(nodes, tolerance))
+}
+
+// Bad where the list's format has no such call.
+pub(crate) fn answer(nodes: &[f64], call: Header) -> Reply {
+    let op = call.op;
+    match op {
+        1 => locate_lower_index(nodes, call),
+        2 => exact_index(nodes, call),
+        3 => locate_axis(nodes, call),
+        4 => locate_step_index(nodes, call),
+        5 => locate_lower_index_uniform(call),
+        6 => validate_uniform_grid(nodes, call),
+        7 => validate_uniform_grid_epsilon(nodes, call),
+        _ => Reply::Bad,
+    }
+}

@@ -1,0 +1,148 @@
+// A reply as a line of text, and the lines held for output.
+ghost use Prim.Native.Nat.{_≤_};
+ghost use lib.ListN.{length};
+ghost use Rattle.io.specs.Counts.{Counts};
+use answer::Answer;
+use libc::STDOUT_FILENO;
+
+pub enum Reply {
+    Index(usize),
+    None,
+    Exact(usize),
+    Between { lower: usize, frac: f64 },
+    Done,
+    Refused(Answer),
+    Bad,
+}
+
+// How many bytes are held for output, and whether the last write went well.
+pub struct Kept {
+    pub held: usize,
+    pub ok: bool,
+}
+
+fn least(a: usize, b: usize) -> usize
+    ensures { λ r. ⌜ (r ≤ a) × (r ≤ b) ⌝ }
+{
+    if a < b { a } else { b }
+}
+
+// Puts as many bytes as there is room for, and gives the place past them.
+fn put(bytes: &[u8], line: &mut [u8], at: usize) -> usize
+    requires { ⌜ at ≤ length (now line) ⌝ }
+    ensures { λ r. ⌜ Counts r (now (line .exit)) ⌝ }
+{
+    let count = least(bytes.len(), line.len() - at);
+    let mut i: usize = 0;
+    while i < count {
+        line[at + i] = bytes[i];
+        i += 1;
+    }
+    at + count
+}
+
+fn put_decimal(n: u64, line: &mut [u8], at: usize) -> usize
+    requires { ⌜ at ≤ length (now line) ⌝ }
+    ensures { λ r. ⌜ Counts r (now (line .exit)) ⌝ }
+{
+    let mut digits = [0u8; 20];
+    let count = io::decimal(n, &mut digits);
+    put(&digits[..count], line, at)
+}
+
+fn put_bits(x: f64, line: &mut [u8], at: usize) -> usize
+    requires { ⌜ at ≤ length (now line) ⌝ }
+    ensures { λ r. ⌜ Counts r (now (line .exit)) ⌝ }
+{
+    let mut digits = [0u8; 16];
+    let count = io::hex(binary64::bits_of_float(x), 16, &mut digits);
+    put(&digits[..count], line, at)
+}
+
+fn put_named(name: &[u8], index: usize, line: &mut [u8]) -> usize
+    ensures { λ r. ⌜ Counts r (now (line .exit)) ⌝ }
+{
+    let at = put(name, line, 0);
+    put_decimal(index as u64, line, at)
+}
+
+fn put_between(lower: usize, frac: f64, line: &mut [u8]) -> usize
+    ensures { λ r. ⌜ Counts r (now (line .exit)) ⌝ }
+{
+    let at = put_named(b"ok between ", lower, line);
+    let at = put(b" ", line, at);
+    put_bits(frac, line, at)
+}
+
+fn put_refusal(no: Answer, line: &mut [u8]) -> usize
+    ensures { λ r. ⌜ Counts r (now (line .exit)) ⌝ }
+{
+    let at = put_named(b"no ", no.number as usize, line);
+    let at = put(b" ", line, at);
+    let at = put_decimal(no.axis as u64, line, at);
+    let at = put(b" ", line, at);
+    put_decimal(no.place as u64, line, at)
+}
+
+fn put_reply(said: Reply, line: &mut [u8]) -> usize
+    ensures { λ r. ⌜ Counts r (now (line .exit)) ⌝ }
+{
+    match said {
+        Reply::Index(index) => put_named(b"ok ", index, line),
+        Reply::None => put(b"ok none", line, 0),
+        Reply::Exact(index) => put_named(b"ok exact ", index, line),
+        Reply::Between { lower, frac } => put_between(lower, frac, line),
+        Reply::Done => put(b"ok", line, 0),
+        Reply::Refused(no) => put_refusal(no, line),
+        Reply::Bad => put(b"bad list", line, 0),
+    }
+}
+
+// Writes what is held, and tells whether it went well.
+pub(crate) fn write(out: &[u8], held: usize) -> bool
+    requires { ⌜ Counts held (now out) ⌝ }
+{
+    io::write_all(STDOUT_FILENO, &out[..held])
+}
+
+// Holds a line for output, after a write of what is held where the line has no room.
+fn hold(line: &[u8], out: &mut [u8], held: usize) -> Kept
+    requires { ⌜ Counts held (now out) ⌝ }
+    ensures { λ r. ⌜ Counts (r .held) (now (out .exit)) ⌝ }
+{
+    if line.len() <= out.len() - held {
+        let next = put(line, out, held);
+        return Kept {
+            held: next,
+            ok: true,
+        };
+    }
+    if write(out, held) {
+        let next = put(line, out, 0);
+        Kept {
+            held: next,
+            ok: true,
+        }
+    } else {
+        Kept { held: 0, ok: false }
+    }
+}
+
+pub(crate) fn add(said: Reply, out: &mut [u8], held: usize) -> Kept
+    requires { ⌜ Counts held (now out) ⌝ }
+    ensures { λ r. ⌜ Counts (r .held) (now (out .exit)) ⌝ }
+{
+    // The longest line, a refusal, has 56 bytes.
+    let mut line = [0u8; 64];
+    let at = put_reply(said, &mut line);
+    let end = put(b"\n", &mut line, at);
+    hold(&line[..end], out, held)
+}
+
+// Whether a run goes on after a reply.
+pub(crate) fn goes_on(said: Reply, ok: bool) -> bool {
+    match said {
+        Reply::Bad => false,
+        _ => ok,
+    }
+}

@@ -1,3 +1,4 @@
 pub mod Order
 pub mod Difference
 pub mod Quotient
+pub mod Unique

@@ -5,3 +5,4 @@ pub mod Wholes
 pub mod Primitives
 pub mod Laws
 pub mod Nearests
+pub mod Unique

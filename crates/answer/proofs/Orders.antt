@@ -134,6 +134,17 @@ module _ (f : ℕ → Answer) where
       none : end - i ≡ 0
       none = omega arith
 
+  -- several at once
+  pub first-skip : (i k end : ℕ) → i + k ≤ end → ((j : ℕ) → j < k → good (f (i + j)) ≡ true) → firstOf f i (end - i) ≡ firstOf f (i + k) (end - (i + k))
+  first-skip i zero end h g = ap (λ (n : ℕ). firstOf f n (end - n)) (omega arith)
+  first-skip i (suc k) end h g =
+      first-skip i k end (omega arith) (λ j l. g j (omega arith))
+      ∙ first-step (i + k) end (omega arith) (g k (omega arith))
+      ∙ ap (λ (n : ℕ). firstOf f n (end - n)) next
+    where
+      next : i + k + 1 ≡ i + suc k
+      next = omega arith
+
   -- where none is a fault
   pub none-good : (i k : ℕ) → ((j : ℕ) → i ≤ j → j < i + k → good (f j) ≡ true) → firstOf f i k ≡ fine
   none-good i zero h = first-zero i

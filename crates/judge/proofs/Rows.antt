@@ -15,23 +15,23 @@ use Rattle.answer.proofs.Orders as orders
 use Rattle.judge.specs.Check.{node, gap, countFault, finiteFault, riseFault, nodeFault, nodesFault, axisFault, lentStepFault, toleranceFault, directionFault, readingFault, resultFault, Axis}
 
 -- ---- tests
-and-false : (p q : Bool) → q ≡ false → p && q ≡ false
+pub and-false : (p q : Bool) → q ≡ false → p && q ≡ false
 and-false true q e = e
 and-false false q e = refl
 
-and-left : (p q : Bool) → p && q ≡ true → p ≡ true
+pub and-left : (p q : Bool) → p && q ≡ true → p ≡ true
 and-left true q e = refl
 and-left false q e = e
 
-and-right : (p q : Bool) → p && q ≡ true → q ≡ true
+pub and-right : (p q : Bool) → p && q ≡ true → q ≡ true
 and-right true q e = e
 and-right false q e = orders.clash false e refl
 
-or-right : (p q : Bool) → q ≡ true → p || q ≡ true
+pub or-right : (p q : Bool) → q ≡ true → p || q ≡ true
 or-right true q e = refl
 or-right false q e = e
 
-not-false : (b : Bool) → not b ≡ false → b ≡ true
+pub not-false : (b : Bool) → not b ≡ false → b ≡ true
 not-false true e = refl
 not-false false e = sym e
 

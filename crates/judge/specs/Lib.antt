@@ -1,3 +1,1 @@
 pub mod Check
-pub mod Shape
-pub mod Table

@@ -1,17 +1,9 @@
 // The checks that stand in front of the rules: a function for each row, or run of rows, of the table of numbers.
-pub mod table;
-
 ghost use mathlib.Core.Path.{_≡_};
 ghost use Prim.Native.Nat.{_<_};
 ghost use lib.ListN.{length};
 ghost use Rattle.judge.specs.Check.{countFault, finiteFault, riseFault, nodeFault, nodesFault, axisFault, lentStepFault, toleranceFault, directionFault, readingFault, resultFault};
 use answer::Answer;
-
-// A lent shape: how many axes, and the count of nodes of each. Counts past the axes are not looked at.
-pub struct Shape {
-    pub axes: usize,
-    pub counts: [usize; 4],
-}
 
 // 2: a count outside 2 to 64.
 pub fn count_fault(axis: usize, count: usize) -> Answer

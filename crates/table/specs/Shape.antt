@@ -1,0 +1,47 @@
+-- "Sizes": a shape's counts, and where nodes and values lie.
+use mathlib.Core.List.{List, [], _∷_}
+use Prim.Native.Nat.{ℕ, zero, suc, _+_, _*_, _/_, _%_}
+use lib.ListN.{take, drop, getD}
+use lib.Ieee.{Float, nan}
+use Rattle.table.specs.declared.Shape.{Shape}
+
+-- "In a lent shape, counts past its axes are not looked at."
+abbrev pub countsOf : Shape → List ℕ
+countsOf s = take (s .axes) (s .counts)
+
+-- "values (the product of the counts)"
+unfoldable pub size : List ℕ → ℕ
+size [] = 1
+size (n ∷ ns) = n * size ns
+
+-- how many nodes
+unfoldable pub total : List ℕ → ℕ
+total [] = 0
+total (n ∷ ns) = n + total ns
+
+-- "Nodes lie flat, axis after axis"
+unfoldable pub axesOf : List ℕ → List Float → List (List Float)
+axesOf [] nodes = []
+axesOf (n ∷ ns) nodes = take n nodes ∷ axesOf ns (drop n nodes)
+
+-- "values lie flat, last axis fastest": the strides, and where an index list lies by them
+unfoldable pub strides : List ℕ → List ℕ
+strides [] = []
+strides (n ∷ ns) = size ns ∷ strides ns
+
+unfoldable pub placeBy : List ℕ → List ℕ → ℕ
+placeBy [] is = 0
+placeBy (s ∷ ss) [] = 0
+placeBy (s ∷ ss) (i ∷ is) = i * s + placeBy ss is
+
+abbrev pub place : List ℕ → List ℕ → ℕ
+place counts is = placeBy (strides counts) is
+
+-- a table is a function of the index list
+unfoldable pub table : List ℕ → List Float → List ℕ → Float
+table counts values is = getD values (place counts is) nan
+
+-- the index list that lies at a flat place
+unfoldable pub indicesAt : List ℕ → ℕ → List ℕ
+indicesAt [] t = []
+indicesAt (n ∷ ns) t = (t / size ns) ∷ indicesAt ns (t % size ns)

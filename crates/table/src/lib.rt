@@ -1,0 +1,284 @@
+// The checks of a table and of a list of readings, for every input: lists that are too short are judged as far as they go.
+ghost use mathlib.Core.Path.{_≡_};
+ghost use mathlib.Core.Bool.{true};
+ghost use Prim.Native.Nat.{ℕ, _+_, _-_, _<_, _≤_, min};
+ghost use lib.ListN.{length, take, drop, getD};
+ghost use lib.Ieee.{nan};
+ghost use lib.Ieee.Scale.{finite};
+ghost use Rattle.answer.specs.Answer.{firstOf};
+ghost use Rattle.judge.specs.Check.{countFault, node};
+ghost use Rattle.table.specs.Shape.{countsOf, size, total};
+ghost use Rattle.table.specs.Table.{shapeFault, lengthFault, frameFault, axesFault, valueFault, valuesFault, directionsFault, readingsFault, rangeFault, rangesFault};
+use answer::Answer;
+
+// A lent shape: how many axes, and the count of nodes of each. Counts past the axes are not looked at.
+pub struct Shape {
+    pub axes: usize,
+    pub counts: [usize; 4],
+}
+
+// ---- 1, 2, 3
+
+// 2 of the first bad count.
+fn counts_fault(shape: Shape) -> Answer
+    requires { ⌜ shape .axes ≤ 4 ⌝ }
+    ensures { λ r. ⌜ r ≡ firstOf (λ a. countFault a (getD (shape .counts) a 0)) 0 (shape .axes) ⌝ }
+{
+    let axes = shape.axes;
+    let counts = shape.counts;
+    let mut a: usize = 0;
+    while a < axes {
+        let fault = judge::count_fault(a, counts[a]);
+        if fault.number != 0 {
+            return fault;
+        }
+        a += 1;
+    }
+    answer::pass()
+}
+
+// How many values a shape has whose counts are few.
+fn size_of(shape: Shape) -> usize
+    requires { ⌜ (shape .axes ≤ 4) × ((a : ℕ) → a < shape .axes → getD (shape .counts) a 0 ≤ 64) ⌝ }
+    ensures { λ r. ⌜ r ≡ size (countsOf shape) ⌝ }
+{
+    let counts = shape.counts;
+    let mut product: usize = 1;
+    let mut a = shape.axes;
+    while a > 0 {
+        a -= 1;
+        product = counts[a] * product;
+    }
+    product
+}
+
+// How many nodes a shape has whose counts are few.
+fn total_of(shape: Shape) -> usize
+    requires { ⌜ (shape .axes ≤ 4) × ((a : ℕ) → a < shape .axes → getD (shape .counts) a 0 ≤ 64) ⌝ }
+    ensures { λ r. ⌜ r ≡ total (countsOf shape) ⌝ }
+{
+    let counts = shape.counts;
+    let mut sum: usize = 0;
+    let mut a = shape.axes;
+    while a > 0 {
+        a -= 1;
+        sum = counts[a] + sum;
+    }
+    sum
+}
+
+pub fn shape_fault(shape: Shape) -> Answer
+    ensures { λ r. ⌜ r ≡ shapeFault shape ⌝ }
+{
+    let axes = shape.axes;
+    if axes < 1 {
+        return answer::refuse(1, 0, 0);
+    }
+    if axes > 4 {
+        return answer::refuse(1, 0, 0);
+    }
+    let fault = counts_fault(shape);
+    if fault.number != 0 {
+        return fault;
+    }
+    if size_of(shape) > 4096 {
+        answer::refuse(2, 0, 0)
+    } else {
+        answer::pass()
+    }
+}
+
+// 3: a lent length that differs from what the shape says.
+pub fn length_fault(place: usize, wanted: usize, lent: usize) -> Answer
+    ensures { λ r. ⌜ r ≡ lengthFault place wanted lent ⌝ }
+{
+    if lent == wanted {
+        answer::pass()
+    } else {
+        answer::refuse(3, 0, place)
+    }
+}
+
+// 1, 2, 3 of a shape and the lengths of its nodes and values.
+pub fn frame_fault(shape: Shape, nodes: usize, values: usize) -> Answer
+    ensures { λ r. ⌜ r ≡ frameFault shape nodes values ⌝ }
+{
+    let fault = shape_fault(shape);
+    if fault.number != 0 {
+        return fault;
+    }
+    let fault = length_fault(0, total_of(shape), nodes);
+    if fault.number != 0 {
+        return fault;
+    }
+    length_fault(1, size_of(shape), values)
+}
+
+// ---- 4, 5, 6 of all axes
+
+fn least(a: usize, b: usize) -> usize
+    ensures { λ r. ⌜ r ≡ min a b ⌝ }
+{
+    if a < b { a } else { b }
+}
+
+// Where an axis of so many nodes ends that starts at a place, in so many nodes.
+fn axis_end(at: usize, count: usize, len: usize) -> usize
+    requires { ⌜ at ≤ len ⌝ }
+    ensures { λ r. ⌜ r ≡ at + min count (len - at) ⌝ }
+{
+    at + least(count, len - at)
+}
+
+pub fn axes_fault(shape: Shape, nodes: &[f64]) -> Answer
+    ensures { λ r. ⌜ r ≡ axesFault (countsOf shape) (now (nodes .entry)) ⌝ }
+{
+    let counts = shape.counts;
+    let axes = least(shape.axes, 4);
+    let mut at: usize = 0;
+    let mut a: usize = 0;
+    while a < axes {
+        let end = axis_end(at, counts[a], nodes.len());
+        let fault = judge::nodes_fault(a, &nodes[at..end]);
+        if fault.number != 0 {
+            return fault;
+        }
+        at = end;
+        a += 1;
+    }
+    answer::pass()
+}
+
+// ---- 7
+
+// Whether eight values are finite, joined without a branch.
+fn eight_finite(values: &[f64], at: usize) -> bool
+    requires { ⌜ at + 8 ≤ length (now values) ⌝ }
+    ensures { λ r. ⌜ (r ≡ true → (j : ℕ) → j < 8 → finite (getD (now (values .entry)) (at + j) nan) ≡ true) ⌝ }
+{
+    let a = binary64::is_finite(values[at]) & binary64::is_finite(values[at + 1]);
+    let b = binary64::is_finite(values[at + 2]) & binary64::is_finite(values[at + 3]);
+    let c = binary64::is_finite(values[at + 4]) & binary64::is_finite(values[at + 5]);
+    let d = binary64::is_finite(values[at + 6]) & binary64::is_finite(values[at + 7]);
+    (a & b) & (c & d)
+}
+
+fn value_fault(values: &[f64], i: usize) -> Answer
+    requires { ⌜ i < length (now values) ⌝ }
+    ensures { λ r. ⌜ r ≡ valueFault (now (values .entry)) i ⌝ }
+{
+    if binary64::is_finite(values[i]) {
+        answer::pass()
+    } else {
+        answer::refuse(7, 0, i)
+    }
+}
+
+// The first fault from a place on, value by value.
+fn values_fault_from(values: &[f64], from: usize) -> Answer
+    requires { ⌜ from ≤ length (now values) ⌝ }
+    ensures { λ r. ⌜ r ≡ firstOf (valueFault (now (values .entry))) from (length (now (values .entry)) - from) ⌝ }
+{
+    let mut i = from;
+    while i < values.len() {
+        let fault = value_fault(values, i);
+        if fault.number != 0 {
+            return fault;
+        }
+        i += 1;
+    }
+    answer::pass()
+}
+
+// Eight by eight; the place is searched for only where eight have a fault, and in the rest.
+pub fn values_fault(values: &[f64]) -> Answer
+    ensures { λ r. ⌜ r ≡ valuesFault (now (values .entry)) ⌝ }
+{
+    let n = values.len();
+    let mut i: usize = 0;
+    while n - i >= 8 {
+        if !eight_finite(values, i) {
+            return values_fault_from(values, i);
+        }
+        i += 8;
+    }
+    values_fault_from(values, i)
+}
+
+// ---- 9, 10, 11 of all axes
+
+pub fn directions_fault(directions: &[u8]) -> Answer
+    ensures { λ r. ⌜ r ≡ directionsFault (now (directions .entry)) ⌝ }
+{
+    let mut a: usize = 0;
+    while a < directions.len() {
+        let fault = judge::direction_fault(a, directions[a]);
+        if fault.number != 0 {
+            return fault;
+        }
+        a += 1;
+    }
+    answer::pass()
+}
+
+pub fn readings_fault(readings: &[f64]) -> Answer
+    ensures { λ r. ⌜ r ≡ readingsFault (now (readings .entry)) ⌝ }
+{
+    let mut a: usize = 0;
+    while a < readings.len() {
+        let fault = judge::reading_fault(a, readings[a]);
+        if fault.number != 0 {
+            return fault;
+        }
+        a += 1;
+    }
+    answer::pass()
+}
+
+// What stands at a place; past the last a NaN.
+fn at_or_nan(list: &[f64], i: usize) -> f64
+    ensures { λ r. ⌜ r ≡ getD (now (list .entry)) i nan ⌝ }
+{
+    if i < list.len() { list[i] } else { 0.0 / 0.0 }
+}
+
+fn less_one(n: usize) -> usize
+    ensures { λ r. ⌜ r ≡ n - 1 ⌝ }
+{
+    if n > 0 { n - 1 } else { 0 }
+}
+
+// 11: a reading outside its axis.
+pub fn range_fault(axis: usize, nodes: &[f64], reading: f64) -> Answer
+    ensures { λ r. ⌜ r ≡ rangeFault axis (now (nodes .entry)) reading ⌝ }
+{
+    if reading < at_or_nan(nodes, 0) {
+        return answer::refuse(11, axis, 0);
+    }
+    let last = less_one(nodes.len());
+    if at_or_nan(nodes, last) < reading {
+        answer::refuse(11, axis, 1)
+    } else {
+        answer::pass()
+    }
+}
+
+pub fn ranges_fault(shape: Shape, nodes: &[f64], readings: &[f64]) -> Answer
+    ensures { λ r. ⌜ r ≡ rangesFault (countsOf shape) (now (nodes .entry)) (now (readings .entry)) ⌝ }
+{
+    let counts = shape.counts;
+    let axes = least(shape.axes, 4);
+    let mut at: usize = 0;
+    let mut a: usize = 0;
+    while a < axes {
+        let end = axis_end(at, counts[a], nodes.len());
+        let reading = at_or_nan(readings, a);
+        let fault = range_fault(a, &nodes[at..end], reading);
+        if fault.number != 0 {
+            return fault;
+        }
+        at = end;
+        a += 1;
+    }
+    answer::pass()
+}

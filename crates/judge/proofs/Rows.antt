@@ -4,7 +4,7 @@ use mathlib.Core.Bool.{Bool, true, false, not, _&&_, _||_, cond}
 use mathlib.Core.List.{List}
 use Prim.Native.Nat.{ℕ, zero, suc, _+_, _-_, _≤_, _<_}
 use native.Mathlib.Omega.{arith}
-use borrow.Author.Tests.{lt-ltb, le-ltb, le-leb, lt-leb, leb-true}
+use borrow.Author.Tests.{lt-ltb, le-ltb, le-leb, lt-leb, leb-true, ltb-false}
 use lib.Dec.{leb, ltb}
 use lib.ListN.{length}
 use lib.Ieee.{Float, binary64, lt, sub}
@@ -235,6 +235,10 @@ module _ (axis direction : ℕ) where
   pub direction-fine : direction ≤ 1 → fine ≡ directionFault axis direction
   unfolding directionFault
   direction-fine h = orders.row-passed (ltb 1 direction) 8 axis 0 (le-ltb 1 direction h)
+
+  pub direction-passed : good (directionFault axis direction) ≡ true → direction < 2
+  unfolding directionFault
+  direction-passed h = let k : direction ≤ 1 = ltb-false 1 direction (orders.row-good (ltb 1 direction) 8 axis 0 h) in omega arith
 
 -- ---- 10
 module _ (axis : ℕ) (p : Float) where

@@ -163,7 +163,7 @@ module _ (xs : List Float) (p : Float) (ax : Axis xs) (fp : finite p ≡ true) w
     pub lower-is-last : (k : ℕ) → lowerStep xs p < k → k < length xs → lt p (node xs k) ≡ true
     lower-is-last k h m = order.lt-of-not-le p (node xs k) fp (ax .finites k m) (most .from k (omega (arith, lower-is, some)) m)
 
-    few : countBelow xs p < length xs
+    pub few : countBelow xs p < length xs
     few = go (countBelow xs p) (below-count xs p ax fp .within) (below-count xs p ax fp .before)
       where
         go : (r : ℕ) → r ≤ length xs → ((k : ℕ) → k < r → lt (node xs k) p ≡ true) → r < length xs

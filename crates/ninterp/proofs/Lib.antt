@@ -6,3 +6,5 @@ pub mod Primitives
 pub mod Laws
 pub mod Nearests
 pub mod Unique
+pub mod Picks
+pub mod Lookups

@@ -1,3 +1,4 @@
 pub mod Utils
 pub mod Calls
 pub mod Tables
+pub mod Picks

@@ -1,15 +1,63 @@
--- "The table rules": what each rule does along one axis.
+-- "The table rules", of the two that never compute a value, and what a lookup by them answers for every input.
 use mathlib.Core.Bool.{cond}
-use mathlib.Core.List.{List}
+use mathlib.Core.List.{List, []}
 use Prim.Native.Nat.{ℕ, _+_}
-use lib.Ieee.{Float, binary64, lt, sub}
+use lib.ListN.{length, getD}
+use lib.Ieee.{Float, nan, binary64, lt, sub}
+use Rattle.answer.specs.Answer.{answered, _or_}
+use Rattle.answer.specs.declared.Answer.{Answer}
 use Rattle.judge.specs.Check.{node}
-use Rattle.ninterp.specs.Utils.{lowerIndex}
+use Rattle.table.specs.Shape.{countsOf, axesOf, table, tabulate}
+use Rattle.table.specs.Table.{frameFault, lengthFault, axesFault, valuesFault, directionsFault, readingsFault, rangesFault}
+use Rattle.table.specs.declared.Shape.{Shape}
+use Rattle.ninterp.specs.Utils.{lowerIndex, stepIndex}
 
 -- "the lower node if (p - lower) is less than (upper - p) as rounded, else the upper"
 abbrev pub nearer : List Float → ℕ → Float → ℕ
 nearer nodes lower p = cond (lt (sub binary64 p (node nodes lower)) (sub binary64 (node nodes (lower + 1)) p)) lower (lower + 1)
 
--- "Nearest: per axis"
 unfoldable pub nearestIndex : List Float → Float → ℕ
 nearestIndex nodes p = nearer nodes (lowerIndex nodes p) p
+
+-- a rule gives each axis an index, from the axis's number, its nodes and its reading: the stored value there
+unfoldable pub indices : (ℕ → List Float → Float → ℕ) → List (List Float) → List Float → List ℕ
+indices rule axes readings = tabulate (length axes) (λ a. rule a (getD axes a []) (getD readings a nan))
+
+unfoldable pub picked : (ℕ → List Float → Float → ℕ) → List ℕ → List Float → List Float → List Float → Float
+picked rule counts nodes values readings = table counts values (indices rule (axesOf counts nodes) readings)
+
+-- "Nearest: per axis"
+abbrev pub nearestRule : ℕ → List Float → Float → ℕ
+nearestRule a nodes p = nearestIndex nodes p
+
+-- "Step: per axis, the step index; each axis has its own direction."
+abbrev pub stepRule : List ℕ → ℕ → List Float → Float → ℕ
+stepRule directions a nodes p = stepIndex (getD directions a 0) nodes p
+
+-- "Order for a lookup: 1, 2, 3; then each axis node by node (4, 5, 6 at each node); 7; .. 10 for all axes; 11 for all axes"
+unfoldable pub lookupFault : Shape → List Float → List Float → List Float → Answer
+lookupFault s nodes values readings =
+    frameFault s (length nodes) (length values)
+    or lengthFault 2 (s .axes) (length readings)
+    or axesFault (countsOf s) nodes
+    or valuesFault values
+    or readingsFault readings
+    or rangesFault (countsOf s) nodes readings
+
+-- ".. 3 directions", ".. 9 for Step, all axes; 10 for all axes; 11 for all axes"
+unfoldable pub stepFault : Shape → List Float → List Float → List Float → List ℕ → Answer
+stepFault s nodes values readings directions =
+    frameFault s (length nodes) (length values)
+    or lengthFault 2 (s .axes) (length readings)
+    or lengthFault 3 (s .axes) (length directions)
+    or axesFault (countsOf s) nodes
+    or valuesFault values
+    or directionsFault directions
+    or readingsFault readings
+    or rangesFault (countsOf s) nodes readings
+
+unfoldable pub nearestAnswer : Shape → List Float → List Float → List Float → Answer
+nearestAnswer s nodes values readings = lookupFault s nodes values readings or answered (picked nearestRule (countsOf s) nodes values readings)
+
+unfoldable pub stepAnswer : Shape → List Float → List Float → List Float → List ℕ → Answer
+stepAnswer s nodes values readings directions = stepFault s nodes values readings directions or answered (picked (stepRule directions) (countsOf s) nodes values readings)

@@ -1,2 +1,4 @@
 pub mod Shapes
 pub mod Tables
+pub mod Layouts
+pub mod Grids

@@ -1,6 +1,6 @@
 -- "Sizes": a shape's counts, and where nodes and values lie.
 use mathlib.Core.List.{List, [], _∷_}
-use Prim.Native.Nat.{ℕ, zero, suc, _+_, _*_, _/_, _%_}
+use Prim.Native.Nat.{ℕ, zero, suc, _+_, _*_, _/_, _%_, _<_}
 use lib.ListN.{take, drop, getD}
 use lib.Ieee.{Float, nan}
 use Rattle.table.specs.declared.Shape.{Shape}
@@ -45,3 +45,26 @@ table counts values is = getD values (place counts is) nan
 unfoldable pub indicesAt : List ℕ → ℕ → List ℕ
 indicesAt [] t = []
 indicesAt (n ∷ ns) t = (t / size ns) ∷ indicesAt ns (t % size ns)
+
+-- the list of h 0, h 1, .., one for each number below n
+abbrev pub tabulate : {A : Type 0} → ℕ → (ℕ → A) → List A
+tabulate zero h = []
+tabulate (suc n) h = h 0 ∷ tabulate n (λ k. h (suc k))
+
+-- each index lies on its axis
+abbrev pub Inside : List ℕ → List ℕ → Type 0
+Inside [] [] = Unit
+Inside [] (n ∷ ns) = ⊥
+Inside (i ∷ is) [] = ⊥
+Inside (i ∷ is) (n ∷ ns) = (i < n) × Inside is ns
+
+-- an index list with i put in at axis k, and a list without what it has at axis k
+abbrev pub insert : {A : Type 0} → ℕ → A → List A → List A
+insert zero i is = i ∷ is
+insert (suc k) i [] = i ∷ []
+insert (suc k) i (j ∷ is) = j ∷ insert k i is
+
+abbrev pub without : {A : Type 0} → ℕ → List A → List A
+without k [] = []
+without zero (x ∷ xs) = xs
+without (suc k) (x ∷ xs) = x ∷ without k xs

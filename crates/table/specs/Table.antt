@@ -1,14 +1,15 @@
 -- "Numbers the technician sees": the rows that judge a table and a list of readings.
+use mathlib.Core.Path.{_≡_}
 use mathlib.Core.Bool.{Bool, true, false, not, _&&_, _||_}
 use mathlib.Core.List.{List, []}
-use Prim.Native.Nat.{ℕ, _-_}
+use Prim.Native.Nat.{ℕ, _-_, _≤_, _<_}
 use lib.Dec.{leb, ltb, eqb}
 use lib.ListN.{length, getD}
 use lib.Ieee.{Float, nan, lt}
 use lib.Ieee.Scale.{finite}
 use Rattle.answer.specs.Answer.{refused, when, _or_, firstOf}
 use Rattle.answer.specs.declared.Answer.{Answer}
-use Rattle.judge.specs.Check.{node, countFault, nodesFault, directionFault, readingFault}
+use Rattle.judge.specs.Check.{node, countFault, nodesFault, directionFault, readingFault, Axis}
 use Rattle.table.specs.Shape.{countsOf, size, total, axesOf}
 use Rattle.table.specs.declared.Shape.{Shape}
 
@@ -55,3 +56,10 @@ rangeFault axis nodes p =
 -- "11 for all axes"
 unfoldable pub rangesFault : List ℕ → List Float → List Float → Answer
 rangesFault counts nodes readings = firstOf (λ a. rangeFault a (getD (axesOf counts nodes) a []) (getD readings a nan)) 0 (length counts)
+
+-- what counts and nodes are that pass 1 to 6
+pub record Grid (counts : List ℕ) (nodes : List Float) : Type 0 where
+  pub few : length counts ≤ 4
+  pub flat : length nodes ≡ total counts
+  pub small : size counts ≤ 4096
+  pub axes : (a : ℕ) → a < length counts → Axis (getD (axesOf counts nodes) a [])

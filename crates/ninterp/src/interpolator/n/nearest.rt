@@ -3,8 +3,12 @@ ghost use mathlib.Core.Path.{_≡_};
 ghost use mathlib.Core.Bool.{true};
 ghost use lib.Ieee.Scale.{finite};
 ghost use Rattle.judge.specs.Check.{Axis};
-ghost use Rattle.ninterp.specs.Tables.{nearestIndex};
+ghost use Rattle.ninterp.specs.Tables.{nearestIndex, nearestAnswer};
+use crate::interpolator::n::check;
+use crate::interpolator::n::pick;
 use crate::strategy::utils;
+use answer::Answer;
+use table::Shape;
 
 // The node of one axis: the lower one where the reading is less far from it, as rounded, else the upper.
 pub(crate) fn nearest_index(grid: &[f64], point: f64) -> usize
@@ -17,4 +21,16 @@ pub(crate) fn nearest_index(grid: &[f64], point: f64) -> usize
     } else {
         lower + 1
     }
+}
+
+pub fn interpolate(shape: Shape, nodes: &[f64], values: &[f64], point: &[f64]) -> Answer
+    ensures { λ r. ⌜ r ≡ nearestAnswer shape (now (nodes .entry)) (now (values .entry)) (now (point .entry)) ⌝ }
+{
+    let fault = check::lookup_fault(shape, nodes, values, point);
+    if fault.number != 0 {
+        return fault;
+    }
+    let picks = [2u8; 4];
+    let at = pick::pick_place(shape, nodes, &picks, point);
+    answer::succeed(values[at])
 }

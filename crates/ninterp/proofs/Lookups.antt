@@ -1,0 +1,143 @@
+-- What is known of a table and a reading that were judged for a lookup by Nearest or Step, and the value that is then answered. Assumes nothing.
+use mathlib.Core.Path.{_≡_, refl, sym, ap, _∙_, subst}
+use mathlib.Core.Bool.{true}
+use mathlib.Core.List.{List, []}
+use Prim.Native.Nat.{ℕ, zero, suc, _+_, _-_, _≤_, _<_}
+use native.Mathlib.Omega.{arith}
+use borrow.Author.Tests.{lt-ltb, le-ltb, ltb-false}
+use lib.Dec.{ltb}
+use lib.ListN.{length, getD}
+use lib.Ieee.{Float, nan}
+use lib.Ieee.Scale.{finite}
+use Rattle.answer.specs.Answer.{good, answered, _or_, firstOf}
+use Rattle.answer.specs.declared.Answer.{Answer}
+use Rattle.answer.proofs.Orders as orders
+use Rattle.judge.specs.Check.{directionFault}
+use Rattle.judge.proofs.Rows.{direction-passed}
+use Rattle.table.specs.Shape.{countsOf, size, axesOf, place, table, tabulate}
+use Rattle.table.specs.Table.{frameFault, lengthFault, axesFault, valuesFault, directionsFault, readingsFault, rangesFault, Grid}
+use Rattle.table.specs.declared.Shape.{Shape}
+use Rattle.table.proofs.Shapes.{length-axes}
+use Rattle.table.proofs.Tables.{shape-four, length-passed}
+use Rattle.table.proofs.Layouts.{tabulate-same}
+use Rattle.table.proofs.Grids.{frame-shape, frame-values, frame-axes, grid-of, readings-finite}
+use Rattle.ninterp.specs.Utils.{stepIndex}
+use Rattle.ninterp.specs.Tables.{nearestIndex, indices, picked, nearestRule, stepRule, lookupFault, stepFault}
+use Rattle.ninterp.specs.Picks.{pickIndex, pickRule}
+
+-- ---- a judged table and reading
+pub record Judged (s : Shape) (nodes values readings : List Float) : Type 0 where
+  pub grid : Grid (countsOf s) nodes
+  pub four : s .axes ≤ 4
+  pub count : length (countsOf s) ≡ s .axes
+  pub stored : length values ≡ size (countsOf s)
+  pub read : length readings ≡ s .axes
+  pub finites : (a : ℕ) → a < s .axes → finite (getD readings a nan) ≡ true
+  pub inside : good (rangesFault (countsOf s) nodes readings) ≡ true
+
+module _ (s : Shape) (four : length (s .counts) ≡ 4) (nodes values readings : List Float) where
+  abbrev frame : Answer
+  frame = frameFault s (length nodes) (length values)
+
+  abbrev reading : Answer
+  reading = lengthFault 2 (s .axes) (length readings)
+
+  abbrev nodes-part : Answer
+  nodes-part = axesFault (countsOf s) nodes
+
+  abbrev point-part : Answer
+  point-part = readingsFault readings or rangesFault (countsOf s) nodes readings
+
+  judged : good frame ≡ true → good reading ≡ true → good nodes-part ≡ true → good point-part ≡ true → Judged s nodes values readings
+  judged f r x p =
+      let n : length readings ≡ s .axes = length-passed 2 (s .axes) (length readings) r in
+      record {
+        grid = grid-of s four nodes values f x;
+        four = shape-four s (frame-shape s four nodes values f);
+        count = frame-axes s four nodes values f;
+        stored = frame-values s four nodes values f;
+        read = n;
+        finites = λ a l. readings-finite readings (orders.first-passed (readingsFault readings) (rangesFault (countsOf s) nodes readings) p) a (omega arith);
+        inside = orders.second-passed (readingsFault readings) (rangesFault (countsOf s) nodes readings) p;
+      }
+
+  pub lookup-judged : good (lookupFault s nodes values readings) ≡ true → Judged s nodes values readings
+  unfolding lookupFault
+  lookup-judged h = judged (orders.first-passed frame (reading or after-reading) h) (orders.first-passed reading after-reading h1) (orders.first-passed nodes-part (valuesFault values or point-part) h2) (orders.second-passed (valuesFault values) point-part (orders.second-passed nodes-part (valuesFault values or point-part) h2))
+    where
+      after-reading : Answer
+      after-reading = nodes-part or valuesFault values or point-part
+
+      h1 : good (reading or after-reading) ≡ true
+      h1 = orders.second-passed frame (reading or after-reading) h
+
+      h2 : good (nodes-part or valuesFault values or point-part) ≡ true
+      h2 = orders.second-passed reading after-reading h1
+
+  module _ (directions : List ℕ) (h : good (stepFault s nodes values readings directions) ≡ true) where
+    abbrev lent : Answer
+    lent = lengthFault 3 (s .axes) (length directions)
+
+    abbrev tail : Answer
+    tail = directionsFault directions or point-part
+
+    abbrev after-lent : Answer
+    after-lent = nodes-part or valuesFault values or tail
+
+    h1 : good (reading or lent or after-lent) ≡ true
+    unfolding stepFault
+    h1 = orders.second-passed frame (reading or lent or after-lent) h
+
+    h2 : good (lent or after-lent) ≡ true
+    h2 = orders.second-passed reading (lent or after-lent) h1
+
+    h3 : good after-lent ≡ true
+    h3 = orders.second-passed lent after-lent h2
+
+    h4 : good tail ≡ true
+    h4 = orders.second-passed (valuesFault values) tail (orders.second-passed nodes-part (valuesFault values or tail) h3)
+
+    pub step-judged : Judged s nodes values readings
+    unfolding stepFault
+    step-judged =
+        judged (orders.first-passed frame (reading or lent or after-lent) h) (orders.first-passed reading (lent or after-lent) h1) (orders.first-passed nodes-part (valuesFault values or tail) h3)
+        (orders.second-passed (directionsFault directions) point-part h4)
+
+    pub step-lent : length directions ≡ s .axes
+    step-lent = length-passed 3 (s .axes) (length directions) (orders.first-passed lent after-lent h2)
+
+    pub step-directions : (a : ℕ) → a < s .axes → getD directions a 0 < 2
+    unfolding directionsFault
+    step-directions a l =
+        direction-passed a (getD directions a 0)
+        (orders.all-passed (λ b. directionFault b (getD directions b 0)) 0 (length directions) (orders.first-passed (directionsFault directions) point-part h4) a (omega arith) (omega (arith, step-lent)))
+
+-- ---- a pick is a rule's index
+is-step : (pick : ℕ) (xs : List Float) (p : Float) → pick < 2 → pickIndex pick xs p ≡ stepIndex pick xs p
+unfolding pickIndex
+is-step pick xs p h = simp (lt-ltb pick 2 h)
+
+is-nearest : (pick : ℕ) (xs : List Float) (p : Float) → 2 ≤ pick → pickIndex pick xs p ≡ nearestIndex xs p
+unfolding pickIndex
+is-nearest pick xs p h = simp (le-ltb pick 2 h)
+
+module _ (picks : List ℕ) (counts : List ℕ) (nodes readings : List Float) where
+  pub picks-nearest : ((a : ℕ) → a < length counts → 2 ≤ getD picks a 0) → indices (pickRule picks) (axesOf counts nodes) readings ≡ indices nearestRule (axesOf counts nodes) readings
+  unfolding indices
+  picks-nearest h =
+      tabulate-same (length (axesOf counts nodes)) (λ a. pickRule picks a (getD (axesOf counts nodes) a []) (getD readings a nan)) (λ a. nearestRule a (getD (axesOf counts nodes) a []) (getD readings a nan))
+      (λ a l. is-nearest (getD picks a 0) (getD (axesOf counts nodes) a []) (getD readings a nan) (h a (omega (arith, length-axes counts nodes))))
+
+  pub picks-step : ((a : ℕ) → a < length counts → getD picks a 0 < 2) → indices (pickRule picks) (axesOf counts nodes) readings ≡ indices (stepRule picks) (axesOf counts nodes) readings
+  unfolding indices
+  picks-step h =
+      tabulate-same (length (axesOf counts nodes)) (λ a. pickRule picks a (getD (axesOf counts nodes) a []) (getD readings a nan)) (λ a. stepRule picks a (getD (axesOf counts nodes) a []) (getD readings a nan))
+      (λ a l. is-step (getD picks a 0) (getD (axesOf counts nodes) a []) (getD readings a nan) (h a (omega (arith, length-axes counts nodes))))
+
+-- ---- the stored value there
+pub stored-at : (rule : ℕ → List Float → Float → ℕ) (picks : List ℕ) (counts : List ℕ) (nodes values readings : List Float) (at : ℕ)
+    → at ≡ place counts (indices (pickRule picks) (axesOf counts nodes) readings)
+    → indices (pickRule picks) (axesOf counts nodes) readings ≡ indices rule (axesOf counts nodes) readings
+    → getD values at nan ≡ picked rule counts nodes values readings
+unfolding picked table
+stored-at rule picks counts nodes values readings at e q = ap (λ (k : ℕ). getD values k nan) (e ∙ ap (place counts) q)

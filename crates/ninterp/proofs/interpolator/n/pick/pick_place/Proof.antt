@@ -1,0 +1,140 @@
+use mathlib.Core.Path.{_≡_, refl, sym, ap, _∙_, subst}
+use Prim.Native.Nat.{ℕ, _+_, _-_, _*_, _≤_, _<_}
+use native.Mathlib.Omega.{arith}
+use lib.ListN.{length, take, drop, getD}
+use denote.Ref.{now}
+use borrow.Author.Needs.{needs}
+use mathlib.Core.List.{List, []}
+use native.Mathlib.Nat.{lt-of-le-of-lt}
+use lib.Dec.{lit<}
+use Rattle.table.specs.Shape.{size, axesOf, place}
+use Rattle.table.proofs.Shapes.{length-ids, Walk}
+use Rattle.table.proofs.Layouts.{place-start}
+use Rattle.ninterp.specs.Tables.{indices}
+use Rattle.ninterp.specs.Picks.{pickRule}
+use Rattle.ninterp.proofs.Picks.{axis-within, axis-good, axis-next, flat-next, flat-fits, flat-done}
+use Rattle.ninterp.proofs.interpolator.n.pick.pick_place.Statement.{statement}
+use Rattle.ninterp.proofs.interpolator.n.pick.pick_place.Tie as tie
+
+abbrev Inv-loop : tie.InvT-loop
+Inv-loop nodes picks point counts axes flat₀ at₀ a₀ flat at a = ((a ≤ axes) × (at ≤ length nodes)) × (Walk (take axes counts) nodes a at × (flat * size (drop a (take axes counts)) + place (drop a (take axes counts)) (drop a (indices (pickRule picks) (axesOf (take axes counts) nodes) point)) ≡ place (take axes counts) (indices (pickRule picks) (axesOf (take axes counts) nodes) point)))
+
+abbrev μ-loop : tie.MeasureT-loop
+μ-loop nodes picks point counts axes flat₀ at₀ a₀ flat at a = axes - a
+
+abbrev C : tie.Start Inv-loop μ-loop → List ℕ
+C s = s .args .shape .counts
+
+four : (s : tie.Start Inv-loop μ-loop) → length (C s) ≡ 4
+four s = length-ids (C s) (s .good .0 .1 .1 .1 .0 .1 .0 .1)
+
+-- the axes are as many as the counts that are looked at
+long : (s : tie.Start Inv-loop μ-loop) → s .args .shape .axes ≤ length (C s)
+long s = omega (arith, four s, s .pre .1 .0)
+
+loop-holds : tie.Need-loop-holds Inv-loop μ-loop
+loop-holds c = (search needs, (refl, place-start _ _))
+
+mul-count : tie.Need-mul-count Inv-loop μ-loop
+mul-count c =
+    let l = c .before in
+    let s = l .before .before .before .before .before in
+    omega (arith, four s, long s)
+
+array-read-count : tie.Need-array-read-count Inv-loop μ-loop
+array-read-count c =
+    let l = c .before in
+    let s = l .before .before .before .before .before in
+    omega (arith, four s, long s)
+
+add-end : tie.Need-add-end Inv-loop μ-loop
+add-end c =
+    let l = c .before in
+    let s = l .before .before .before .before .before in
+    omega (arith, axis-within (C s) (s .args .shape .axes) (now (s .args .nodes)) (now (s .args .picks)) (now (s .args .point)) (s .pre .0) (long s) (s .pre .1 .1 .1 .1) (l .loop .a) (l .loop .at) (c .loop-test .taken) (l .loop .inv .1 .0))
+
+shared-slice-read-pick-index : tie.Need-shared-slice-read-pick-index Inv-loop μ-loop
+shared-slice-read-pick-index c = search needs
+
+mul-pick-index : tie.Need-mul-pick-index Inv-loop μ-loop
+mul-pick-index c = search needs
+
+sub-pick-index : tie.Need-sub-pick-index Inv-loop μ-loop
+sub-pick-index c = search needs
+
+part-pick-index-start : tie.Need-part-pick-index-start Inv-loop μ-loop
+part-pick-index-start c = search needs
+
+part-pick-index-end : tie.Need-part-pick-index-end Inv-loop μ-loop
+part-pick-index-end c =
+    let l = c .before .before in
+    let s = l .before .before .before .before .before in
+    omega (arith, axis-within (C s) (s .args .shape .axes) (now (s .args .nodes)) (now (s .args .picks)) (now (s .args .point)) (s .pre .0) (long s) (s .pre .1 .1 .1 .1) (l .loop .a) (l .loop .at) (c .before .loop-test .taken) (l .loop .inv .1 .0))
+
+mul-pick-index-2 : tie.Need-mul-pick-index-2 Inv-loop μ-loop
+mul-pick-index-2 c = search needs
+
+shared-slice-read-pick-index-2 : tie.Need-shared-slice-read-pick-index-2 Inv-loop μ-loop
+shared-slice-read-pick-index-2 c = search needs
+
+pick-index-requires : tie.Need-pick-index-requires Inv-loop μ-loop
+pick-index-requires c κs =
+    let l = c .before .before .before .before in
+    let s = l .before .before .before .before .before in
+    (axis-good (C s) (s .args .shape .axes) (now (s .args .nodes)) (now (s .args .picks)) (now (s .args .point)) (s .pre .0) (long s) (s .pre .1 .1 .1 .1) (l .loop .a) (l .loop .at) (c .before .before .before .loop-test .taken) (l .loop .inv .1 .0), s .pre .1 .1 .1 .1 (l .loop .a) (c .before .before .before .loop-test .taken))
+
+mul-flat : tie.Need-mul-flat Inv-loop μ-loop
+mul-flat c =
+    let l = c .before .before .before .before .before in
+    let s = l .before .before .before .before .before in
+    omega (arith, flat-fits (C s) (s .args .shape .axes) (now (s .args .nodes)) (now (s .args .picks)) (now (s .args .point)) (s .pre .0) (long s) (s .pre .1 .1 .1 .1) (l .loop .a) (l .loop .at) (c .before .before .before .before .loop-test .taken) (l .loop .inv .1 .0) (c .pick-index .result) (c .pick-index .ensures .0) (l .loop .flat) (l .loop .inv .1 .1))
+
+add-flat : tie.Need-add-flat Inv-loop μ-loop
+add-flat c =
+    let l = c .before .before .before .before .before in
+    let s = l .before .before .before .before .before in
+    omega (arith, flat-fits (C s) (s .args .shape .axes) (now (s .args .nodes)) (now (s .args .picks)) (now (s .args .point)) (s .pre .0) (long s) (s .pre .1 .1 .1 .1) (l .loop .a) (l .loop .at) (c .before .before .before .before .loop-test .taken) (l .loop .inv .1 .0) (c .pick-index .result) (c .pick-index .ensures .0) (l .loop .flat) (l .loop .inv .1 .1))
+
+add-a : tie.Need-add-a Inv-loop μ-loop
+add-a c = search needs
+
+loop-less : tie.Need-loop-less Inv-loop μ-loop
+loop-less c = search needs
+
+loop-again : tie.Need-loop-again Inv-loop μ-loop
+loop-again c =
+    let l = c .before .before .before .before .before in
+    let s = l .before .before .before .before .before in
+    let t = c .before .before .before .before .loop-test .taken in
+    (omega (arith, axis-within (C s) (s .args .shape .axes) (now (s .args .nodes)) (now (s .args .picks)) (now (s .args .point)) (s .pre .0) (long s) (s .pre .1 .1 .1 .1) (l .loop .a) (l .loop .at) t (l .loop .inv .1 .0)), (axis-next (C s) (s .args .shape .axes) (now (s .args .nodes)) (now (s .args .picks)) (now (s .args .point)) (s .pre .0) (long s) (s .pre .1 .1 .1 .1) (l .loop .a) (l .loop .at) t (l .loop .inv .1 .0), flat-next (C s) (s .args .shape .axes) (now (s .args .nodes)) (now (s .args .picks)) (now (s .args .point)) (s .pre .0) (long s) (s .pre .1 .1 .1 .1) (l .loop .a) (l .loop .at) t (l .loop .inv .1 .0) (c .pick-index .result) (c .pick-index .ensures .0) (l .loop .flat) (l .loop .inv .1 .1)))
+
+returns : tie.Need-returns Inv-loop μ-loop
+returns c =
+    let l = c .before in
+    let s = l .before .before .before .before .before in
+    flat-done (C s) (s .args .shape .axes) (now (s .args .nodes)) (now (s .args .picks)) (now (s .args .point)) (s .pre .0) (long s) (s .pre .1 .1 .1 .1) (l .loop .a) (l .loop .flat) (c .loop-test .left) (l .loop .inv .1 .1)
+
+pub pick-place-spec : {M : Type 1} → statement M
+pick-place-spec =
+    tie.close
+    (tie.spec
+    Inv-loop
+    μ-loop
+    loop-holds
+    mul-count
+    array-read-count
+    add-end
+    shared-slice-read-pick-index
+    mul-pick-index
+    sub-pick-index
+    part-pick-index-start
+    part-pick-index-end
+    mul-pick-index-2
+    shared-slice-read-pick-index-2
+    pick-index-requires
+    mul-flat
+    add-flat
+    add-a
+    loop-less
+    loop-again
+    returns)

@@ -1,0 +1,48 @@
+// What Step and Nearest share: one index for each axis, and one stored value. A pick of 0 is Lower, of 1 Upper, of 2 Nearest.
+ghost use mathlib.Core.Path.{_≡_};
+ghost use mathlib.Core.Bool.{true};
+ghost use Prim.Native.Nat.{ℕ, _<_, _≤_};
+ghost use lib.ListN.{length, getD};
+ghost use lib.Ieee.{nan};
+ghost use lib.Ieee.Scale.{finite};
+ghost use Rattle.judge.specs.Check.{Axis};
+ghost use Rattle.table.specs.Shape.{countsOf, size, axesOf, place};
+ghost use Rattle.table.specs.Table.{Grid};
+ghost use Rattle.ninterp.specs.Tables.{indices};
+ghost use Rattle.ninterp.specs.Picks.{pickIndex, pickRule};
+use crate::interpolator::n::nearest;
+use crate::strategy::utils;
+use table::Shape;
+
+// The index on one axis.
+pub(crate) fn pick_index(pick: u8, grid: &[f64], point: f64) -> usize
+    requires { ⌜ Axis (now grid) × (finite point ≡ true) ⌝ }
+    ensures { λ r. ⌜ (r ≡ pickIndex pick (now (grid .entry)) point) × (r < length (now (grid .entry))) ⌝ }
+{
+    if pick < 2 {
+        utils::step_index(pick, grid, point)
+    } else {
+        nearest::nearest_index(grid, point)
+    }
+}
+
+// The flat place of the index list.
+pub(crate) fn pick_place(shape: Shape, nodes: &[f64], picks: &[u8], point: &[f64]) -> usize
+    requires { ⌜ Grid (countsOf shape) (now nodes) × ((shape .axes ≤ 4) × ((shape .axes ≤ length (now picks)) × ((shape .axes ≤ length (now point)) × ((a : ℕ) → a < shape .axes → finite (getD (now point) a nan) ≡ true)))) ⌝ }
+    ensures { λ r. ⌜ (r ≡ place (countsOf shape) (indices (pickRule (now (picks .entry))) (axesOf (countsOf shape) (now (nodes .entry))) (now (point .entry)))) × (r < size (countsOf shape)) ⌝ }
+{
+    let counts = shape.counts;
+    let axes = shape.axes;
+    let mut flat: usize = 0;
+    let mut at: usize = 0;
+    let mut a: usize = 0;
+    while a < axes {
+        let count = counts[a];
+        let end = at + count;
+        let i = pick_index(picks[a], &nodes[at..end], point[a]);
+        flat = flat * count + i;
+        at = end;
+        a += 1;
+    }
+    flat
+}

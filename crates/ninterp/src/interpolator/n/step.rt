@@ -1,0 +1,24 @@
+// Step: one stored value, at the step index of each axis.
+ghost use mathlib.Core.Path.{_≡_};
+ghost use Rattle.ninterp.specs.Tables.{stepAnswer};
+use crate::interpolator::n::check;
+use crate::interpolator::n::pick;
+use answer::Answer;
+use table::Shape;
+
+pub fn interpolate(
+    shape: Shape,
+    nodes: &[f64],
+    values: &[f64],
+    point: &[f64],
+    directions: &[u8],
+) -> Answer
+    ensures { λ r. ⌜ r ≡ stepAnswer shape (now (nodes .entry)) (now (values .entry)) (now (point .entry)) (now (directions .entry)) ⌝ }
+{
+    let fault = check::step_fault(shape, nodes, values, point, directions);
+    if fault.number != 0 {
+        return fault;
+    }
+    let at = pick::pick_place(shape, nodes, directions, point);
+    answer::succeed(values[at])
+}

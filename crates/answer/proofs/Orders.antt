@@ -85,6 +85,12 @@ module _ (a b : Answer) where
   pub second-passed : good (a or b) ≡ true → good b ≡ true
   second-passed h = sym (ap good (or-good (first-passed h))) ∙ h
 
+pub both-passed : (a b : Answer) → good a ≡ true → good b ≡ true → good (a or b) ≡ true
+both-passed a b p q = ap good (or-good a b p) ∙ q
+
+pub passed-fine : (a : Answer) → fine ≡ a → good a ≡ true
+passed-fine a e = sym (ap good e) ∙ good-fine
+
 pub or-fine : (b : Answer) → (fine or b) ≡ b
 or-fine b = or-good fine b good-fine
 

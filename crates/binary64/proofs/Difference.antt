@@ -280,3 +280,20 @@ sub-not-below x y fx fy l = go (order.lt-or-eq-of-le y x fy fx l)
     go : (lt y x ≡ true) ⊎ (eq y x ≡ true) → le (naught false) (sub binary64 x y) ≡ true
     go (inl h) = rw (sub-is binary64 x y fx fy h) (round-not-below (right y x - left y x) (den x * den y) (mul-pos (den-pos x) (den-pos y)))
     go (inr h) = le-zeros (naught false) (sub binary64 x y) (inl refl) (sub-level x y fx fy (order.eq-sym y x fy fx h))
+
+-- ---- a zero of either sign beside a number above zero
+pub zero-below : (a b : Float) → Zero a → lt (naught false) b ≡ true → lt a b ≡ true
+unfolding lt
+zero-below a b (inl p) h = rw p h
+zero-below a nan (inr p) h = clash (sym h)
+zero-below a (inf t) (inr p) h = rw p h
+zero-below a (fin t n d) (inr p) h = rw p (order.lt-of-le-of-lt (naught true) (naught false) (fin t n d) refl refl refl (le-zeros (naught true) (naught false) (inr refl) (inl refl)) h)
+
+pub not-below-zero : (a b : Float) → Zero a → lt (naught false) b ≡ true → lt b a ≡ false
+unfolding lt
+not-below-zero a nan z h = clash (sym h)
+not-below-zero a (inf true) z h = clash (sym h)
+not-below-zero a (inf false) (inl p) h = rw p
+not-below-zero a (inf false) (inr p) h = rw p
+not-below-zero a (fin t n d) (inl p) h = rw p (order.lt-asym (naught false) (fin t n d) refl refl h)
+not-below-zero a (fin t n d) (inr p) h = rw p (order.lt-asym (naught true) (fin t n d) refl refl (zero-below (naught true) (fin t n d) (inr refl) h))

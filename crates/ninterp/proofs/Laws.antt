@@ -102,7 +102,7 @@ module _ (xs : List Float) (p : Float) (ax : Axis xs) (fp : finite p ≡ true) w
     below-node : Below xs p i
     below-node = record { within = omega arith; before = before-node; from = λ k h m. order.not-lt-of-le (node xs k) p (ax .finites k m) fp (from-node k h m) }
 
-    at-lower : l ≡ min (i - 1) (length xs - 2)
+    pub at-lower : l ≡ min (i - 1) (length xs - 2)
     at-lower = lower-at xs p ax fp i below-node
 
     pub node-found : exactNode xs l p ≡ Some i

@@ -8,3 +8,4 @@ pub mod Nearests
 pub mod Unique
 pub mod Picks
 pub mod Lookups
+pub mod Demands

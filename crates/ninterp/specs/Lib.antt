@@ -2,3 +2,4 @@ pub mod Utils
 pub mod Calls
 pub mod Tables
 pub mod Picks
+pub mod Rust

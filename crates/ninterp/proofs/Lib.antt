@@ -9,3 +9,5 @@ pub mod Unique
 pub mod Picks
 pub mod Lookups
 pub mod Demands
+pub mod Slices
+pub mod Sliced

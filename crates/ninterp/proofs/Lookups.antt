@@ -113,11 +113,11 @@ module _ (s : Shape) (four : length (s .counts) ≡ 4) (nodes values readings : 
         (orders.all-passed (λ b. directionFault b (getD directions b 0)) 0 (length directions) (orders.first-passed (directionsFault directions) point-part h4) a (omega arith) (omega (arith, step-lent)))
 
 -- ---- a pick is a rule's index
-is-step : (pick : ℕ) (xs : List Float) (p : Float) → pick < 2 → pickIndex pick xs p ≡ stepIndex pick xs p
+pub is-step : (pick : ℕ) (xs : List Float) (p : Float) → pick < 2 → pickIndex pick xs p ≡ stepIndex pick xs p
 unfolding pickIndex
 is-step pick xs p h = simp (lt-ltb pick 2 h)
 
-is-nearest : (pick : ℕ) (xs : List Float) (p : Float) → 2 ≤ pick → pickIndex pick xs p ≡ nearestIndex xs p
+pub is-nearest : (pick : ℕ) (xs : List Float) (p : Float) → 2 ≤ pick → pickIndex pick xs p ≡ nearestIndex xs p
 unfolding pickIndex
 is-nearest pick xs p h = simp (le-ltb pick 2 h)
 

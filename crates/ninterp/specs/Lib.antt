@@ -3,3 +3,4 @@ pub mod Calls
 pub mod Tables
 pub mod Picks
 pub mod Rust
+pub mod Slices

@@ -72,15 +72,15 @@ pub horner-bound : (x r p full : ℕ) → x * r + p ≡ full → 0 < r → x ≤
 horner-bound x r p full e h = omega (arith, mul-le-mul-right x h, one-mul x, mul-comm x r)
 
 -- ---- the index list at a flat place
-radix-div : (j r o : ℕ) → o < r → (j * r + o) / r ≡ j
+pub radix-div : (j r o : ℕ) → o < r → (j * r + o) / r ≡ j
 radix-div j r o l =
     let p : 0 < r = omega arith in
     omega (arith, mul-add-div-right {m = r} p j o, div-eq-of-lt l)
 
-radix-mod : (j r o : ℕ) → o < r → (j * r + o) % r ≡ o
+pub radix-mod : (j r o : ℕ) → o < r → (j * r + o) % r ≡ o
 radix-mod j r o l = mul-add-mod-self-right j r o ∙ mod-eq-of-lt l
 
-size-tail : (n r o : ℕ) → o < n * r → 0 < r
+pub size-tail : (n r o : ℕ) → o < n * r → 0 < r
 size-tail n zero o l = absurd (omega (arith, mul-zero n))
 size-tail n (suc r) o l = omega arith
 

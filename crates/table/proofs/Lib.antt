@@ -2,3 +2,4 @@ pub mod Shapes
 pub mod Tables
 pub mod Layouts
 pub mod Grids
+pub mod Removals

@@ -68,3 +68,7 @@ abbrev pub without : {A : Type 0} → ℕ → List A → List A
 without k [] = []
 without zero (x ∷ xs) = xs
 without (suc k) (x ∷ xs) = x ∷ without k xs
+
+-- "A slice removes one axis": at node i of axis k, the value at each index list of the other axes is the table's at that list with i put in
+unfoldable pub sliceValues : ℕ → ℕ → List ℕ → List Float → List Float
+sliceValues k i counts values = tabulate (size (without k counts)) (λ t. table counts values (insert k i (indicesAt (without k counts) t)))

@@ -1,5 +1,5 @@
 // Lookups in tables of any number of axes.
 mod check;
 pub mod nearest;
-mod pick;
+pub(crate) mod pick;
 pub mod step;

@@ -1,0 +1,66 @@
+use mathlib.Core.Path.{_≡_, refl, sym, ap, _∙_}
+use Rattle.answer.proofs.Orders.{or-stops, or-goes-on}
+use Rattle.ninterp.specs.Slices.{nearestFront}
+use borrow.Author.Needs.{needs}
+use Rattle.ninterp.proofs.slice.nearest_front.Statement.{statement}
+use Rattle.ninterp.proofs.slice.nearest_front.Tie as tie
+
+frame-fault-requires : tie.Need-frame-fault-requires
+frame-fault-requires c κs = search needs
+
+returns : tie.Need-returns
+unfolding nearestFront
+returns c =
+    let f0 = c .before .before in
+    or-stops _ _ (f0 .frame-fault .ensures) _ (c .if1 .taken)
+
+no-axis-fault-requires : tie.Need-no-axis-fault-requires
+no-axis-fault-requires c κs = search needs
+
+returns-2 : tie.Need-returns-2
+unfolding nearestFront
+returns-2 c =
+    let f1 = c .before .before in
+    let e0 = f1 .before in
+    let f0 = e0 .before .before in
+    or-goes-on _ _ (f0 .frame-fault .ensures) _ _ (e0 .if1 .left) (or-stops _ _ (f1 .no-axis-fault .ensures) _ (c .if2 .taken))
+
+axes-fault-requires : tie.Need-axes-fault-requires
+axes-fault-requires c κs = search needs
+
+returns-3 : tie.Need-returns-3
+unfolding nearestFront
+returns-3 c =
+    let f2 = c .before .before in
+    let e1 = f2 .before in
+    let f1 = e1 .before .before in
+    let e0 = f1 .before in
+    let f0 = e0 .before .before in
+    or-goes-on _ _ (f0 .frame-fault .ensures) _ _ (e0 .if1 .left) (or-goes-on _ _ (f1 .no-axis-fault .ensures) _ _ (e1 .if2 .left) (or-stops _ _ (f2 .axes-fault .ensures) _ (c .if3 .taken)))
+
+values-fault-requires : tie.Need-values-fault-requires
+values-fault-requires c κs = search needs
+
+returns-4 : tie.Need-returns-4
+unfolding nearestFront
+returns-4 c =
+    let e2 = c .before in
+    let f2 = e2 .before .before in
+    let e1 = f2 .before in
+    let f1 = e1 .before .before in
+    let e0 = f1 .before in
+    let f0 = e0 .before .before in
+    or-goes-on _ _ (f0 .frame-fault .ensures) _ _ (e0 .if1 .left) (or-goes-on _ _ (f1 .no-axis-fault .ensures) _ _ (e1 .if2 .left) (or-goes-on _ _ (f2 .axes-fault .ensures) _ _ (e2 .if3 .left) (c .values-fault .ensures)))
+
+pub nearest-front-spec : {M : Type 1} → statement M
+nearest-front-spec =
+    tie.close
+    (tie.spec
+    frame-fault-requires
+    returns
+    no-axis-fault-requires
+    returns-2
+    axes-fault-requires
+    returns-3
+    values-fault-requires
+    returns-4)

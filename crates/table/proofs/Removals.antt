@@ -1,0 +1,175 @@
+-- Index lists with one axis put in or left out: where a slice's values lie, the slice law, and that two slices commute. Assumes nothing.
+use mathlib.Core.Path.{_≡_, refl, sym, ap, ap₂, _∙_, subst}
+use mathlib.Core.List.{List, [], _∷_}
+use Prim.Native.Nat.{ℕ, zero, suc, _+_, _-_, _*_, _/_, _%_, _≤_, _<_}
+use native.Mathlib.Nat.{div-add-mod', div-lt-iff-lt-mul, mod-lt, mul-assoc, mul-comm, one-mul, zero-mul}
+use native.Mathlib.Omega.{arith}
+use lib.ListN.{length, take, drop, getD}
+use lib.Ieee.{Float, nan}
+use Rattle.table.specs.Shape.{size, place, table, indicesAt, tabulate, Inside, insert, without, sliceValues}
+use Rattle.table.proofs.Layouts.{radix, radix-div, radix-mod, size-tail, size-cons, size-nil, place-cons, place-below, indices-place, table-ext, getD-tabulate, length-tabulate}
+
+-- ---- sizes beside an axis
+pub size-split : (k : ℕ) (ns : List ℕ) → k < length ns → size ns ≡ size (take k ns) * (getD ns k 0 * size (drop (suc k) ns))
+unfolding size
+size-split k [] h = absurd (omega arith)
+size-split zero (n ∷ ns) h = sym (one-mul (n * size ns))
+size-split (suc k) (n ∷ ns) h = ap (λ (x : ℕ). n * x) (size-split k ns (omega arith)) ∙ sym (mul-assoc n (size (take k ns)) (getD ns k 0 * size (drop (suc k) ns)))
+
+pub size-without : (k : ℕ) (ns : List ℕ) → k < length ns → size (without k ns) ≡ size (take k ns) * size (drop (suc k) ns)
+unfolding size
+size-without k [] h = absurd (omega arith)
+size-without zero (n ∷ ns) h = sym (one-mul (size ns))
+size-without (suc k) (n ∷ ns) h = ap (λ (x : ℕ). n * x) (size-without k ns (omega arith)) ∙ sym (mul-assoc n (size (take k ns)) (size (drop (suc k) ns)))
+
+-- ---- where the value at run o, place j of a slice stands in the table
+on-row : (q P r c i S j : ℕ) → q * (P * (c * S)) + ((r * c + i) * S + j) ≡ ((q * P + r) * c + i) * S + j
+on-row q P r c i S j = omega arith
+
+by-rows : (q P r S j : ℕ) → (q * P + r) * S + j ≡ q * (P * S) + (r * S + j)
+by-rows q P r S j = omega arith
+
+pub source : (k i : ℕ) (ns : List ℕ) (o j : ℕ) → k < length ns → o < size (take k ns) → j < size (drop (suc k) ns)
+    → place ns (insert k i (indicesAt (without k ns) (o * size (drop (suc k) ns) + j))) ≡ (o * getD ns k 0 + i) * size (drop (suc k) ns) + j
+unfolding indicesAt
+source k i [] o j h a b = absurd (omega arith)
+source zero i (n ∷ ns) o j h a b =
+    let z : o ≡ 0 = omega (arith, size-nil) in
+    let t : o * size ns + j ≡ j = omega (arith, ap (λ (x : ℕ). x * size ns) z, zero-mul (size ns)) in
+    let u : o * n ≡ 0 = ap (λ (x : ℕ). x * n) z ∙ zero-mul n in
+    place-cons n ns i (indicesAt ns (o * size ns + j))
+    ∙ ap (λ (x : ℕ). i * size ns + place ns (indicesAt ns x)) t
+    ∙ ap (λ (x : ℕ). i * size ns + x) (indices-place ns j b)
+    ∙ omega (arith, ap (λ (x : ℕ). (x + i) * size ns) u)
+source (suc k) i (n ∷ ns) o j h a b =
+    let a' : o < n * P = omega (arith, size-cons n (take k ns)) in
+    let p : 0 < P = size-tail n P o a' in
+    let r : o % P < P = mod-lt o p in
+    let e : o ≡ o / P * P + o % P = sym (div-add-mod' o P) in
+    let w : size (without k ns) ≡ P * S = size-without k ns (omega arith) in
+    let v : o % P * S + j < P * S = radix (o % P) P S j r b in
+    let t : o * S + j ≡ o / P * size (without k ns) + (o % P * S + j) = ap (λ (x : ℕ). x * S + j) e ∙ by-rows (o / P) P (o % P) S j ∙ ap (λ (x : ℕ). o / P * x + (o % P * S + j)) (sym w) in
+    let v' : o % P * S + j < size (without k ns) = omega arith in
+    let d : (o * S + j) / size (without k ns) ≡ o / P = ap (λ (x : ℕ). x / size (without k ns)) t ∙ radix-div (o / P) (size (without k ns)) (o % P * S + j) v' in
+    let m : (o * S + j) % size (without k ns) ≡ o % P * S + j = ap (λ (x : ℕ). x % size (without k ns)) t ∙ radix-mod (o / P) (size (without k ns)) (o % P * S + j) v' in
+    ap₂ (λ (x y : ℕ). place (n ∷ ns) (x ∷ insert k i (indicesAt (without k ns) y))) d m
+    ∙ place-cons n ns (o / P) (insert k i (indicesAt (without k ns) (o % P * S + j)))
+    ∙ ap₂ (λ (x y : ℕ). o / P * x + y) (size-split k ns (omega arith)) (source k i ns (o % P) j (omega arith) r b)
+    ∙ on-row (o / P) P (o % P) (getD ns k 0) i S j
+    ∙ ap (λ (x : ℕ). (x * getD ns k 0 + i) * S + j) (sym e)
+  where
+    P : ℕ
+    P = size (take k ns)
+
+    S : ℕ
+    S = size (drop (suc k) ns)
+
+-- ---- the index list at the place of an index list
+pub indices-back : (ns is : List ℕ) → Inside is ns → indicesAt ns (place ns is) ≡ is
+unfolding indicesAt
+indices-back [] [] q = refl
+indices-back [] (i ∷ is) q = absurd q
+indices-back (n ∷ ns) [] q = absurd q
+indices-back (n ∷ ns) (i ∷ is) q =
+    let b : place ns is < size ns = place-below is ns (q .1) in
+    let e : place (n ∷ ns) (i ∷ is) ≡ i * size ns + place ns is = place-cons n ns i is in
+    ap₂ (λ (x y : ℕ). x ∷ indicesAt ns y) (ap (λ (t : ℕ). t / size ns) e ∙ radix-div i (size ns) (place ns is) b) (ap (λ (t : ℕ). t % size ns) e ∙ radix-mod i (size ns) (place ns is) b)
+    ∙ ap (λ (r : List ℕ). i ∷ r) (indices-back ns is (q .1))
+
+-- ---- the slice law: a slice at an index list is the table at that list with the index put in
+pub slice-law : (k i : ℕ) (ns is : List ℕ) (vs : List Float) → Inside is (without k ns) → table (without k ns) (sliceValues k i ns vs) is ≡ table ns vs (insert k i is)
+unfolding sliceValues
+slice-law k i ns is vs q =
+    at-place (without k ns) (tabulate (size (without k ns)) (λ t. table ns vs (insert k i (indicesAt (without k ns) t)))) is
+    ∙ getD-tabulate (size (without k ns)) (place (without k ns) is) (λ t. table ns vs (insert k i (indicesAt (without k ns) t))) nan (place-below is (without k ns) q)
+    ∙ ap (λ (js : List ℕ). table ns vs (insert k i js)) (indices-back (without k ns) is q)
+  where
+    at-place : (ms : List ℕ) (xs : List Float) (js : List ℕ) → table ms xs js ≡ getD xs (place ms js) nan
+    at-place ms xs js = unfold table in refl
+
+pub length-slice : (k i : ℕ) (ns : List ℕ) (vs : List Float) → length (sliceValues k i ns vs) ≡ size (without k ns)
+unfolding sliceValues
+length-slice k i ns vs = length-tabulate (size (without k ns)) (λ t. table ns vs (insert k i (indicesAt (without k ns) t)))
+
+-- ---- two axes in either order
+pub insert-comm : {A : Type 0} (k m : ℕ) (i j : A) (is : List A) → k ≤ m → m ≤ length is → insert k i (insert m j is) ≡ insert (suc m) j (insert k i is)
+insert-comm zero m i j is a b = refl
+insert-comm (suc k) zero i j is a b = absurd (omega arith)
+insert-comm (suc k) (suc m) i j [] a b = absurd (omega arith)
+insert-comm (suc k) (suc m) i j (x ∷ is) a b = ap (λ r. x ∷ r) (insert-comm k m i j is (omega arith) (omega arith))
+
+pub without-comm : {A : Type 0} (k m : ℕ) (ns : List A) → k ≤ m → without m (without k ns) ≡ without k (without (suc m) ns)
+without-comm k m [] a = refl
+without-comm zero m (n ∷ ns) a = refl
+without-comm (suc k) zero (n ∷ ns) a = absurd (omega arith)
+without-comm (suc k) (suc m) (n ∷ ns) a = ap (λ r. n ∷ r) (without-comm k m ns (omega arith))
+
+pub insert-inside : (k i : ℕ) (is ns : List ℕ) → k < length ns → i < getD ns k 0 → Inside is (without k ns) → Inside (insert k i is) ns
+insert-inside k i is [] h l q = absurd (omega arith)
+insert-inside zero i is (n ∷ ns) h l q = (l, q)
+insert-inside (suc k) i [] (n ∷ ns) h l q = absurd q
+insert-inside (suc k) i (j ∷ is) (n ∷ ns) h l q = (q .0, insert-inside k i is ns (omega arith) l (q .1))
+
+pub length-inside : (is ns : List ℕ) → Inside is ns → length is ≡ length ns
+length-inside [] [] q = refl
+length-inside [] (n ∷ ns) q = absurd q
+length-inside (i ∷ is) [] q = absurd q
+length-inside (i ∷ is) (n ∷ ns) q = ap suc (length-inside is ns (q .1))
+
+pub length-without : {A : Type 0} (k : ℕ) (ns : List A) → k < length ns → length ns ≡ suc (length (without k ns))
+length-without k [] h = absurd (omega arith)
+length-without zero (n ∷ ns) h = refl
+length-without (suc k) (n ∷ ns) h = ap suc (length-without k ns (omega arith))
+
+pub getD-without : {A : Type 0} (k m : ℕ) (ns : List A) (z : A) → k ≤ m → getD (without k ns) m z ≡ getD ns (suc m) z
+getD-without k m [] z a = refl
+getD-without zero m (n ∷ ns) z a = refl
+getD-without (suc k) zero (n ∷ ns) z a = absurd (omega arith)
+getD-without (suc k) (suc m) (n ∷ ns) z a = getD-without k m ns z (omega arith)
+
+pub getD-without-below : {A : Type 0} (k m : ℕ) (ns : List A) (z : A) → k < m → getD (without m ns) k z ≡ getD ns k z
+getD-without-below k m [] z a = refl
+getD-without-below zero zero (n ∷ ns) z a = absurd (omega arith)
+getD-without-below (suc k) zero (n ∷ ns) z a = absurd (omega arith)
+getD-without-below zero (suc m) (n ∷ ns) z a = refl
+getD-without-below (suc k) (suc m) (n ∷ ns) z a = getD-without-below k m ns z (omega arith)
+
+-- slices on two axes, the axis k at i and the axis m + 1 at j, whichever goes first
+pub slices-comm : (k m i j : ℕ) (ns : List ℕ) (vs : List Float) → k ≤ m → suc m < length ns → i < getD ns k 0 → j < getD ns (suc m) 0
+    → sliceValues m j (without k ns) (sliceValues k i ns vs) ≡ sliceValues k i (without (suc m) ns) (sliceValues (suc m) j ns vs)
+slices-comm k m i j ns vs a b li lj = table-ext (without m (without k ns)) one other (length-slice m j (without k ns) (sliceValues k i ns vs)) (length-slice k i (without (suc m) ns) (sliceValues (suc m) j ns vs) ∙ ap size (sym e)) agree
+  where
+    e : without m (without k ns) ≡ without k (without (suc m) ns)
+    e = without-comm k m ns a
+
+    one : List Float
+    one = sliceValues m j (without k ns) (sliceValues k i ns vs)
+
+    other : List Float
+    other = sliceValues k i (without (suc m) ns) (sliceValues (suc m) j ns vs)
+
+    in-k : k < length ns
+    in-k = omega arith
+
+    in-m : m < length (without k ns)
+    in-m = omega (arith, length-without k ns in-k)
+
+    k-in : k < length (without (suc m) ns)
+    k-in = omega (arith, length-without (suc m) ns b)
+
+    j-in : j < getD (without k ns) m 0
+    j-in = rw (getD-without k m ns 0 a) lj
+
+    i-in : i < getD (without (suc m) ns) k 0
+    i-in = rw (getD-without-below k (suc m) ns 0 (omega arith)) li
+
+    agree : (is : List ℕ) → Inside is (without m (without k ns)) → table (without m (without k ns)) one is ≡ table (without m (without k ns)) other is
+    agree is q =
+        let q2 : Inside is (without k (without (suc m) ns)) = subst (λ (l : List ℕ). Inside is l) e q in
+        let n : m ≤ length is = omega (arith, length-inside is (without m (without k ns)) q, length-without m (without k ns) in-m, in-m) in
+        slice-law m j (without k ns) is (sliceValues k i ns vs) q
+        ∙ slice-law k i ns (insert m j is) vs (insert-inside m j is (without k ns) in-m j-in q)
+        ∙ ap (table ns vs) (insert-comm k m i j is a n)
+        ∙ sym (slice-law (suc m) j ns (insert k i is) vs (insert-inside k i is (without (suc m) ns) k-in i-in q2))
+        ∙ sym (slice-law k i (without (suc m) ns) is (sliceValues (suc m) j ns vs) q2)
+        ∙ ap (λ (l : List ℕ). table l other is) (sym e)

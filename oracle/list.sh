@@ -29,6 +29,8 @@ cargo --config 'source.crates-io.replace-with="debian"' \
     --config "source.debian.directory=\"$registry\"" \
     build --quiet --release --offline --target-dir target
 
+target/release/oracle check
+
 folder=$(mktemp -d)
 trap 'rm -rf "$folder"' EXIT
 target/release/oracle make >"$folder/stdin"

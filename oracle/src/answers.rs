@@ -1,7 +1,9 @@
 //! One line for each call: a refusal of `refusals`, or what the unchanged Rust gives.
 
 use crate::calls::Call;
+use crate::lookups;
 use crate::refusals::{self, Refusal};
+use crate::table::Table;
 use ninterp::error::ValidateError;
 use ninterp::strategy::step::StepDirection;
 use ninterp::strategy::utils::{
@@ -12,15 +14,17 @@ use ninterp::views::ArrayView1;
 
 type Answer = Result<String, Refusal>;
 
-/// Before the first axis record the axis has no nodes.
+/// Before the first axis record the axis has no nodes; before the first table record
+/// the table has no axes.
 pub fn answer_list(calls: &[Call]) -> String {
     let mut lines = String::new();
-    let mut present: &[f64] = &[];
+    let mut nodes: &[f64] = &[];
+    let mut table = &Table::default();
     for call in calls {
-        if let Call::Axis(nodes) = call {
-            present = nodes;
-        } else {
-            lines += &line(answer(call, present));
+        match call {
+            Call::Axis(lent) => nodes = lent,
+            Call::Table(lent) => table = lent,
+            _ => lines += &line(answer(call, nodes, table)),
         }
     }
     lines
@@ -34,9 +38,9 @@ fn line(answer: Answer) -> String {
     }
 }
 
-fn answer(call: &Call, nodes: &[f64]) -> Answer {
+fn answer(call: &Call, nodes: &[f64], table: &Table) -> Answer {
     match *call {
-        Call::Axis(_) => Ok(String::new()),
+        Call::Axis(_) | Call::Table(_) => Ok(String::new()),
         Call::LocateLowerIndex { reading } => lower_index(nodes, reading),
         Call::ExactIndex { lower, reading } => exact(nodes, lower, reading),
         Call::LocateAxis { reading } => axis_location(nodes, reading),
@@ -47,7 +51,16 @@ fn answer(call: &Call, nodes: &[f64]) -> Answer {
         },
         Call::ValidateUniformGrid { tolerance } => uniform(nodes, tolerance),
         Call::ValidateUniformGridEpsilon { tolerance } => uniform_epsilon(nodes, tolerance),
+        Call::Nearest { ref readings } => value(lookups::nearest(table, readings)),
+        #[rustfmt::skip]
+        Call::Step { ref directions, ref readings } => {
+            value(lookups::stepped(table, directions, readings))
+        },
     }
+}
+
+fn value(found: Result<f64, Refusal>) -> Answer {
+    found.map(|value| format!("{:016x}", value.to_bits()))
 }
 
 fn lower_index(nodes: &[f64], reading: f64) -> Answer {

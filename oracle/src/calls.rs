@@ -1,6 +1,9 @@
 //! The list: records with a header of 32 bytes, little-endian; see README.md.
 
-pub const HEADER: usize = 32;
+use crate::header::{read_numbers, write_numbers, Header, HEADER};
+use crate::table::Table;
+use crate::table_calls;
+
 pub const MOST_NODES: usize = 128;
 
 #[derive(Clone)]
@@ -32,9 +35,18 @@ pub enum Call {
     ValidateUniformGridEpsilon {
         tolerance: Option<f64>,
     },
+    Table(Table),
+    Nearest {
+        readings: Vec<f64>,
+    },
+    Step {
+        directions: Vec<u8>,
+        readings: Vec<f64>,
+    },
 }
 
-pub const NAMES: [&str; 8] = [
+/// By op.
+pub const NAMES: [&str; 11] = [
     "axis",
     "locate_lower_index",
     "exact_index",
@@ -43,48 +55,10 @@ pub const NAMES: [&str; 8] = [
     "locate_lower_index_uniform",
     "validate_uniform_grid",
     "validate_uniform_grid_epsilon",
+    "table",
+    "Nearest",
+    "Step",
 ];
-
-#[derive(Default)]
-struct Header {
-    op: u8,
-    a: u8,
-    reading: u64,
-    second: u64,
-    third: u64,
-}
-
-impl Header {
-    fn bytes(&self) -> [u8; HEADER] {
-        let mut bytes = [0; HEADER];
-        bytes[0] = self.op;
-        bytes[1] = self.a;
-        bytes[8..16].copy_from_slice(&self.reading.to_le_bytes());
-        bytes[16..24].copy_from_slice(&self.second.to_le_bytes());
-        bytes[24..32].copy_from_slice(&self.third.to_le_bytes());
-        bytes
-    }
-
-    fn read(bytes: &[u8]) -> Result<Header, String> {
-        if bytes.len() < HEADER {
-            return Err("a record ends early".into());
-        }
-        if bytes[2..8] != [0; 6] {
-            return Err("bytes 2 to 7 of a record are not zero".into());
-        }
-        Ok(Header {
-            op: bytes[0],
-            a: bytes[1],
-            reading: word(&bytes[8..16]),
-            second: word(&bytes[16..24]),
-            third: word(&bytes[24..32]),
-        })
-    }
-}
-
-fn word(bytes: &[u8]) -> u64 {
-    u64::from_le_bytes(bytes.try_into().expect("eight bytes"))
-}
 
 impl Call {
     pub fn op(&self) -> u8 {
@@ -97,23 +71,41 @@ impl Call {
             Call::LocateLowerIndexUniform { .. } => 5,
             Call::ValidateUniformGrid { .. } => 6,
             Call::ValidateUniformGridEpsilon { .. } => 7,
+            Call::Table(_) => 8,
+            Call::Nearest { .. } => 9,
+            Call::Step { .. } => 10,
         }
+    }
+
+    /// An axis and a table are lent to the calls that follow; they have no line.
+    pub fn has_line(&self) -> bool {
+        !matches!(self, Call::Axis(_) | Call::Table(_))
     }
 
     pub fn write(&self, out: &mut Vec<u8>) {
         out.extend(self.header().bytes());
-        if let Call::Axis(nodes) = self {
-            for node in nodes {
-                out.extend(node.to_bits().to_le_bytes());
+        match self {
+            Call::Axis(nodes) => write_numbers(nodes, out),
+            Call::Table(table) => {
+                write_numbers(&table.nodes, out);
+                write_numbers(&table.values, out);
             }
+            Call::Nearest { readings } | Call::Step { readings, .. } => {
+                write_numbers(readings, out)
+            }
+            _ => {}
         }
     }
 
     fn header(&self) -> Header {
-        let mut header = Header {
+        Header {
             op: self.op(),
-            ..Header::default()
-        };
+            ..self.fields()
+        }
+    }
+
+    fn fields(&self) -> Header {
+        let mut header = Header::default();
         match self {
             Call::Axis(nodes) => header.a = nodes.len() as u8,
             Call::LocateLowerIndex { reading } | Call::LocateAxis { reading } => {
@@ -139,30 +131,30 @@ impl Call {
                 header.a = tolerance.is_some() as u8;
                 header.second = tolerance.unwrap_or(0.0).to_bits();
             }
+            Call::Table(table) => return table_calls::table_header(table),
+            Call::Nearest { readings } => return table_calls::nearest_header(readings),
+            #[rustfmt::skip]
+            Call::Step { directions, readings } => {
+                return table_calls::step_header(directions, readings)
+            },
         }
         header
     }
 }
 
-/// The nodes that follow an axis header, and what lies after them.
-fn read_nodes(count: u8, bytes: &[u8]) -> Result<(Vec<f64>, &[u8]), String> {
-    let count = count as usize;
-    if count > MOST_NODES || bytes.len() < 8 * count {
-        return Err("an axis is too long or ends early".into());
-    }
-    let (area, rest) = bytes.split_at(8 * count);
-    let nodes = area.chunks(8).map(|b| f64::from_bits(word(b))).collect();
-    Ok((nodes, rest))
+/// A call, and what lies after it.
+pub type Read<'a> = Result<(Call, &'a [u8]), String>;
+
+fn read_axis<'a>(header: &Header, rest: &'a [u8]) -> Read<'a> {
+    let (nodes, rest) = read_numbers(header.a as usize, MOST_NODES, rest)?;
+    Ok((Call::Axis(nodes), rest))
 }
 
-fn read_call<'a>(header: &Header, rest: &'a [u8]) -> Result<(Call, &'a [u8]), String> {
+/// The calls that are a header alone.
+fn read_primitive(header: &Header) -> Result<Call, String> {
     let reading = f64::from_bits(header.reading);
     let second = f64::from_bits(header.second);
-    let call = match (header.op, header.a) {
-        (0, count) => {
-            let (nodes, rest) = read_nodes(count, rest)?;
-            return Ok((Call::Axis(nodes), rest));
-        }
+    Ok(match (header.op, header.a) {
         (1, _) => Call::LocateLowerIndex { reading },
         (2, _) => Call::ExactIndex {
             lower: header.second,
@@ -182,15 +174,32 @@ fn read_call<'a>(header: &Header, rest: &'a [u8]) -> Result<(Call, &'a [u8]), St
             tolerance: Some(second),
         },
         (op, a) => return Err(format!("no such call: op {op}, a {a}")),
+    })
+}
+
+fn read_call(bytes: &[u8]) -> Read<'_> {
+    let header = Header::read(bytes)?;
+    let rest = &bytes[HEADER..];
+    let (call, rest) = match header.op {
+        0 => read_axis(&header, rest)?,
+        8 => table_calls::read_table(&header, rest)?,
+        9 => table_calls::read_nearest(&header, rest)?,
+        10 => table_calls::read_step(&header, rest)?,
+        _ => (read_primitive(&header)?, rest),
     };
+    if call.header() != header {
+        let op = header.op;
+        return Err(format!(
+            "op {op}: a field that it does not name is not zero"
+        ));
+    }
     Ok((call, rest))
 }
 
 pub fn read_list(mut bytes: &[u8]) -> Result<Vec<Call>, String> {
     let mut calls = Vec::new();
     while !bytes.is_empty() {
-        let header = Header::read(bytes)?;
-        let (call, rest) = read_call(&header, &bytes[HEADER..])?;
+        let (call, rest) = read_call(bytes)?;
         calls.push(call);
         bytes = rest;
     }

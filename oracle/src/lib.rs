@@ -1,13 +1,21 @@
 //! Stands where ninterp's `lib.rs` stands: brings into scope what its files expect.
-//! `views`, `error` and `strategy::step` are stand-ins; `strategy::utils` is the Rust itself.
+//! `strategy::utils` and `interpolator::n::strategies` are the Rust itself; everything
+//! else here is a stand-in.
 
+pub mod arrays;
 pub mod error;
+pub mod interpolator;
 pub mod strategy;
 pub mod views;
 
+pub(crate) use arrays::*;
 pub(crate) use error::*;
+pub(crate) use interpolator::data::*;
 pub(crate) use strategy::step::*;
+pub(crate) use strategy::traits::*;
+pub(crate) use strategy::utils::*;
 pub(crate) use views::*;
 
+pub(crate) use core::fmt::Debug;
 pub(crate) use core::ops::Sub;
-pub(crate) use num_traits::Float;
+pub(crate) use num_traits::{Float, One, Zero};

@@ -1,10 +1,16 @@
 //! `oracle make` writes the list, `oracle answer` answers a list, `oracle count` counts
-//! the calls of a list by kind.
+//! the calls of a list by kind, `oracle check` tries the strategies that no call reaches.
 
 mod answers;
 mod calls;
+mod header;
+mod lookups;
 mod make;
 mod refusals;
+mod self_check;
+mod table;
+mod table_calls;
+mod table_refusals;
 
 use calls::{Call, NAMES};
 use std::io::{self, Read, Write};
@@ -27,7 +33,8 @@ fn count_by_kind(calls: &[Call]) -> String {
     for (name, count) in NAMES.iter().zip(counts) {
         text += &format!("{count:6} {name}\n");
     }
-    text + &format!("{:6} calls in all, axes apart\n", calls.len() - counts[0])
+    let lines = calls.iter().filter(|call| call.has_line()).count();
+    text + &format!("{lines:6} calls in all, axes and tables apart\n")
 }
 
 fn run(command: Option<&str>) -> Result<Vec<u8>, String> {
@@ -35,7 +42,8 @@ fn run(command: Option<&str>) -> Result<Vec<u8>, String> {
         Some("make") => Ok(make::list()),
         Some("answer") => Ok(answers::answer_list(&lent_list()?).into_bytes()),
         Some("count") => Ok(count_by_kind(&lent_list()?).into_bytes()),
-        _ => Err("usage: oracle make | answer | count".into()),
+        Some("check") => self_check::run().map(|()| Vec::new()),
+        _ => Err("usage: oracle make | answer | count | check".into()),
     }
 }
 

@@ -1,5 +1,6 @@
 //! The refusals of document 01, section "Numbers the technician sees", for the seven
-//! axis primitives. Written from that document alone; nothing here calls the Rust.
+//! axis primitives; those of tables are in `table_refusals`. Written from that document
+//! alone; nothing here calls the Rust.
 
 pub struct Refusal {
     pub number: u8,

@@ -1,7 +1,8 @@
-//! A stand-in for ndarray's one-dimensional view, with only what `utils.rs` uses.
-//! What rests on it: `first` and `last` are the end nodes, or nothing on an empty
-//! axis; `len` is the count; `[i]` is node i and panics at or past the count; a view
-//! is copied freely, whatever its element. Strides and offsets are not imitated.
+//! A stand-in for ndarray's one-dimensional view, with only what `utils.rs` and
+//! `n/strategies.rs` use. What rests on it: `first` and `last` are the end nodes, or
+//! nothing on an empty axis; `len` is the count; `[i]` is node i and panics at or past
+//! the count; a view is copied freely, whatever its element, and the view of a view is
+//! the same view. Strides and offsets are not imitated.
 
 use core::ops::Index;
 
@@ -32,9 +33,16 @@ impl<T> ArrayView1<'_, T> {
         self.nodes.last()
     }
 
-    #[allow(clippy::len_without_is_empty)]
     pub fn len(&self) -> usize {
         self.nodes.len()
+    }
+
+    pub fn is_empty(&self) -> bool {
+        self.nodes.is_empty()
+    }
+
+    pub fn view(&self) -> ArrayView1<'_, T> {
+        *self
     }
 }
 

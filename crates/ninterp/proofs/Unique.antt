@@ -12,6 +12,11 @@ use Rattle.ninterp.proofs.strategy.utils.locate_step_index.Reads as loc
 use Rattle.ninterp.proofs.strategy.utils.locate_lower_index_uniform.Reads as locate-lower-index-uniform
 use Rattle.ninterp.proofs.strategy.utils.validate_uniform_grid.Reads as validate-uniform-grid
 use Rattle.ninterp.proofs.strategy.utils.validate_uniform_grid_epsilon.Reads as validate-uniform-grid-epsilon
+use Rattle.ninterp.proofs.interpolator.n.nearest.interpolate.Reads as nearest-lookup
+use Rattle.ninterp.proofs.interpolator.n.step.interpolate.Reads as step-lookup
+use Rattle.ninterp.proofs.slice.nearest.Reads as nearest-slice
+use Rattle.ninterp.proofs.slice.step.Reads as step-slice
+use Rattle.ninterp.specs.declared.slice.SliceAnswer.{SliceAnswer}
 
 pub locate-lower-index-unique : (κs : _) (a : _) (r s : IndexAnswer) (x y : _) → locate-lower-index.Post κs a r x → locate-lower-index.Post κs a s y → r ≡ s
 locate-lower-index-unique κs a r s x y p q = one-outcome r s _ p q
@@ -33,3 +38,15 @@ validate-uniform-grid-unique κs a r s x y p q = one-outcome r s _ p q
 
 pub validate-uniform-grid-epsilon-unique : (κs : _) (a : _) (r s : Answer) (x y : _) → validate-uniform-grid-epsilon.Post κs a r x → validate-uniform-grid-epsilon.Post κs a s y → r ≡ s
 validate-uniform-grid-epsilon-unique κs a r s x y p q = one-outcome r s _ p q
+
+pub nearest-lookup-unique : (κs : _) (a : _) (r s : Answer) (x y : _) → nearest-lookup.Post κs a r x → nearest-lookup.Post κs a s y → r ≡ s
+nearest-lookup-unique κs a r s x y p q = one-outcome r s _ p q
+
+pub step-lookup-unique : (κs : _) (a : _) (r s : Answer) (x y : _) → step-lookup.Post κs a r x → step-lookup.Post κs a s y → r ≡ s
+step-lookup-unique κs a r s x y p q = one-outcome r s _ p q
+
+pub nearest-slice-unique : (κs : _) (a : _) (r s : SliceAnswer) (x y : _) → nearest-slice.Post κs a r x → nearest-slice.Post κs a s y → r ≡ s
+nearest-slice-unique κs a r s x y p q = one-outcome r s _ (p .0) (q .0)
+
+pub step-slice-unique : (κs : _) (a : _) (r s : SliceAnswer) (x y : _) → step-slice.Post κs a r x → step-slice.Post κs a s y → r ≡ s
+step-slice-unique κs a r s x y p q = one-outcome r s _ (p .0) (q .0)

@@ -1,4 +1,4 @@
-// One call of the list, answered by the port.
+// The axis of the list, and the calls of the axis primitives.
 use crate::line::Reply;
 use crate::list;
 use crate::list::Header;
@@ -10,6 +10,8 @@ use ninterp::strategy::utils::ExactAnswer;
 use ninterp::strategy::utils::IndexAnswer;
 use ninterp::strategy::utils::MaybeIndex;
 use ninterp::strategy::utils::Tolerance;
+
+pub(crate) const MOST_NODES: usize = 128;
 
 fn of_index(found: IndexAnswer) -> Reply {
     let answer = found.answer;
@@ -63,13 +65,14 @@ fn locate_axis(nodes: &[f64], call: Header) -> Reply {
 }
 
 fn locate_step_index(nodes: &[f64], call: Header) -> Reply {
-    of_index(utils::locate_step_index(call.small, nodes, call.reading))
+    of_index(utils::locate_step_index(call.a, nodes, call.reading))
 }
 
 fn locate_lower_index_uniform(call: Header) -> Reply {
     let first = binary64::float_of_bits(call.second);
-    let n = list::wide(call.small);
-    of_index(utils::locate_lower_index_uniform(first, call.third, n, call.reading))
+    let step = binary64::float_of_bits(call.third);
+    let n = list::wide(call.a);
+    of_index(utils::locate_lower_index_uniform(first, step, n, call.reading))
 }
 
 fn validate_uniform_grid(nodes: &[f64], call: Header) -> Reply {
@@ -78,8 +81,8 @@ fn validate_uniform_grid(nodes: &[f64], call: Header) -> Reply {
 }
 
 fn validate_uniform_grid_epsilon(nodes: &[f64], call: Header) -> Reply {
-    let small = call.small;
-    let tolerance = match small {
+    let a = call.a;
+    let tolerance = match a {
         0 => Tolerance::Default,
         1 => Tolerance::Lent(binary64::float_of_bits(call.second)),
         _ => return Reply::Bad,

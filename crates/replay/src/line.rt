@@ -5,20 +5,29 @@ ghost use Rattle.io.specs.Counts.{Counts};
 use answer::Answer;
 use libc::STDOUT_FILENO;
 
+// The reply to a record. Silent and End have no line.
 pub enum Reply {
+    Silent,
     Index(usize),
     None,
     Exact(usize),
     Between { lower: usize, frac: f64 },
     Done,
+    Value(f64),
     Refused(Answer),
     Bad,
+    End,
 }
 
-// How many bytes are held for output, and whether the last write went well.
+// How many bytes are held for output, and whether to go on.
 pub struct Kept {
     pub held: usize,
-    pub ok: bool,
+    pub go: bool,
+}
+
+// The reply to a record that only lends, by whether the list has all of it.
+pub(crate) fn of_read(whole: bool) -> Reply {
+    if whole { Reply::Silent } else { Reply::Bad }
 }
 
 fn least(a: usize, b: usize) -> usize
@@ -66,6 +75,13 @@ fn put_named(name: &[u8], index: usize, line: &mut [u8]) -> usize
     put_decimal(index as u64, line, at)
 }
 
+fn put_value(value: f64, line: &mut [u8]) -> usize
+    ensures { λ r. ⌜ Counts r (now (line .exit)) ⌝ }
+{
+    let at = put(b"ok ", line, 0);
+    put_bits(value, line, at)
+}
+
 fn put_between(lower: usize, frac: f64, line: &mut [u8]) -> usize
     ensures { λ r. ⌜ Counts r (now (line .exit)) ⌝ }
 {
@@ -88,11 +104,13 @@ fn put_reply(said: Reply, line: &mut [u8]) -> usize
     ensures { λ r. ⌜ Counts r (now (line .exit)) ⌝ }
 {
     match said {
+        Reply::Silent | Reply::End => 0,
         Reply::Index(index) => put_named(b"ok ", index, line),
         Reply::None => put(b"ok none", line, 0),
         Reply::Exact(index) => put_named(b"ok exact ", index, line),
         Reply::Between { lower, frac } => put_between(lower, frac, line),
         Reply::Done => put(b"ok", line, 0),
+        Reply::Value(value) => put_value(value, line),
         Reply::Refused(no) => put_refusal(no, line),
         Reply::Bad => put(b"bad list", line, 0),
     }
@@ -114,21 +132,21 @@ fn hold(line: &[u8], out: &mut [u8], held: usize) -> Kept
         let next = put(line, out, held);
         return Kept {
             held: next,
-            ok: true,
+            go: true,
         };
     }
     if write(out, held) {
         let next = put(line, out, 0);
         Kept {
             held: next,
-            ok: true,
+            go: true,
         }
     } else {
-        Kept { held: 0, ok: false }
+        Kept { held: 0, go: false }
     }
 }
 
-pub(crate) fn add(said: Reply, out: &mut [u8], held: usize) -> Kept
+fn add(said: Reply, out: &mut [u8], held: usize) -> Kept
     requires { ⌜ Counts held (now out) ⌝ }
     ensures { λ r. ⌜ Counts (r .held) (now (out .exit)) ⌝ }
 {
@@ -139,10 +157,21 @@ pub(crate) fn add(said: Reply, out: &mut [u8], held: usize) -> Kept
     hold(&line[..end], out, held)
 }
 
-// Whether a run goes on after a reply.
-pub(crate) fn goes_on(said: Reply, ok: bool) -> bool {
+// Holds the line of a reply, where it has one.
+pub(crate) fn say(said: Reply, out: &mut [u8], held: usize) -> Kept
+    requires { ⌜ Counts held (now out) ⌝ }
+    ensures { λ r. ⌜ Counts (r .held) (now (out .exit)) ⌝ }
+{
     match said {
-        Reply::Bad => false,
-        _ => ok,
+        Reply::Silent => Kept { held, go: true },
+        Reply::End => Kept { held, go: false },
+        Reply::Bad => {
+            let kept = add(said, out, held);
+            Kept {
+                held: kept.held,
+                go: false,
+            }
+        }
+        _ => add(said, out, held),
     }
 }

@@ -3,16 +3,17 @@ ghost use Prim.Native.Nat.{_+_, _*_, _≤_};
 ghost use lib.ListN.{length};
 use libc::STDIN_FILENO;
 
-// The most nodes of an axis, and so the most floats that follow a header.
-pub(crate) const MOST_NODES: usize = 128;
+// How many floats are read at once.
+const BLOCK: usize = 128;
 
-// A record's header; its op says which fields it has, and whether `second` is a float.
+// A record's header; its op says which fields it has, and what the words hold.
 pub struct Header {
     pub op: u8,
-    pub small: u8,
+    pub a: u8,
+    pub b: u8,
     pub reading: f64,
     pub second: u64,
-    pub third: f64,
+    pub third: u64,
 }
 
 pub enum Head {
@@ -48,11 +49,44 @@ fn header_of(bytes: &[u8]) -> Header
 {
     Header {
         op: bytes[0],
-        small: bytes[1],
+        a: bytes[1],
+        b: bytes[2],
         reading: float_at(bytes, 8),
         second: word_at(bytes, 16),
-        third: float_at(bytes, 24),
+        third: word_at(bytes, 24),
     }
+}
+
+pub(crate) fn lower_half(word: u64) -> usize {
+    (word % 0x1_0000_0000) as usize
+}
+
+pub(crate) fn upper_half(word: u64) -> usize {
+    (word / 0x1_0000_0000) as usize
+}
+
+// The eight bytes of a word, the lowest first.
+pub(crate) fn bytes_of(word: u64) -> [u8; 8] {
+    [
+        (word % 0x100) as u8,
+        (word / 0x100 % 0x100) as u8,
+        (word / 0x1_0000 % 0x100) as u8,
+        (word / 0x100_0000 % 0x100) as u8,
+        (word / 0x1_0000_0000 % 0x100) as u8,
+        (word / 0x100_0000_0000 % 0x100) as u8,
+        (word / 0x1_0000_0000_0000 % 0x100) as u8,
+        (word / 0x100_0000_0000_0000) as u8,
+    ]
+}
+
+// The four quarters of a word, the lowest first.
+pub(crate) fn quarters_of(word: u64) -> [usize; 4] {
+    [
+        (word % 0x1_0000) as usize,
+        (word / 0x1_0000 % 0x1_0000) as usize,
+        (word / 0x1_0000_0000 % 0x1_0000) as usize,
+        (word / 0x1_0000_0000_0000) as usize,
+    ]
 }
 
 pub(crate) fn read_header() -> Head {
@@ -67,12 +101,12 @@ pub(crate) fn read_header() -> Head {
     Head::Whole(header_of(&bytes))
 }
 
-fn floats_of(bytes: &[u8], count: usize, into: &mut [f64])
-    requires { ⌜ (8 * count ≤ length (now bytes)) × (count ≤ length (now into)) ⌝ }
+fn floats_of(bytes: &[u8], count: usize, into: &mut [f64], at: usize)
+    requires { ⌜ (8 * count ≤ length (now bytes)) × (at + count ≤ length (now into)) ⌝ }
 {
     let mut i: usize = 0;
     while i < count {
-        into[i] = float_at(bytes, 8 * i);
+        into[at + i] = float_at(bytes, 8 * i);
         i += 1;
     }
 }
@@ -85,18 +119,29 @@ fn read_bytes(count: usize, into: &mut [u8]) -> bool
     got == count
 }
 
-// Reads the floats that follow a header to the front of `into`, and tells whether the list has them all.
-pub(crate) fn read_floats(count: usize, into: &mut [f64]) -> bool
-    requires { ⌜ count ≤ length (now into) ⌝ }
+// Reads so many floats, a block at most, to a place of `into`, and tells whether the list has them all.
+fn read_block(count: usize, into: &mut [f64], at: usize) -> bool
+    requires { ⌜ (count ≤ 128) × (at + count ≤ length (now into)) ⌝ }
 {
-    let mut space = [0u8; 8 * MOST_NODES];
+    let mut space = [0u8; 8 * BLOCK];
     let bytes: &mut [u8] = &mut space;
-    if count > MOST_NODES {
-        return false;
-    }
     if !read_bytes(8 * count, bytes) {
         return false;
     }
-    floats_of(bytes, count, into);
+    floats_of(bytes, count, into, at);
     true
+}
+
+// Reads so many floats to the front of `into`, and tells whether the list has them all.
+pub(crate) fn read_floats(count: usize, into: &mut [f64]) -> bool
+    requires { ⌜ count ≤ length (now into) ⌝ }
+{
+    let mut at: usize = 0;
+    while count - at > BLOCK {
+        if !read_block(BLOCK, into, at) {
+            return false;
+        }
+        at += BLOCK;
+    }
+    read_block(count - at, into, at)
 }

@@ -2,100 +2,149 @@
 mod calls;
 mod line;
 mod list;
+mod tables;
 
+ghost use mathlib.Core.Path.{_≡_};
 ghost use Prim.Native.Nat.{_≤_};
 ghost use lib.ListN.{length};
-ghost use Rattle.io.specs.Counts.{Counts};
+ghost use Rattle.replay.specs.Room.{Room};
 use line::Reply;
 use list::Head;
 use list::Header;
+use tables::Table;
 
-// After a record: the nodes of the present axis, the bytes held for output, and whether to go on.
-struct Next {
+// After a record: how many nodes the axis has, the table, and what to say.
+struct Taken {
     count: usize,
-    held: usize,
-    go: bool,
+    table: Table,
+    said: Reply,
 }
 
-fn say(said: Reply, count: usize, out: &mut [u8], held: usize) -> Next
-    requires { ⌜ Counts held (now out) ⌝ }
-    ensures { λ r. ⌜ r .count ≤ count ⌝ }
-    ensures { λ r. ⌜ Counts (r .held) (now (out .exit)) ⌝ }
+fn take_axis(call: Header, axis: &mut [f64], table: Table) -> Taken
+    ensures { λ r. ⌜ r .count ≤ length (now (axis .exit)) ⌝ }
+    ensures { λ r. ⌜ (r .table .nodes ≡ table .nodes) × (r .table .values ≡ table .values) ⌝ }
 {
-    let kept = line::add(said, out, held);
-    Next {
-        count,
-        held: kept.held,
-        go: line::goes_on(said, kept.ok),
+    let count = list::wide(call.a);
+    if count > axis.len() {
+        return Taken {
+            count: 0,
+            table,
+            said: Reply::Bad,
+        };
     }
+    let said = line::of_read(list::read_floats(count, axis));
+    Taken { count, table, said }
 }
 
-fn take_axis(count: usize, nodes: &mut [f64], out: &mut [u8], held: usize) -> Next
-    requires { ⌜ Counts held (now out) ⌝ }
-    ensures { λ r. ⌜ r .count ≤ length (now (nodes .exit)) ⌝ }
-    ensures { λ r. ⌜ Counts (r .held) (now (out .exit)) ⌝ }
+fn take_table(call: Header, count: usize, nodes: &mut [f64], values: &mut [f64]) -> Taken
+    ensures { λ r. ⌜ r .count ≡ count ⌝ }
+    ensures { λ r. ⌜ Room (r .table) (now (nodes .exit)) (now (values .exit)) ⌝ }
 {
-    if count > nodes.len() {
-        return say(Reply::Bad, 0, out, held);
-    }
-    if list::read_floats(count, nodes) {
-        Next {
+    let table = tables::of_header(call);
+    if table.nodes > nodes.len() {
+        return Taken {
             count,
-            held,
-            go: true,
+            table: tables::none(),
+            said: Reply::Bad,
+        };
+    }
+    if table.values > values.len() {
+        return Taken {
+            count,
+            table: tables::none(),
+            said: Reply::Bad,
+        };
+    }
+    let said = line::of_read(tables::read(table, nodes, values));
+    Taken { count, table, said }
+}
+
+fn answer(call: Header, axis: &[f64], count: usize) -> Reply
+    requires { ⌜ count ≤ length (now axis) ⌝ }
+{
+    calls::answer(&axis[..count], call)
+}
+
+// Takes a record whose header is read.
+fn take(
+    call: Header,
+    axis: &mut [f64],
+    nodes: &mut [f64],
+    values: &mut [f64],
+    count: usize,
+    table: Table,
+) -> Taken
+    requires { ⌜ count ≤ length (now axis) ⌝ }
+    requires { ⌜ Room table (now nodes) (now values) ⌝ }
+    ensures { λ r. ⌜ r .count ≤ length (now (axis .exit)) ⌝ }
+    ensures { λ r. ⌜ Room (r .table) (now (nodes .exit)) (now (values .exit)) ⌝ }
+{
+    let op = call.op;
+    match op {
+        0 => take_axis(call, axis, table),
+        8 => take_table(call, count, nodes, values),
+        9 | 10 => {
+            let said = tables::answer(call, table, nodes, values);
+            Taken { count, table, said }
         }
-    } else {
-        say(Reply::Bad, 0, out, held)
+        _ => {
+            let said = answer(call, axis, count);
+            Taken { count, table, said }
+        }
     }
 }
 
-fn take_call(call: Header, nodes: &[f64], count: usize, out: &mut [u8], held: usize) -> Next
-    requires { ⌜ (count ≤ length (now nodes)) × Counts held (now out) ⌝ }
-    ensures { λ r. ⌜ r .count ≤ count ⌝ }
-    ensures { λ r. ⌜ Counts (r .held) (now (out .exit)) ⌝ }
-{
-    let said = calls::answer(&nodes[..count], call);
-    say(said, count, out, held)
-}
-
-// Takes one record of the list.
-fn step(nodes: &mut [f64], count: usize, out: &mut [u8], held: usize) -> Next
-    requires { ⌜ (count ≤ length (now nodes)) × Counts held (now out) ⌝ }
-    ensures { λ r. ⌜ r .count ≤ length (now (nodes .exit)) ⌝ }
-    ensures { λ r. ⌜ Counts (r .held) (now (out .exit)) ⌝ }
+// Reads a record and takes it.
+fn step(
+    axis: &mut [f64],
+    nodes: &mut [f64],
+    values: &mut [f64],
+    count: usize,
+    table: Table,
+) -> Taken
+    requires { ⌜ count ≤ length (now axis) ⌝ }
+    requires { ⌜ Room table (now nodes) (now values) ⌝ }
+    ensures { λ r. ⌜ r .count ≤ length (now (axis .exit)) ⌝ }
+    ensures { λ r. ⌜ Room (r .table) (now (nodes .exit)) (now (values .exit)) ⌝ }
 {
     match list::read_header() {
-        Head::Whole(call) => {
-            if call.op == 0 {
-                take_axis(list::wide(call.small), nodes, out, held)
-            } else {
-                take_call(call, nodes, count, out, held)
-            }
-        }
-        Head::Cut => say(Reply::Bad, count, out, held),
-        Head::End => Next {
+        Head::Whole(call) => take(call, axis, nodes, values, count, table),
+        Head::Cut => Taken {
             count,
-            held,
-            go: false,
+            table,
+            said: Reply::Bad,
+        },
+        Head::End => Taken {
+            count,
+            table,
+            said: Reply::End,
         },
     }
 }
 
 fn main() {
-    let mut axis = [0.0f64; list::MOST_NODES];
+    let mut axis_room = [0.0f64; calls::MOST_NODES];
+    let mut node_room = [0.0f64; tables::MOST_NODES];
+    let mut value_room = [0.0f64; tables::MOST_VALUES];
     let mut text = [0u8; 4096];
-    let nodes: &mut [f64] = &mut axis;
+    let axis: &mut [f64] = &mut axis_room;
+    let nodes: &mut [f64] = &mut node_room;
+    let values: &mut [f64] = &mut value_room;
     let out: &mut [u8] = &mut text;
     let mut count: usize = 0;
+    let mut table = tables::none();
     let mut held: usize = 0;
     let mut go = true;
     // A proved loop has to end: more turns than any list has records.
     let mut turns = u64::MAX;
     while turns > 0 && go {
-        let next = step(nodes, count, out, held);
-        count = next.count;
-        held = next.held;
-        go = next.go;
+        let taken = step(axis, nodes, values, count, table);
+        let said = taken.said;
+        let kept = line::say(said, out, held);
+        count = taken.count;
+        table = taken.table;
+        held = kept.held;
+        go = kept.go;
         turns -= 1;
     }
     line::write(out, held);

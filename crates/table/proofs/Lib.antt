@@ -3,3 +3,4 @@ pub mod Tables
 pub mod Layouts
 pub mod Grids
 pub mod Removals
+pub mod Unique

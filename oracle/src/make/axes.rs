@@ -26,7 +26,7 @@ pub fn geometric(first: f64, ratio: f64, count: usize) -> Vec<f64> {
 }
 
 /// Neighbouring numbers, no room between them.
-fn adjacent(first: f64, count: usize) -> Vec<f64> {
+pub fn adjacent(first: f64, count: usize) -> Vec<f64> {
     let mut nodes = vec![first];
     while nodes.len() < count {
         nodes.push(above(nodes[nodes.len() - 1]));
@@ -80,7 +80,7 @@ fn small() -> Vec<Vec<f64>> {
     ]
 }
 
-/// The third has the widest gap that still rounds to a finite number.
+/// The third's gap is wider than the largest finite number, and rounds to it.
 fn huge() -> Vec<Vec<f64>> {
     vec![
         vec![-LARGEST, 0.0, LARGEST],
@@ -96,7 +96,7 @@ pub fn named() -> Vec<Vec<f64>> {
 }
 
 /// Gaps of one size class, drawn.
-fn drawn(seed: &mut Seed, count: usize) -> Vec<f64> {
+pub fn drawn(seed: &mut Seed, count: usize) -> Vec<f64> {
     let scale = seed.spread(-40, 40).abs();
     let mut nodes = vec![scale * (32.0 * seed.part() - 32.0)];
     while nodes.len() < count {
@@ -106,7 +106,7 @@ fn drawn(seed: &mut Seed, count: usize) -> Vec<f64> {
 }
 
 /// Nodes of every size, drawn and put in order.
-fn scattered(seed: &mut Seed, count: usize) -> Vec<f64> {
+pub fn scattered(seed: &mut Seed, count: usize) -> Vec<f64> {
     let mut nodes: Vec<f64> = (0..count).map(|_| seed.spread(-1020, 1022)).collect();
     nodes.sort_by(f64::total_cmp);
     nodes

@@ -1,6 +1,7 @@
 //! The list while it is being made.
 
 use crate::calls::Call;
+use crate::table::Table;
 
 #[derive(Default)]
 pub struct List {
@@ -48,5 +49,27 @@ impl List {
 
     pub fn uniform_epsilon(&mut self, tolerance: Option<f64>) {
         Call::ValidateUniformGridEpsilon { tolerance }.write(&mut self.bytes);
+    }
+
+    pub fn table(&mut self, table: &Table) {
+        Call::Table(table.clone()).write(&mut self.bytes);
+    }
+
+    pub fn nearest(&mut self, readings: &[f64]) {
+        let readings = readings.to_vec();
+        Call::Nearest { readings }.write(&mut self.bytes);
+    }
+
+    pub fn stepped(&mut self, directions: &[u8], readings: &[f64]) {
+        Call::Step {
+            directions: directions.to_vec(),
+            readings: readings.to_vec(),
+        }
+        .write(&mut self.bytes);
+    }
+
+    pub fn nearest_and_stepped(&mut self, directions: &[u8], readings: &[f64]) {
+        self.nearest(readings);
+        self.stepped(directions, readings);
     }
 }

@@ -3,24 +3,48 @@
 
 mod axes;
 mod bench;
+mod directions;
 mod list;
 mod located;
+mod looked_up;
 mod numbers;
+mod points;
 mod readings;
 mod refused;
+mod refused_contents;
+mod refused_lookups;
+mod refused_shapes;
+mod table_bench;
+mod tables;
 mod uniform_check;
 mod uniform_index;
+mod values;
 
 use list::List;
 use numbers::Seed;
 
+fn primitives(list: &mut List) {
+    let mut seed = Seed::new();
+    bench::add(list);
+    located::add(list, &mut seed);
+    refused::add(list);
+    uniform_index::add(list, &mut seed);
+    uniform_check::add(list, &mut seed);
+}
+
+/// Stands behind the primitives; what is added here leaves them as they are.
+fn lookups(list: &mut List) {
+    let mut seed = Seed::new();
+    table_bench::add(list);
+    looked_up::add(list, &mut seed);
+    refused_lookups::add(list, &mut seed);
+    refused_shapes::add(list, &mut seed);
+    refused_contents::add(list, &mut seed);
+}
+
 pub fn list() -> Vec<u8> {
     let mut list = List::default();
-    let mut seed = Seed::new();
-    bench::add(&mut list);
-    located::add(&mut list, &mut seed);
-    refused::add(&mut list);
-    uniform_index::add(&mut list, &mut seed);
-    uniform_check::add(&mut list, &mut seed);
+    primitives(&mut list);
+    lookups(&mut list);
     list.bytes()
 }

@@ -15,14 +15,14 @@ pub fn picked(count: usize, seed: &mut Seed) -> Vec<usize> {
     picks
 }
 
-fn beside(nodes: &[f64], picks: &[usize]) -> Vec<f64> {
+pub fn beside(nodes: &[f64], picks: &[usize]) -> Vec<f64> {
     picks
         .iter()
         .flat_map(|&i| [below(nodes[i]), nodes[i], above(nodes[i])])
         .collect()
 }
 
-fn between(nodes: &[f64], picks: &[usize], seed: &mut Seed) -> Vec<f64> {
+pub fn between(nodes: &[f64], picks: &[usize], seed: &mut Seed) -> Vec<f64> {
     let mut readings = Vec::new();
     for &i in picks {
         if i + 1 < nodes.len() {
@@ -52,7 +52,7 @@ fn around_zero() -> Vec<f64> {
     vec![0.0, -0.0, LEAST, -LEAST]
 }
 
-fn kept(readings: Vec<Vec<f64>>) -> Vec<f64> {
+pub fn kept(readings: Vec<Vec<f64>>) -> Vec<f64> {
     let mut kept: Vec<f64> = Vec::new();
     for reading in readings.concat() {
         let known = kept.iter().any(|k| k.to_bits() == reading.to_bits());

@@ -6,10 +6,10 @@ use Rattle.replay.proofs.list.floats_of.Statement.{statement}
 use Rattle.replay.proofs.list.floats_of.Tie as tie
 
 abbrev Inv-loop : tie.InvT-loop
-Inv-loop bytes count into₀ i₀ into i = length into ≡ length into₀
+Inv-loop bytes count into₀ at i₀ into i = length into ≡ length into₀
 
 abbrev μ-loop : tie.MeasureT-loop
-μ-loop bytes count into₀ i₀ into i = count - i
+μ-loop bytes count into₀ at i₀ into i = count - i
 
 loop-holds : tie.Need-loop-holds Inv-loop μ-loop
 loop-holds c = search needs
@@ -19,6 +19,9 @@ mul-float-at c = search needs
 
 float-at-requires : tie.Need-float-at-requires Inv-loop μ-loop
 float-at-requires c κs = search needs
+
+add-into : tie.Need-add-into Inv-loop μ-loop
+add-into c = search needs
 
 mul-into : tie.Need-mul-into Inv-loop μ-loop
 mul-into c = search needs
@@ -50,6 +53,7 @@ floats-of-spec =
     loop-holds
     mul-float-at
     float-at-requires
+    add-into
     mul-into
     slice-write-into
     add-i

@@ -1,0 +1,4 @@
+use super::*;
+
+pub mod data;
+pub mod n;

@@ -1,0 +1,3 @@
+use super::*;
+
+include!(concat!(env!("OUT_DIR"), "/interpolator/n/mods.rs"));

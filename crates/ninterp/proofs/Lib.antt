@@ -11,3 +11,5 @@ pub mod Lookups
 pub mod Demands
 pub mod Slices
 pub mod Sliced
+pub mod Lowered
+pub mod SliceLaw

@@ -1,8 +1,8 @@
 -- "A slice removes one axis": the slices of Nearest and Step on any axis, and what they answer and write for every input.
-use mathlib.Core.Bool.{Bool, true, false, not, _||_}
+use mathlib.Core.Bool.{Bool, true, false, not, _&&_, _||_, cond}
 use mathlib.Core.List.{List, [], _∷_, _++_}
 use Prim.Native.Nat.{ℕ, _-_}
-use lib.Dec.{leb, ltb}
+use lib.Dec.{leb, ltb, eqb}
 use lib.ListN.{length, drop, getD}
 use lib.Ieee.{Float}
 use Rattle.answer.specs.Answer.{refused, when, _or_, given}
@@ -87,3 +87,7 @@ stepSlice s nodes values directions axis p room = sliceAnswer (stepSliceFault s 
 unfoldable pub stepSliced : Shape → List Float → List Float → List ℕ → ℕ → Float → List Float → List Float
 stepSliced s nodes values directions axis p out =
     slicedInto (stepSliceFault s nodes values directions axis p (length out)) (ruleSlice (stepRule directions) s nodes values axis p) out
+
+-- demand 3: "axes in 10 and 11 one lower", those above the removed one
+unfoldable pub lowered : ℕ → Answer → Answer
+lowered k a = record { number = a .number; axis = cond ((eqb (a .number) 10 || eqb (a .number) 11) && ltb k (a .axis)) (a .axis - 1) (a .axis); place = a .place; value = a .value }

@@ -4,10 +4,11 @@ use mathlib.Core.List.{List, [], _∷_}
 use Prim.Native.Nat.{ℕ, zero, suc, _+_, _-_, _*_, _/_, _%_, _≤_, _<_}
 use native.Mathlib.Nat.{div-add-mod', div-lt-iff-lt-mul, mod-lt, mul-assoc, mul-comm, one-mul, zero-mul}
 use native.Mathlib.Omega.{arith}
-use lib.ListN.{length, take, drop, getD}
+use lib.ListN.{length, take, drop, getD, length-drop, length-append}
+use lib.Seq.{length-take-le, take-at, drop-at}
 use lib.Ieee.{Float, nan}
-use Rattle.table.specs.Shape.{size, place, table, indicesAt, tabulate, Inside, insert, without, sliceValues}
-use Rattle.table.proofs.Layouts.{radix, radix-div, radix-mod, size-tail, size-cons, size-nil, place-cons, place-below, indices-place, table-ext, getD-tabulate, length-tabulate}
+use Rattle.table.specs.Shape.{size, total, axesOf, place, table, indicesAt, tabulate, Inside, insert, without, sliceValues, nodesWithout}
+use Rattle.table.proofs.Layouts.{radix, radix-div, radix-mod, size-tail, size-cons, size-nil, place-cons, place-below, indices-place, table-ext, getD-tabulate, length-tabulate, tabulate-same}
 
 -- ---- sizes beside an axis
 pub size-split : (k : ℕ) (ns : List ℕ) → k < length ns → size ns ≡ size (take k ns) * (getD ns k 0 * size (drop (suc k) ns))
@@ -173,3 +174,52 @@ slices-comm k m i j ns vs a b li lj = table-ext (without m (without k ns)) one o
         ∙ sym (slice-law (suc m) j ns (insert k i is) vs (insert-inside k i is (without (suc m) ns) k-in i-in q2))
         ∙ sym (slice-law k i (without (suc m) ns) is (sliceValues (suc m) j ns vs) q2)
         ∙ ap (λ (l : List ℕ). table l other is) (sym e)
+
+-- ---- the nodes of what is left
+pub axes-without : (k : ℕ) (cs : List ℕ) (nodes : List Float) → k < length cs → length nodes ≡ total cs → axesOf (without k cs) (nodesWithout k cs nodes) ≡ without k (axesOf cs nodes)
+unfolding axesOf nodesWithout total
+axes-without k [] nodes h e = absurd (omega arith)
+axes-without zero (c ∷ cs) nodes h e = refl
+axes-without (suc k) (c ∷ cs) nodes h e =
+    let n : length (take c nodes) ≡ c = length-take-le c nodes (omega arith) in
+    ap₂ (λ xs ys. xs ∷ axesOf (without k cs) ys) (take-at (take c nodes) (nodesWithout k cs (drop c nodes)) c n) (drop-at (take c nodes) (nodesWithout k cs (drop c nodes)) c n)
+    ∙ ap (λ r. take c nodes ∷ r) (axes-without k cs (drop c nodes) (omega arith) (length-drop c nodes ∙ omega arith))
+
+pub total-without : (k : ℕ) (cs : List ℕ) (nodes : List Float) → k < length cs → length nodes ≡ total cs → length (nodesWithout k cs nodes) ≡ total (without k cs)
+unfolding nodesWithout total
+total-without k [] nodes h e = absurd (omega arith)
+total-without zero (c ∷ cs) nodes h e = length-drop c nodes ∙ omega arith
+total-without (suc k) (c ∷ cs) nodes h e =
+    let n : length (take c nodes) ≡ c = length-take-le c nodes (omega arith) in
+    let m : length (nodesWithout k cs (drop c nodes)) ≡ total (without k cs) = total-without k cs (drop c nodes) (omega arith) (length-drop c nodes ∙ omega arith) in
+    length-append (take c nodes) (nodesWithout k cs (drop c nodes)) ∙ omega arith
+
+-- ---- reading what was put in
+pub length-insert : {A : Type 0} (k : ℕ) (x : A) (xs : List A) → length (insert k x xs) ≡ suc (length xs)
+length-insert zero x xs = refl
+length-insert (suc k) x [] = refl
+length-insert (suc k) x (y ∷ xs) = ap suc (length-insert k x xs)
+
+pub getD-insert : {A : Type 0} (k : ℕ) (x : A) (xs : List A) (z : A) → k ≤ length xs → getD (insert k x xs) k z ≡ x
+getD-insert zero x xs z h = refl
+getD-insert (suc k) x [] z h = absurd (omega arith)
+getD-insert (suc k) x (y ∷ xs) z h = getD-insert k x xs z (omega arith)
+
+pub getD-insert-below : {A : Type 0} (k a : ℕ) (x : A) (xs : List A) (z : A) → a < k → k ≤ length xs → getD (insert k x xs) a z ≡ getD xs a z
+getD-insert-below zero a x xs z l h = absurd (omega arith)
+getD-insert-below (suc k) a x [] z l h = absurd (omega arith)
+getD-insert-below (suc k) zero x (y ∷ xs) z l h = refl
+getD-insert-below (suc k) (suc a) x (y ∷ xs) z l h = getD-insert-below k a x xs z (omega arith) (omega arith)
+
+pub getD-insert-above : {A : Type 0} (k a : ℕ) (x : A) (xs : List A) (z : A) → k ≤ a → k ≤ length xs → getD (insert k x xs) (suc a) z ≡ getD xs a z
+getD-insert-above zero a x xs z l h = refl
+getD-insert-above (suc k) a x [] z l h = absurd (omega arith)
+getD-insert-above (suc k) zero x (y ∷ xs) z l h = absurd (omega arith)
+getD-insert-above (suc k) (suc a) x (y ∷ xs) z l h = getD-insert-above k a x xs z (omega arith) (omega arith)
+
+-- a tabulated list with one number left out
+pub tabulate-insert : {A : Type 0} (n k : ℕ) (f g : ℕ → A) → k ≤ n → ((a : ℕ) → a < k → f a ≡ g a) → ((a : ℕ) → k ≤ a → a < n → f (suc a) ≡ g a) → tabulate (suc n) f ≡ insert k (f k) (tabulate n g)
+tabulate-insert n zero f g h b a = ap (λ r. f 0 ∷ r) (tabulate-same n (λ j. f (suc j)) g (λ j l. a j (omega arith) l))
+tabulate-insert zero (suc k) f g h b a = absurd (omega arith)
+tabulate-insert (suc n) (suc k) f g h b a =
+    ap₂ (λ x xs. x ∷ xs) (b 0 (omega arith)) (tabulate-insert n k (λ j. f (suc j)) (λ j. g (suc j)) (omega arith) (λ j l. b (suc j) (omega arith)) (λ j l m. a (suc j) (omega arith) (omega arith)))

@@ -1,5 +1,5 @@
 -- "Sizes": a shape's counts, and where nodes and values lie.
-use mathlib.Core.List.{List, [], _∷_}
+use mathlib.Core.List.{List, [], _∷_, _++_}
 use Prim.Native.Nat.{ℕ, zero, suc, _+_, _*_, _/_, _%_, _<_}
 use lib.ListN.{take, drop, getD}
 use lib.Ieee.{Float, nan}
@@ -72,3 +72,9 @@ without (suc k) (x ∷ xs) = x ∷ without k xs
 -- "A slice removes one axis": at node i of axis k, the value at each index list of the other axes is the table's at that list with i put in
 unfoldable pub sliceValues : ℕ → ℕ → List ℕ → List Float → List Float
 sliceValues k i counts values = tabulate (size (without k counts)) (λ t. table counts values (insert k i (indicesAt (without k counts) t)))
+
+-- "the other axes and their nodes stay, in their order"
+unfoldable pub nodesWithout : ℕ → List ℕ → List Float → List Float
+nodesWithout k [] nodes = nodes
+nodesWithout zero (n ∷ ns) nodes = drop n nodes
+nodesWithout (suc k) (n ∷ ns) nodes = take n nodes ++ nodesWithout k ns (drop n nodes)

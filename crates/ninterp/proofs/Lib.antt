@@ -13,3 +13,5 @@ pub mod Slices
 pub mod Sliced
 pub mod Lowered
 pub mod SliceLaw
+pub mod Commutes
+pub mod Refusals

@@ -51,7 +51,7 @@ range-stays k a xs q l =
     (low.lowered-when k (lt q (node xs 0)) (refused 11 a 0) (refused 11 a 0) (low.lowered-low k 11 a 0 (omega arith)))
     (λ g. low.lowered-when k (lt (node xs (length xs - 1)) q) (refused 11 a 1) (refused 11 a 1) (low.lowered-low k 11 a 1 (omega arith)))
 
-range-moves : (k a : ℕ) (xs : List Float) (q : Float) → k ≤ a → lowered k (rangeFault (suc a) xs q) ≡ rangeFault a xs q
+pub range-moves : (k a : ℕ) (xs : List Float) (q : Float) → k ≤ a → lowered k (rangeFault (suc a) xs q) ≡ rangeFault a xs q
 unfolding rangeFault
 range-moves k a xs q l =
     low.lowered-or k (when (lt q (node xs 0)) (refused 11 (suc a) 0)) (when (lt (node xs (length xs - 1)) q) (refused 11 (suc a) 1)) (when (lt q (node xs 0)) (refused 11 a 0)) (when (lt (node xs (length xs - 1)) q) (refused 11 a 1))
@@ -107,10 +107,10 @@ module _ (s : Shape) (four : length (s .counts) ≡ 4) (nodes values : List Floa
   pub axes-left : axesOf left nodes' ≡ without k grid
   axes-left = axes-without k cs nodes in-cs (t .grid .flat)
 
-  axis-below : (a : ℕ) → a < k → getD (axesOf left nodes') a [] ≡ getD grid a []
+  pub axis-below : (a : ℕ) → a < k → getD (axesOf left nodes') a [] ≡ getD grid a []
   axis-below a l = ap (λ xs. getD xs a []) axes-left ∙ getD-without-below a k grid [] l
 
-  axis-above : (a : ℕ) → k ≤ a → getD (axesOf left nodes') a [] ≡ getD grid (suc a) []
+  pub axis-above : (a : ℕ) → k ≤ a → getD (axesOf left nodes') a [] ≡ getD grid (suc a) []
   axis-above a l = ap (λ xs. getD xs a []) axes-left ∙ getD-without k a grid [] l
 
   either : (a : ℕ) → (P : Type 0) → (a < k → P) → (k ≤ a → P) → P
@@ -401,29 +401,29 @@ module _ (s : Shape) (four : length (s .counts) ≡ 4) (nodes values : List Floa
     unfolding nearestSliceFault
     front = orders.first-passed (nearestFront s nodes values k) (pointFault s nodes k p room) h
 
-    point : good (pointFault s nodes k p room) ≡ true
+    pub nearest-point : good (pointFault s nodes k p room) ≡ true
     unfolding nearestSliceFault
-    point = orders.second-passed (nearestFront s nodes values k) (pointFault s nodes k p room) h
+    nearest-point = orders.second-passed (nearestFront s nodes values k) (pointFault s nodes k p room) h
 
-    t : Sliceable s nodes values k
-    t = nearest-sliceable s four nodes values k front
+    pub nearest-t : Sliceable s nodes values k
+    nearest-t = nearest-sliceable s four nodes values k front
 
-    whole : Accepted s nodes values
-    whole = nearest-accepted s nodes values k front
+    pub nearest-whole : Accepted s nodes values
+    nearest-whole = nearest-accepted s nodes values k front
 
     axis : Axis (axisOf s nodes k)
-    axis = sliced-axis s four nodes values k t
+    axis = sliced-axis s four nodes values k nearest-t
 
-    index-in : nearestIndex (axisOf s nodes k) p < getD (countsOf s) k 0
-    index-in = sliced-index s four nodes values k t (nearestIndex (axisOf s nodes k) p) (nearest-fits (axisOf s nodes k) p axis (point-finite s nodes k p room point))
+    pub nearest-index-in : nearestIndex (axisOf s nodes k) p < getD (countsOf s) k 0
+    nearest-index-in = sliced-index s four nodes values k nearest-t (nearestIndex (axisOf s nodes k) p) (nearest-fits (axisOf s nodes k) p axis (point-finite s nodes k p room nearest-point))
 
     pub nearest-slice-law : (ps : List Float) → nearestAnswer (shapeWithout s k) (nodesWithout k (countsOf s) nodes) (ruleSlice nearestRule s nodes values k p) ps ≡ lowered k (nearestAnswer s nodes values (insert k p ps))
     unfolding ruleSlice
     nearest-slice-law ps =
-        nearest-core (shapeWithout s k) (nodesWithout k (countsOf s) nodes) (sliceValues k (nearestIndex (axisOf s nodes k) p) (countsOf s) values) ps (slice-accepted s four nodes values k (nearestIndex (axisOf s nodes k) p) t (whole .stored) index-in)
+        nearest-core (shapeWithout s k) (nodesWithout k (countsOf s) nodes) (sliceValues k (nearestIndex (axisOf s nodes k) p) (countsOf s) values) ps (slice-accepted s four nodes values k (nearestIndex (axisOf s nodes k) p) nearest-t (nearest-whole .stored) nearest-index-in)
         ∙ sym
-        (ap (lowered k) (nearest-core s nodes values (insert k p ps) whole)
-        ∙ core-left s four nodes values k (nearestIndex (axisOf s nodes k) p) t (whole .stored) index-in p ps (point-finite s nodes k p room point) (point-range s nodes k p room point) nearestRule nearestRule (λ a l. refl) (λ a l. refl) refl (λ a xs q ax f. nearest-fits xs q ax f))
+        (ap (lowered k) (nearest-core s nodes values (insert k p ps) nearest-whole)
+        ∙ core-left s four nodes values k (nearestIndex (axisOf s nodes k) p) nearest-t (nearest-whole .stored) nearest-index-in p ps (point-finite s nodes k p room nearest-point) (point-range s nodes k p room nearest-point) nearestRule nearestRule (λ a l. refl) (λ a l. refl) refl (λ a xs q ax f. nearest-fits xs q ax f))
 
 -- ---- demand 3 for Step, on any axis: the slice's lookups take the directions of the other axes
 module _ (s : Shape) (four : length (s .counts) ≡ 4) (nodes values : List Float) (directions : List ℕ) (k : ℕ) (p : Float) (room : ℕ) where
@@ -432,14 +432,14 @@ module _ (s : Shape) (four : length (s .counts) ≡ 4) (nodes values : List Floa
     unfolding stepSliceFault
     step-front = orders.first-passed (stepFront s nodes values directions k) (pointFault s nodes k p room) h
 
-    step-point : good (pointFault s nodes k p room) ≡ true
+    pub step-point : good (pointFault s nodes k p room) ≡ true
     unfolding stepSliceFault
     step-point = orders.second-passed (stepFront s nodes values directions k) (pointFault s nodes k p room) h
 
-    step-t : Sliceable s nodes values k
+    pub step-t : Sliceable s nodes values k
     step-t = step-sliceable s four nodes values k directions step-front
 
-    step-whole : Accepted s nodes values
+    pub step-whole : Accepted s nodes values
     step-whole = step-accepted s nodes values k directions step-front
 
     step-axis : Axis (axisOf s nodes k)
@@ -448,7 +448,7 @@ module _ (s : Shape) (four : length (s .counts) ≡ 4) (nodes values : List Floa
     abbrev node-of : ℕ
     node-of = stepIndex (getD directions k 0) (axisOf s nodes k) p
 
-    step-index-in : node-of < getD (countsOf s) k 0
+    pub step-index-in : node-of < getD (countsOf s) k 0
     step-index-in = sliced-index s four nodes values k step-t node-of (step-fits (axisOf s nodes k) p step-axis (point-finite s nodes k p room step-point) (getD directions k 0))
 
     lent : length directions ≡ s .axes
@@ -460,10 +460,10 @@ module _ (s : Shape) (four : length (s .counts) ≡ 4) (nodes values : List Floa
     twos : (a : ℕ) → a < length directions → getD directions a 0 < 2
     twos a l = step-all-directions s nodes values k directions step-front a l
 
-    left-lent : length (without k directions) ≡ shapeWithout s k .axes
+    pub left-lent : length (without k directions) ≡ shapeWithout s k .axes
     left-lent = left-directions s k directions lent (step-t .within)
 
-    left-good : good (directionsFault (without k directions)) ≡ true
+    pub left-good : good (directionsFault (without k directions)) ≡ true
     left-good = directions-left k directions (omega (arith, lent, step-t .within)) twos
 
     pub step-slice-law : (ps : List Float) → stepAnswer (shapeWithout s k) (nodesWithout k (countsOf s) nodes) (ruleSlice (stepRule directions) s nodes values k p) ps (without k directions) ≡ lowered k (stepAnswer s nodes values (insert k p ps) directions)

@@ -11,7 +11,7 @@ use lib.Seq.{length-take-le, getD-take}
 use lib.Ieee.{Float, nan, lt, le, sub, binary64}
 use lib.Ieee.Scale.{finite}
 use Rattle.judge.specs.Check.{node, Axis}
-use Rattle.table.specs.Shape.{size, axesOf, place, tabulate, Inside}
+use Rattle.table.specs.Shape.{size, total, axesOf, place, tabulate, Inside}
 use Rattle.table.specs.Table.{Grid}
 use Rattle.table.proofs.Shapes.{length-axes, Walk, walk-here, walk-axis, walk-on}
 use Rattle.table.proofs.Layouts.{length-tabulate, getD-tabulate, place-below, place-step, place-fits, place-done, inside-tabulate}
@@ -77,15 +77,15 @@ module _ (xs : List Float) (p : Float) (ax : Axis xs) (fp : finite p ≡ true) w
       go false = nearest-fits
 
 -- ---- the index list lies in the table, for any rule whose indexes are of their axes
-module _ (rule : ℕ → List Float → Float → ℕ) (counts : List ℕ) (nodes readings : List Float) (g : Grid counts nodes)
+module _ (rule : ℕ → List Float → Float → ℕ) (counts : List ℕ) (nodes readings : List Float) (flat : length nodes ≡ total counts)
     (fits : (a : ℕ) → a < length counts → rule a (getD (axesOf counts nodes) a []) (getD readings a nan) < length (getD (axesOf counts nodes) a [])) where
-  pub indices-inside : Inside (indices rule (axesOf counts nodes) readings) counts
+  pub list-inside : Inside (indices rule (axesOf counts nodes) readings) counts
   unfolding indices
-  indices-inside =
+  list-inside =
       inside-tabulate counts (length (axesOf counts nodes)) (λ a. rule a (getD (axesOf counts nodes) a []) (getD readings a nan)) (length-axes counts nodes)
       (λ a l.
       let m : a < length counts = omega (arith, length-axes counts nodes) in
-      omega (arith, fits a m, length-axis counts nodes (g .flat) a m))
+      omega (arith, fits a m, length-axis counts nodes flat a m))
 
 pub length-indices : (rule : ℕ → List Float → Float → ℕ) (counts : List ℕ) (nodes readings : List Float) → length (indices rule (axesOf counts nodes) readings) ≡ length counts
 unfolding indices
@@ -114,7 +114,7 @@ module _ (C : List ℕ) (axes : ℕ) (nodes : List Float) (picks : List ℕ) (re
 
   pub picks-inside : Inside is cs
   picks-inside =
-      indices-inside (pickRule picks) cs nodes readings g
+      list-inside (pickRule picks) cs nodes readings (g .flat)
       (λ a l. pick-fits (getD (axesOf cs nodes) a []) (getD readings a nan) (g .axes a l) (finites a (omega (arith, count-cs))) (getD picks a 0))
 
   full-below : place cs is < size cs

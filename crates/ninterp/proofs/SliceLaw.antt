@@ -21,27 +21,16 @@ use Rattle.table.specs.Table.{shapeFault, lengthFault, frameFault, axesFault, v
 use Rattle.table.specs.declared.Shape.{Shape}
 use Rattle.table.proofs.Shapes.{length-axes}
 use Rattle.table.proofs.Tables.{product-fine, length-same, length-differs, length-passed, value-good, value-passed}
-use Rattle.table.proofs.Layouts.{length-tabulate, getD-tabulate, place-below, indices-inside, inside-tabulate}
+use Rattle.table.proofs.Layouts.{length-tabulate, getD-tabulate, place-below, indices-inside}
 use Rattle.table.proofs.Removals.{size-split, size-without, length-without, getD-without, getD-without-below, length-slice, axes-without, total-without, insert-inside, length-insert, getD-insert, getD-insert-below, getD-insert-above, tabulate-insert, slice-law}
 use Rattle.table.proofs.Grids.{length-axis, readings-finite}
 use Rattle.ninterp.specs.Utils.{stepIndex}
 use Rattle.ninterp.specs.Tables.{nearestIndex, indices, picked, nearestRule, stepRule, lookupFault, stepFault, nearestAnswer, stepAnswer}
 use Rattle.ninterp.specs.Slices.{axisOf, noAxisFault, shapeWithout, pointFault, nearestFront, stepFront, nearestSliceFault, stepSliceFault, ruleSlice, lowered}
-use Rattle.ninterp.proofs.Picks.{step-fits, nearest-fits}
+use Rattle.ninterp.proofs.Picks.{step-fits, nearest-fits, list-inside}
 use Rattle.ninterp.proofs.Sliced.{Sliceable, nearest-sliceable, step-sliceable, step-axis-lent, point-finite, point-range}
 use Rattle.ninterp.proofs.Lowered as low
 use Rattle.ninterp.proofs.Demands.{Accepted}
-
--- ---- an index list of a rule whose indexes are of their axes
-list-inside : (rule : ℕ → List Float → Float → ℕ) (counts : List ℕ) (nodes readings : List Float) → length nodes ≡ total counts
-    → ((a : ℕ) → a < length counts → rule a (getD (axesOf counts nodes) a []) (getD readings a nan) < length (getD (axesOf counts nodes) a []))
-    → Inside (indices rule (axesOf counts nodes) readings) counts
-unfolding indices
-list-inside rule counts nodes readings e fits =
-    inside-tabulate counts (length (axesOf counts nodes)) (λ a. rule a (getD (axesOf counts nodes) a []) (getD readings a nan)) (length-axes counts nodes)
-    (λ a l.
-    let m : a < length counts = omega (arith, length-axes counts nodes) in
-    omega (arith, fits a m, length-axis counts nodes e a m))
 
 -- ---- 11 of one axis, lowered
 range-stays : (k a : ℕ) (xs : List Float) (q : Float) → a < k → lowered k (rangeFault a xs q) ≡ rangeFault a xs q

@@ -47,8 +47,28 @@ range-moves k a xs q l =
     (low.lowered-when k (lt q (node xs 0)) (refused 11 (suc a) 0) (refused 11 a 0) (low.lowered-high k 11 a 0 refl l))
     (λ g. low.lowered-when k (lt (node xs (length xs - 1)) q) (refused 11 (suc a) 1) (refused 11 a 1) (low.lowered-high k 11 a 1 refl l))
 
+-- ---- what is known of a slice that was made
+pub record Made (s : Shape) (nodes values : List Float) (k : ℕ) (p : Float) (rule : ℕ → List Float → Float → ℕ) : Type 0 where
+  pub sliceable : Sliceable s nodes values k
+  pub whole : Accepted s nodes values
+  pub finite-point : finite p ≡ true
+  pub in-range : good (rangeFault k (axisOf s nodes k) p) ≡ true
+  pub index-in : rule k (axisOf s nodes k) p < getD (countsOf s) k 0
+
 -- ---- the table that is left
-module _ (s : Shape) (four : length (s .counts) ≡ 4) (nodes values : List Float) (k i : ℕ) (t : Sliceable s nodes values k) (finites : good (valuesFault values) ≡ true) (il : i < getD (countsOf s) k 0) where
+module _ (s : Shape) (four : length (s .counts) ≡ 4) (nodes values : List Float) (k : ℕ) (p : Float) (rule : ℕ → List Float → Float → ℕ) (made : Made s nodes values k p rule) where
+  t : Sliceable s nodes values k
+  t = made .sliceable
+
+  finites : good (valuesFault values) ≡ true
+  finites = made .whole .stored
+
+  abbrev i : ℕ
+  i = rule k (axisOf s nodes k) p
+
+  il : i < getD (countsOf s) k 0
+  il = made .index-in
+
   abbrev cs : List ℕ
   cs = countsOf s
 
@@ -183,8 +203,7 @@ module _ (s : Shape) (four : length (s .counts) ≡ 4) (nodes values : List Floa
   slice-accepted = record { frame = frame-good; axes = axes-good; stored = values-good }
 
   -- ---- the same reading of the slice and of the whole table
-  module _ (p : Float) (ps : List Float) (fp : finite p ≡ true) (inside : good (rangeFault k (getD grid k []) p) ≡ true)
-      (rule rule' : ℕ → List Float → Float → ℕ) (below : (a : ℕ) → a < k → rule a ≡ rule' a) (above : (a : ℕ) → k ≤ a → rule (suc a) ≡ rule' a) (index : rule k (getD grid k []) p ≡ i)
+  module _ (ps : List Float) (rule' : ℕ → List Float → Float → ℕ) (below : (a : ℕ) → a < k → rule a ≡ rule' a) (above : (a : ℕ) → k ≤ a → rule (suc a) ≡ rule' a)
       (fits : (a : ℕ) (xs : List Float) (q : Float) → Axis xs → finite q ≡ true → rule' a xs q < length xs) where
     abbrev all : List Float
     all = insert k p ps
@@ -220,7 +239,7 @@ module _ (s : Shape) (four : length (s .counts) ≡ 4) (nodes values : List Floa
       readings-lowered =
           ap (λ (m : ℕ). lowered k (firstOf (λ a. readingFault a (getD all a nan)) 0 m)) (length-insert k p ps)
           ∙ low.left-out k (λ a. readingFault a (getD all a nan)) (λ a. readingFault a (getD ps a nan)) (length ps)
-          (orders.passed-fine (readingFault k (getD all k nan)) (reading-fine k (getD all k nan) (ap finite at-k ∙ fp))) reading-low reading-high k-in
+          (orders.passed-fine (readingFault k (getD all k nan)) (reading-fine k (getD all k nan) (ap finite at-k ∙ made .finite-point))) reading-low reading-high k-in
 
       range-low : (a : ℕ) → a < k → lowered k (rangeFault a (getD grid a []) (getD all a nan)) ≡ rangeFault a (getD (axesOf left nodes') a []) (getD ps a nan)
       range-low a l = range-stays k a (getD grid a []) (getD all a nan) l ∙ ap₂ (rangeFault a) (sym (axis-below a l)) (getD-insert-below k a p ps nan l k-in)
@@ -236,7 +255,7 @@ module _ (s : Shape) (four : length (s .counts) ≡ 4) (nodes values : List Floa
       ranges-lowered =
           ap (λ (m : ℕ). lowered k (firstOf (λ a. rangeFault a (getD grid a []) (getD all a nan)) 0 m)) count-all
           ∙ low.left-out k (λ a. rangeFault a (getD grid a []) (getD all a nan)) (λ a. rangeFault a (getD (axesOf left nodes') a []) (getD ps a nan)) (length left)
-          (subst (λ (x : Float). good (rangeFault k (getD grid k []) x) ≡ true) (sym at-k) inside) range-low range-high (omega (arith, k-in))
+          (subst (λ (x : Float). good (rangeFault k (getD grid k []) x) ≡ true) (sym at-k) (made .in-range)) range-low range-high (omega (arith, k-in))
 
       -- the index list of the whole reading is the slice's with the index put in
       indices-all : indices rule grid all ≡ insert k i (indices rule' (axesOf left nodes') ps)
@@ -246,7 +265,7 @@ module _ (s : Shape) (four : length (s .counts) ≡ 4) (nodes values : List Floa
           ∙ tabulate-insert (length left) k (λ a. rule a (getD grid a []) (getD all a nan)) (λ a. rule' a (getD (axesOf left nodes') a []) (getD ps a nan)) (omega (arith, k-in))
           (λ a l. ap (λ r. r (getD grid a []) (getD all a nan)) (below a l) ∙ ap₂ (rule' a) (sym (axis-below a l)) (getD-insert-below k a p ps nan l k-in))
           (λ a l m. ap (λ r. r (getD grid (suc a) []) (getD all (suc a) nan)) (above a l) ∙ ap₂ (rule' a) (sym (axis-above a l)) (getD-insert-above k a p ps nan l k-in))
-          ∙ ap₂ (λ (x m : ℕ). insert k x (tabulate m (λ a. rule' a (getD (axesOf left nodes') a []) (getD ps a nan)))) (ap (rule k (getD grid k [])) at-k ∙ index) (sym (length-axes left nodes'))
+          ∙ ap₂ (λ (x m : ℕ). insert k x (tabulate m (λ a. rule' a (getD (axesOf left nodes') a []) (getD ps a nan)))) (ap (rule k (getD grid k [])) at-k) (sym (length-axes left nodes'))
 
       same-value : ((a : ℕ) → a < length ps → finite (getD ps a nan) ≡ true) → picked rule cs nodes values all ≡ picked rule' left nodes' values' ps
       unfolding picked
@@ -384,84 +403,85 @@ unfolding shapeWithout
 left-directions s k directions e h = omega (arith, length-without k directions (omega arith))
 
 -- ---- demand 3 for Nearest, on any axis
-module _ (s : Shape) (four : length (s .counts) ≡ 4) (nodes values : List Float) (k : ℕ) (p : Float) (room : ℕ) where
-  module _ (h : good (nearestSliceFault s nodes values k p room) ≡ true) where
-    front : good (nearestFront s nodes values k) ≡ true
-    unfolding nearestSliceFault
-    front = orders.first-passed (nearestFront s nodes values k) (pointFault s nodes k p room) h
+module _ (s : Shape) (four : length (s .counts) ≡ 4) (nodes values : List Float) (k : ℕ) (p : Float) (room : ℕ) (h : good (nearestSliceFault s nodes values k p room) ≡ true) where
+  front : good (nearestFront s nodes values k) ≡ true
+  unfolding nearestSliceFault
+  front = orders.first-passed (nearestFront s nodes values k) (pointFault s nodes k p room) h
 
-    pub nearest-point : good (pointFault s nodes k p room) ≡ true
-    unfolding nearestSliceFault
-    nearest-point = orders.second-passed (nearestFront s nodes values k) (pointFault s nodes k p room) h
+  point : good (pointFault s nodes k p room) ≡ true
+  unfolding nearestSliceFault
+  point = orders.second-passed (nearestFront s nodes values k) (pointFault s nodes k p room) h
 
-    pub nearest-t : Sliceable s nodes values k
-    nearest-t = nearest-sliceable s four nodes values k front
+  pub nearest-made : Made s nodes values k p nearestRule
+  nearest-made =
+      let t : Sliceable s nodes values k = nearest-sliceable s four nodes values k front in
+      let f : finite p ≡ true = point-finite s nodes k p room point in
+      record {
+        sliceable = t;
+        whole = nearest-accepted s nodes values k front;
+        finite-point = f;
+        in-range = point-range s nodes k p room point;
+        index-in = sliced-index s four nodes values k t (nearestIndex (axisOf s nodes k) p) (nearest-fits (axisOf s nodes k) p (sliced-axis s four nodes values k t) f);
+      }
 
-    pub nearest-whole : Accepted s nodes values
-    nearest-whole = nearest-accepted s nodes values k front
+  pub nearest-slice-law : (ps : List Float) → nearestAnswer (shapeWithout s k) (nodesWithout k (countsOf s) nodes) (ruleSlice nearestRule s nodes values k p) ps ≡ lowered k (nearestAnswer s nodes values (insert k p ps))
+  unfolding ruleSlice
+  nearest-slice-law ps =
+      nearest-core (shapeWithout s k) (nodesWithout k (countsOf s) nodes) (sliceValues k (nearestIndex (axisOf s nodes k) p) (countsOf s) values) ps (slice-accepted s four nodes values k p nearestRule nearest-made)
+      ∙ sym
+      (ap (lowered k) (nearest-core s nodes values (insert k p ps) (nearest-made .whole))
+      ∙ core-left s four nodes values k p nearestRule nearest-made ps nearestRule (λ a l. refl) (λ a l. refl) (λ a xs q ax f. nearest-fits xs q ax f))
 
-    axis : Axis (axisOf s nodes k)
-    axis = sliced-axis s four nodes values k nearest-t
-
-    pub nearest-index-in : nearestIndex (axisOf s nodes k) p < getD (countsOf s) k 0
-    nearest-index-in = sliced-index s four nodes values k nearest-t (nearestIndex (axisOf s nodes k) p) (nearest-fits (axisOf s nodes k) p axis (point-finite s nodes k p room nearest-point))
-
-    pub nearest-slice-law : (ps : List Float) → nearestAnswer (shapeWithout s k) (nodesWithout k (countsOf s) nodes) (ruleSlice nearestRule s nodes values k p) ps ≡ lowered k (nearestAnswer s nodes values (insert k p ps))
-    unfolding ruleSlice
-    nearest-slice-law ps =
-        nearest-core (shapeWithout s k) (nodesWithout k (countsOf s) nodes) (sliceValues k (nearestIndex (axisOf s nodes k) p) (countsOf s) values) ps (slice-accepted s four nodes values k (nearestIndex (axisOf s nodes k) p) nearest-t (nearest-whole .stored) nearest-index-in)
-        ∙ sym
-        (ap (lowered k) (nearest-core s nodes values (insert k p ps) nearest-whole)
-        ∙ core-left s four nodes values k (nearestIndex (axisOf s nodes k) p) nearest-t (nearest-whole .stored) nearest-index-in p ps (point-finite s nodes k p room nearest-point) (point-range s nodes k p room nearest-point) nearestRule nearestRule (λ a l. refl) (λ a l. refl) refl (λ a xs q ax f. nearest-fits xs q ax f))
+pub step-same : {d e : ℕ} → d ≡ e → _≡_ {A = List Float → Float → ℕ} (λ xs q. stepIndex d xs q) (λ xs q. stepIndex e xs q)
+step-same h = ap {B = List Float → Float → ℕ} (λ (d : ℕ). λ xs q. stepIndex d xs q) h
 
 -- ---- demand 3 for Step, on any axis: the slice's lookups take the directions of the other axes
-module _ (s : Shape) (four : length (s .counts) ≡ 4) (nodes values : List Float) (directions : List ℕ) (k : ℕ) (p : Float) (room : ℕ) where
-  module _ (h : good (stepSliceFault s nodes values directions k p room) ≡ true) where
-    step-front : good (stepFront s nodes values directions k) ≡ true
-    unfolding stepSliceFault
-    step-front = orders.first-passed (stepFront s nodes values directions k) (pointFault s nodes k p room) h
+module _ (s : Shape) (four : length (s .counts) ≡ 4) (nodes values : List Float) (directions : List ℕ) (k : ℕ) (p : Float) (room : ℕ) (h : good (stepSliceFault s nodes values directions k p room) ≡ true) where
+  step-front : good (stepFront s nodes values directions k) ≡ true
+  unfolding stepSliceFault
+  step-front = orders.first-passed (stepFront s nodes values directions k) (pointFault s nodes k p room) h
 
-    pub step-point : good (pointFault s nodes k p room) ≡ true
-    unfolding stepSliceFault
-    step-point = orders.second-passed (stepFront s nodes values directions k) (pointFault s nodes k p room) h
+  step-point : good (pointFault s nodes k p room) ≡ true
+  unfolding stepSliceFault
+  step-point = orders.second-passed (stepFront s nodes values directions k) (pointFault s nodes k p room) h
 
-    pub step-t : Sliceable s nodes values k
-    step-t = step-sliceable s four nodes values k directions step-front
+  abbrev node-of : ℕ
+  node-of = stepIndex (getD directions k 0) (axisOf s nodes k) p
 
-    pub step-whole : Accepted s nodes values
-    step-whole = step-accepted s nodes values k directions step-front
+  pub step-made : Made s nodes values k p (stepRule directions)
+  step-made =
+      let t : Sliceable s nodes values k = step-sliceable s four nodes values k directions step-front in
+      let f : finite p ≡ true = point-finite s nodes k p room step-point in
+      record {
+        sliceable = t;
+        whole = step-accepted s nodes values k directions step-front;
+        finite-point = f;
+        in-range = point-range s nodes k p room step-point;
+        index-in = sliced-index s four nodes values k t node-of (step-fits (axisOf s nodes k) p (sliced-axis s four nodes values k t) f (getD directions k 0));
+      }
 
-    step-axis : Axis (axisOf s nodes k)
-    step-axis = sliced-axis s four nodes values k step-t
+  lent : length directions ≡ s .axes
+  lent = step-axis-lent s four nodes values k directions step-front
 
-    abbrev node-of : ℕ
-    node-of = stepIndex (getD directions k 0) (axisOf s nodes k) p
+  lent-good : good (lengthFault 3 (s .axes) (length directions)) ≡ true
+  lent-good = orders.passed-fine (lengthFault 3 (s .axes) (length directions)) (length-same 3 (s .axes) (length directions) lent)
 
-    pub step-index-in : node-of < getD (countsOf s) k 0
-    step-index-in = sliced-index s four nodes values k step-t node-of (step-fits (axisOf s nodes k) p step-axis (point-finite s nodes k p room step-point) (getD directions k 0))
+  twos : (a : ℕ) → a < length directions → getD directions a 0 < 2
+  twos a l = step-all-directions s nodes values k directions step-front a l
 
-    lent : length directions ≡ s .axes
-    lent = step-axis-lent s four nodes values k directions step-front
+  -- the directions of the other axes are those of the slice
+  pub left-lent : good (lengthFault 3 (shapeWithout s k .axes) (length (without k directions))) ≡ true
+  left-lent = orders.passed-fine (lengthFault 3 (shapeWithout s k .axes) (length (without k directions))) (length-same 3 (shapeWithout s k .axes) (length (without k directions)) (left-directions s k directions lent (step-made .sliceable .within)))
 
-    lent-good : good (lengthFault 3 (s .axes) (length directions)) ≡ true
-    lent-good = orders.passed-fine (lengthFault 3 (s .axes) (length directions)) (length-same 3 (s .axes) (length directions) lent)
+  pub left-good : good (directionsFault (without k directions)) ≡ true
+  left-good = directions-left k directions (omega (arith, lent, step-made .sliceable .within)) twos
 
-    twos : (a : ℕ) → a < length directions → getD directions a 0 < 2
-    twos a l = step-all-directions s nodes values k directions step-front a l
-
-    pub left-lent : length (without k directions) ≡ shapeWithout s k .axes
-    left-lent = left-directions s k directions lent (step-t .within)
-
-    pub left-good : good (directionsFault (without k directions)) ≡ true
-    left-good = directions-left k directions (omega (arith, lent, step-t .within)) twos
-
-    pub step-slice-law : (ps : List Float) → stepAnswer (shapeWithout s k) (nodesWithout k (countsOf s) nodes) (ruleSlice (stepRule directions) s nodes values k p) ps (without k directions) ≡ lowered k (stepAnswer s nodes values (insert k p ps) directions)
-    unfolding ruleSlice
-    step-slice-law ps =
-        step-core (shapeWithout s k) (nodesWithout k (countsOf s) nodes) (sliceValues k node-of (countsOf s) values) ps (slice-accepted s four nodes values k node-of step-t (step-whole .stored) step-index-in) (without k directions)
-        (orders.passed-fine (lengthFault 3 (shapeWithout s k .axes) (length (without k directions))) (length-same 3 (shapeWithout s k .axes) (length (without k directions)) left-lent)) left-good
-        ∙ sym
-        (ap (lowered k) (step-core s nodes values (insert k p ps) step-whole directions lent-good (directions-all directions twos))
-        ∙ core-left s four nodes values k node-of step-t (step-whole .stored) step-index-in p ps (point-finite s nodes k p room step-point) (point-range s nodes k p room step-point) (stepRule directions) (stepRule (without k directions))
-        (λ a l. ap {B = List Float → Float → ℕ} (λ (d : ℕ). λ xs q. stepIndex d xs q) (sym (getD-without-below a k directions 0 l))) (λ a l. ap {B = List Float → Float → ℕ} (λ (d : ℕ). λ xs q. stepIndex d xs q) (sym (getD-without k a directions 0 l))) refl
-        (λ a xs q ax f. step-fits xs q ax f (getD (without k directions) a 0)))
+  pub step-slice-law : (ps : List Float) → stepAnswer (shapeWithout s k) (nodesWithout k (countsOf s) nodes) (ruleSlice (stepRule directions) s nodes values k p) ps (without k directions) ≡ lowered k (stepAnswer s nodes values (insert k p ps) directions)
+  unfolding ruleSlice
+  step-slice-law ps =
+      step-core (shapeWithout s k) (nodesWithout k (countsOf s) nodes) (sliceValues k node-of (countsOf s) values) ps (slice-accepted s four nodes values k p (stepRule directions) step-made) (without k directions) left-lent left-good
+      ∙ sym
+      (ap (lowered k) (step-core s nodes values (insert k p ps) (step-made .whole) directions lent-good (directions-all directions twos))
+      ∙ core-left s four nodes values k p (stepRule directions) step-made ps (stepRule (without k directions))
+      (λ a l. step-same (sym (getD-without-below a k directions 0 l))) (λ a l. step-same (sym (getD-without k a directions 0 l)))
+      (λ a xs q ax f. step-fits xs q ax f (getD (without k directions) a 0)))

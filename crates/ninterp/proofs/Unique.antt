@@ -1,5 +1,8 @@
 -- Each contract of a public function, as it stands in the source (`Post`), allows one outcome.
 use mathlib.Core.Path.{_≡_}
+use mathlib.Core.List.{List}
+use denote.Ref.{now}
+use lib.Ieee.{Float}
 use Rattle.answer.proofs.Outcome.{one-outcome}
 use Rattle.answer.specs.declared.Answer.{Answer}
 use Rattle.ninterp.specs.declared.strategy.utils.IndexAnswer.{IndexAnswer}
@@ -50,3 +53,10 @@ nearest-slice-unique κs a r s x y p q = one-outcome r s _ (p .0) (q .0)
 
 pub step-slice-unique : (κs : _) (a : _) (r s : SliceAnswer) (x y : _) → step-slice.Post κs a r x → step-slice.Post κs a s y → r ≡ s
 step-slice-unique κs a r s x y p q = one-outcome r s _ (p .0) (q .0)
+
+-- what the output holds at the end
+pub nearest-slice-output : (κs : _) (a : _) (r s : SliceAnswer) (x y : _) → nearest-slice.Post κs a r x → nearest-slice.Post κs a s y → _≡_ {A = List Float} (now (x .1 .1 .1 .1 .1 .0)) (now (y .1 .1 .1 .1 .1 .0))
+nearest-slice-output κs a r s x y p q = one-outcome (now (x .1 .1 .1 .1 .1 .0)) (now (y .1 .1 .1 .1 .1 .0)) _ (p .1) (q .1)
+
+pub step-slice-output : (κs : _) (a : _) (r s : SliceAnswer) (x y : _) → step-slice.Post κs a r x → step-slice.Post κs a s y → _≡_ {A = List Float} (now (x .1 .1 .1 .1 .1 .1 .0)) (now (y .1 .1 .1 .1 .1 .1 .0))
+step-slice-output κs a r s x y p q = one-outcome (now (x .1 .1 .1 .1 .1 .1 .0)) (now (y .1 .1 .1 .1 .1 .1 .0)) _ (p .1) (q .1)

@@ -1,5 +1,5 @@
 -- Laws of orders of checks: what `or`, `when`, `given` and `firstOf` come to, once it is known which fault is there.
-use mathlib.Core.Path.{_≡_, refl, sym, ap, _∙_, subst}
+use mathlib.Core.Path.{_≡_, refl, sym, ap, ap₂, _∙_, subst}
 use mathlib.Core.Bool.{Bool, true, false, not, cond}
 use Prim.Native.Nat.{ℕ, zero, suc, _+_, _-_, _≤_, _<_}
 use mathlib.Core.Logic.{_⊎_, inl, inr}
@@ -9,8 +9,9 @@ use native.Mathlib.Omega.{arith}
 use borrow.Author.Tests.{eq-eqb, ne-eqb}
 use lib.Dec.{T, eqb}
 use lib.Ieee.{Float}
-use Rattle.answer.specs.Answer.{plusZero, refused, answered, fine, good, when, _or_, firstOf, given}
+use Rattle.answer.specs.Answer.{plusZero, refused, answered, fine, good, when, _or_, firstOf, given, indexAnswer}
 use Rattle.answer.specs.declared.Answer.{Answer}
+use Rattle.answer.specs.declared.IndexAnswer.{IndexAnswer}
 
 pub clash : {A : Type 0} (b : Bool) → b ≡ true → b ≡ false → A
 clash b p q = absurd (subst T (sym p ∙ q) tt)
@@ -207,3 +208,13 @@ module _ (r a : Answer) (e : r ≡ a) where
 
     pub given-kept : (y : A) → r .number ≡ 0 → y ≡ x → y ≡ given a x zeros
     given-kept y h q = q ∙ sym (given-good a x zeros (passes r a e h))
+
+-- ---- an answer with an index
+module _ (r a : Answer) (e : r ≡ a) where
+  pub index-refused : (i : ℕ) → (r .number ≡ 0 → ⊥) → _≡_ {A = IndexAnswer} (record { answer = r; index = 0 }) (indexAnswer a i)
+  unfolding indexAnswer
+  index-refused i h = ap₂ (λ (b : Answer) (k : ℕ). record { answer = b; index = k }) e (given-refused r a e i 0 h)
+
+  pub index-given : (j i : ℕ) → r .number ≡ 0 → j ≡ i → _≡_ {A = IndexAnswer} (record { answer = r; index = j }) (indexAnswer a i)
+  unfolding indexAnswer
+  index-given j i h q = ap₂ (λ (b : Answer) (k : ℕ). record { answer = b; index = k }) e (given-kept r a e i 0 j h q)

@@ -5,6 +5,7 @@ use lib.Dec.{eqb}
 use lib.IntN.{pos}
 use lib.Ieee.{Float, fin}
 use Rattle.answer.specs.declared.Answer.{Answer}
+use Rattle.answer.specs.declared.IndexAnswer.{IndexAnswer}
 
 -- +0.0
 abbrev pub plusZero : Float
@@ -43,3 +44,7 @@ firstOf fault i (suc k) = fault i or firstOf fault (suc i) k
 -- what a call gives besides its answer: "any index, fraction or shape it would give is zero" on a refusal
 unfoldable pub given : {A : Type 0} → Answer → A → A → A
 given a x zeros = cond (good a) x zeros
+
+-- an answer with an index
+unfoldable pub indexAnswer : Answer → ℕ → IndexAnswer
+indexAnswer a i = record { answer = a; index = given a i 0 }

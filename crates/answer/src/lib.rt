@@ -9,6 +9,12 @@ pub struct Answer {
     pub value: f64,
 }
 
+// An answer with an index; on a refusal the index is 0.
+pub struct IndexAnswer {
+    pub answer: Answer,
+    pub index: usize,
+}
+
 // A refusal: its number, axis and place, and the value +0.0.
 pub fn refuse(number: u32, axis: usize, place: usize) -> Answer
     ensures { λ r. ⌜ r ≡ refused number axis place ⌝ }

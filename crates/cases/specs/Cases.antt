@@ -5,16 +5,18 @@ use mathlib.Core.List.{List, [], _∷_, map}
 use Prim.Native.Nat.{ℕ, _+_, _-_, _^_}
 use lib.IntN.{pos, negsuc}
 use lib.Ieee.{Float, fin, binary64, ofInt, toUnsigned, lt, le, eq, sub, mul, div}
-use Rattle.answer.specs.Answer.{refused, answered, fine, good, when, _or_, firstOf, given}
+use Rattle.answer.specs.Answer.{refused, answered, fine, good, when, _or_, firstOf, given, indexAnswer}
 use Rattle.answer.specs.declared.Answer.{Answer}
+use Rattle.answer.specs.declared.IndexAnswer.{IndexAnswer}
 use Rattle.judge.specs.Check.{gap, countFault, riseFault, nodeFault, nodesFault, axisFault, finiteFault, lentStepFault, directionFault, readingFault, resultFault}
-use Rattle.ninterp.specs.Utils.{howMany, lowerIndex, exactNode, fraction, axisLocation, lowerStep, upperStep, stepIndex, uniformCell, uniformIndex, apart, gapFault, uniformFault, toleranceOf}
-use Rattle.ninterp.specs.Calls.{indexAnswer, axisAnswer, axisReadingFault, directedFault, uniformReadFault, locateLowerIndex, locateAxis, locateStepIndex, locateLowerIndexUniform, validateUniformGridEpsilon}
+use Rattle.uniform.specs.Uniform.{uniformCell, uniformIndex, apart, gapFault, uniformFault, toleranceOf}
+use Rattle.uniform.specs.Calls.{uniformReadFault, locateLowerIndexUniform, validateUniformGridEpsilon}
+use Rattle.uniform.specs.declared.Tolerance.the-variants.{Default}
+use Rattle.ninterp.specs.Utils.{howMany, lowerIndex, exactNode, fraction, axisLocation, lowerStep, upperStep, stepIndex}
+use Rattle.ninterp.specs.Calls.{axisAnswer, axisReadingFault, directedFault, locateLowerIndex, locateAxis, locateStepIndex}
 use Rattle.ninterp.specs.Tables.{nearestIndex}
 use Rattle.ninterp.specs.declared.strategy.utils.AxisLocation.{AxisLocation}
 use Rattle.ninterp.specs.declared.strategy.utils.AxisLocation.the-variants.{Exact, Between}
-use Rattle.ninterp.specs.declared.strategy.utils.Tolerance.the-variants.{Default}
-use Rattle.ninterp.specs.declared.strategy.utils.IndexAnswer.{IndexAnswer}
 use Rattle.ninterp.specs.declared.strategy.utils.AxisAnswer.{AxisAnswer}
 
 -- what a call tells

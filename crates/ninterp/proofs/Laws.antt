@@ -12,15 +12,16 @@ use lib.IntN.{pos}
 use lib.ListN.{length}
 use lib.Ieee.{Float, nan, inf, fin, binary64, lt, le, eq, sub, div, ofInt, toUnsigned, fits}
 use lib.Ieee.Scale.{finite}
-use Rattle.answer.specs.Answer.{plusZero, good, given}
+use Rattle.answer.specs.Answer.{plusZero, good, given, indexAnswer}
 use Rattle.answer.specs.declared.Answer.{Answer}
 use Rattle.answer.proofs.Orders.{clash, given-bad}
 use Rattle.binary64.proofs.Order as order
 use Rattle.binary64.proofs.Difference.{sub-above, sub-not-below, sub-keeps-order}
 use Rattle.binary64.proofs.Quotient.{Unit, unit-finite, div-unit}
 use Rattle.judge.specs.Check.{node, gap, Axis}
-use Rattle.ninterp.specs.Utils.{howMany, countBelow, lowerIndex, exactNode, fraction, axisLocation, lowerStep, upperStep, uniformIndex, uniformCell}
-use Rattle.ninterp.specs.Calls.{indexOf, locationIndex, locationFraction, indexAnswer, exactAnswer, axisAnswer}
+use Rattle.uniform.specs.Uniform.{uniformIndex, uniformCell}
+use Rattle.ninterp.specs.Utils.{howMany, countBelow, lowerIndex, exactNode, fraction, axisLocation, lowerStep, upperStep}
+use Rattle.ninterp.specs.Calls.{indexOf, locationIndex, locationFraction, exactAnswer, axisAnswer}
 use Rattle.ninterp.specs.declared.strategy.utils.MaybeIndex.{MaybeIndex}
 use Rattle.ninterp.specs.declared.strategy.utils.MaybeIndex.the-variants.{Some, None}
 use Rattle.ninterp.specs.declared.strategy.utils.AxisLocation.{AxisLocation}

@@ -7,22 +7,21 @@ use native.Mathlib.Omega.{arith}
 use borrow.Author.Tests.{lt-ltb, le-ltb, ltb-true}
 use lib.Dec.{ltb}
 use lib.ListN.{length}
-use lib.Ieee.{Float, binary64, lt, eq, sub, div}
+use lib.Ieee.{Float, eq}
 use lib.Ieee.Scale.{finite}
 use Rattle.answer.specs.Answer.{plusZero, refused, fine, good, when, _or_, given}
 use Rattle.answer.specs.declared.Answer.{Answer}
 use Rattle.answer.proofs.Orders as orders
-use Rattle.judge.specs.Check.{node, gap, countFault, finiteFault, axisFault, lentStepFault, directionFault, readingFault, Axis}
-use Rattle.ninterp.specs.Utils.{lowerIndex, exactNode, fraction, axisLocation, locationAt, apart, gapFault}
-use Rattle.ninterp.specs.Calls.{indexAnswer, exactAnswer, axisAnswer, axisReadingFault, directedFault, lowerFault, exactFault, uniformReadFault}
+use Rattle.judge.specs.Check.{node, axisFault, directionFault, readingFault, Axis}
+use Rattle.ninterp.specs.Utils.{lowerIndex, exactNode, fraction, axisLocation, locationAt}
+use Rattle.ninterp.specs.Calls.{exactAnswer, axisAnswer, axisReadingFault, directedFault, lowerFault, exactFault}
 use Rattle.ninterp.specs.declared.strategy.utils.MaybeIndex.{MaybeIndex}
 use Rattle.ninterp.specs.declared.strategy.utils.MaybeIndex.the-variants.{Some, None}
 use Rattle.ninterp.specs.declared.strategy.utils.AxisLocation.{AxisLocation}
 use Rattle.ninterp.specs.declared.strategy.utils.AxisLocation.the-variants.{Exact, Between}
-use Rattle.ninterp.specs.declared.strategy.utils.IndexAnswer.{IndexAnswer}
 use Rattle.ninterp.specs.declared.strategy.utils.ExactAnswer.{ExactAnswer}
 use Rattle.ninterp.specs.declared.strategy.utils.AxisAnswer.{AxisAnswer}
-use Rattle.judge.proofs.Rows.{axis-of, reading-finite, count-enough}
+use Rattle.judge.proofs.Rows.{axis-of, reading-finite}
 
 -- ---- the node of a cell that equals the reading
 module _ (nodes : List Float) (lower : ℕ) (p : Float) where
@@ -52,14 +51,6 @@ module _ (nodes : List Float) (p : Float) (l : ℕ) (e : l ≡ lowerIndex nodes 
 
 -- ---- an answer with what it gives
 module _ (r a : Answer) (e : r ≡ a) where
-  pub index-refused : (i : ℕ) → (r .number ≡ 0 → ⊥) → _≡_ {A = IndexAnswer} (record { answer = r; index = 0 }) (indexAnswer a i)
-  unfolding indexAnswer
-  index-refused i h = ap₂ (λ (b : Answer) (k : ℕ). record { answer = b; index = k }) e (orders.given-refused r a e i 0 h)
-
-  pub index-given : (j i : ℕ) → r .number ≡ 0 → j ≡ i → _≡_ {A = IndexAnswer} (record { answer = r; index = j }) (indexAnswer a i)
-  unfolding indexAnswer
-  index-given j i h q = ap₂ (λ (b : Answer) (k : ℕ). record { answer = b; index = k }) e (orders.given-kept r a e i 0 j h q)
-
   pub exact-refused : (i : MaybeIndex) → (r .number ≡ 0 → ⊥) → _≡_ {A = ExactAnswer} (record { answer = r; index = None }) (exactAnswer a i)
   unfolding exactAnswer
   exact-refused i h = ap₂ (λ (b : Answer) (k : MaybeIndex). record { answer = b; index = k }) e (orders.given-refused r a e i None h)
@@ -124,26 +115,3 @@ unfolding exactFault
 exact-within nodes lower p h =
     within nodes lower
     (orders.first-passed (lowerFault nodes lower) (readingFault 0 p) (orders.second-passed (axisFault nodes) (lowerFault nodes lower or readingFault 0 p) h))
-
-pub uniform-enough : (first step : Float) (n : ℕ) (p : Float) → good (uniformReadFault first step n p) ≡ true → 2 ≤ n
-unfolding uniformReadFault
-uniform-enough first step n p h =
-    count-enough 0 n (orders.first-passed (countFault 0 n) (finiteFault 0 0 first or lentStepFault step or readingFault 0 p) h)
-
--- ---- 8 of an interval
-module _ (axis : ℕ) (nodes : List Float) (tolerance : Float) (i : ℕ) (d : Float) (e : d ≡ apart (gap nodes i) (gap nodes 0)) where
-  pub gap-far : lt tolerance d ≡ true → refused 8 axis i ≡ gapFault axis nodes tolerance i
-  unfolding gapFault
-  gap-far h = orders.row-met (lt tolerance (apart (gap nodes i) (gap nodes 0))) 7 axis i (sym (ap (lt tolerance) e) ∙ h)
-
-  pub gap-near : lt tolerance d ≡ false → fine ≡ gapFault axis nodes tolerance i
-  unfolding gapFault
-  gap-near h = orders.row-passed (lt tolerance (apart (gap nodes i) (gap nodes 0))) 7 axis i (sym (ap (lt tolerance) e) ∙ h)
-
-pub apart-wider : (x y : Float) → lt y x ≡ true → sub binary64 x y ≡ apart x y
-unfolding apart
-apart-wider x y h = simp h
-
-pub apart-narrower : (x y : Float) → lt y x ≡ false → sub binary64 y x ≡ apart x y
-unfolding apart
-apart-narrower x y h = simp h

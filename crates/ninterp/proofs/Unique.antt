@@ -5,16 +5,13 @@ use denote.Ref.{now}
 use lib.Ieee.{Float}
 use Rattle.answer.proofs.Outcome.{one-outcome}
 use Rattle.answer.specs.declared.Answer.{Answer}
-use Rattle.ninterp.specs.declared.strategy.utils.IndexAnswer.{IndexAnswer}
+use Rattle.answer.specs.declared.IndexAnswer.{IndexAnswer}
 use Rattle.ninterp.specs.declared.strategy.utils.ExactAnswer.{ExactAnswer}
 use Rattle.ninterp.specs.declared.strategy.utils.AxisAnswer.{AxisAnswer}
 use Rattle.ninterp.proofs.strategy.utils.locate_lower_index.Reads as locate-lower-index
 use Rattle.ninterp.proofs.strategy.utils.exact_index.Reads as exact-index
 use Rattle.ninterp.proofs.strategy.utils.locate_axis.Reads as locate-axis
 use Rattle.ninterp.proofs.strategy.utils.locate_step_index.Reads as locate-step-index
-use Rattle.ninterp.proofs.strategy.utils.locate_lower_index_uniform.Reads as locate-lower-index-uniform
-use Rattle.ninterp.proofs.strategy.utils.validate_uniform_grid.Reads as validate-uniform-grid
-use Rattle.ninterp.proofs.strategy.utils.validate_uniform_grid_epsilon.Reads as validate-uniform-grid-epsilon
 use Rattle.ninterp.proofs.interpolator.n.nearest.interpolate.Reads as nearest-lookup
 use Rattle.ninterp.proofs.interpolator.n.step.interpolate.Reads as step-lookup
 use Rattle.ninterp.proofs.slice.nearest.Reads as nearest-slice
@@ -32,15 +29,6 @@ locate-axis-unique κs a r s x y p q = one-outcome r s _ p q
 
 pub locate-step-index-unique : (κs : _) (a : _) (r s : IndexAnswer) (x y : _) → locate-step-index.Post κs a r x → locate-step-index.Post κs a s y → r ≡ s
 locate-step-index-unique κs a r s x y p q = one-outcome r s _ p q
-
-pub locate-lower-index-uniform-unique : (κs : _) (a : _) (r s : IndexAnswer) (x y : _) → locate-lower-index-uniform.Post κs a r x → locate-lower-index-uniform.Post κs a s y → r ≡ s
-locate-lower-index-uniform-unique κs a r s x y p q = one-outcome r s _ p q
-
-pub validate-uniform-grid-unique : (κs : _) (a : _) (r s : Answer) (x y : _) → validate-uniform-grid.Post κs a r x → validate-uniform-grid.Post κs a s y → r ≡ s
-validate-uniform-grid-unique κs a r s x y p q = one-outcome r s _ p q
-
-pub validate-uniform-grid-epsilon-unique : (κs : _) (a : _) (r s : Answer) (x y : _) → validate-uniform-grid-epsilon.Post κs a r x → validate-uniform-grid-epsilon.Post κs a s y → r ≡ s
-validate-uniform-grid-epsilon-unique κs a r s x y p q = one-outcome r s _ p q
 
 pub nearest-lookup-unique : (κs : _) (a : _) (r s : Answer) (x y : _) → nearest-lookup.Post κs a r x → nearest-lookup.Post κs a s y → r ≡ s
 nearest-lookup-unique κs a r s x y p q = one-outcome r s _ p q

@@ -5,17 +5,15 @@ use Prim.Native.Nat.{ℕ, _-_}
 use lib.Dec.{ltb}
 use lib.ListN.{length}
 use lib.Ieee.{Float}
-use Rattle.answer.specs.Answer.{plusZero, refused, fine, when, _or_, given}
+use Rattle.answer.specs.Answer.{plusZero, refused, when, _or_, given, indexAnswer}
 use Rattle.answer.specs.declared.Answer.{Answer}
-use Rattle.judge.specs.Check.{countFault, finiteFault, axisFault, lentStepFault, toleranceFault, directionFault, readingFault, resultFault}
-use Rattle.ninterp.specs.Utils.{lowerIndex, exactNode, axisLocation, stepIndex, uniformIndex, uniformFault, toleranceOf}
+use Rattle.answer.specs.declared.IndexAnswer.{IndexAnswer}
+use Rattle.judge.specs.Check.{axisFault, directionFault, readingFault, resultFault}
+use Rattle.ninterp.specs.Utils.{lowerIndex, exactNode, axisLocation, stepIndex}
 use Rattle.ninterp.specs.declared.strategy.utils.MaybeIndex.{MaybeIndex}
 use Rattle.ninterp.specs.declared.strategy.utils.MaybeIndex.the-variants.{Some, None}
 use Rattle.ninterp.specs.declared.strategy.utils.AxisLocation.{AxisLocation}
 use Rattle.ninterp.specs.declared.strategy.utils.AxisLocation.the-variants.{Exact, Between}
-use Rattle.ninterp.specs.declared.strategy.utils.Tolerance.{Tolerance}
-use Rattle.ninterp.specs.declared.strategy.utils.Tolerance.the-variants.{Lent, Default}
-use Rattle.ninterp.specs.declared.strategy.utils.IndexAnswer.{IndexAnswer}
 use Rattle.ninterp.specs.declared.strategy.utils.ExactAnswer.{ExactAnswer}
 use Rattle.ninterp.specs.declared.strategy.utils.AxisAnswer.{AxisAnswer}
 
@@ -33,9 +31,6 @@ locationFraction (Exact i) = plusZero
 locationFraction (Between lower frac) = frac
 
 -- an answer with what it gives; "any index, fraction or shape it would give is zero" on a refusal
-unfoldable pub indexAnswer : Answer → ℕ → IndexAnswer
-indexAnswer a i = record { answer = a; index = given a i 0 }
-
 unfoldable pub exactAnswer : Answer → MaybeIndex → ExactAnswer
 exactAnswer a i = record { answer = a; index = given a i None }
 
@@ -69,21 +64,3 @@ directedFault direction nodes p = axisFault nodes or directionFault 0 direction 
 
 unfoldable pub locateStepIndex : ℕ → List Float → Float → IndexAnswer
 locateStepIndex direction nodes p = indexAnswer (directedFault direction nodes p) (stepIndex direction nodes p)
-
--- "The uniform primitive uses 2, 4 (first node), 8 (step), 10."
-unfoldable pub uniformReadFault : Float → Float → ℕ → Float → Answer
-uniformReadFault first step n p = countFault 0 n or finiteFault 0 0 first or lentStepFault step or readingFault 0 p
-
-unfoldable pub locateLowerIndexUniform : Float → Float → ℕ → Float → IndexAnswer
-locateLowerIndexUniform first step n p = indexAnswer (uniformReadFault first step n p) (uniformIndex first step n p)
-
--- "The uniform check answers 8, after 6, for a lent tolerance that is not finite or is below 0, axis 0, place 0."
-abbrev pub lentFault : Tolerance → Answer
-lentFault (Lent tolerance) = toleranceFault tolerance
-lentFault Default = fine
-
-unfoldable pub validateUniformGridEpsilon : List Float → Tolerance → Answer
-validateUniformGridEpsilon nodes tolerance = axisFault nodes or lentFault tolerance or uniformFault 0 nodes (toleranceOf nodes tolerance)
-
-unfoldable pub validateUniformGrid : List Float → Float → Answer
-validateUniformGrid nodes tolerance = validateUniformGridEpsilon nodes (Lent tolerance)

@@ -3,18 +3,13 @@ use mathlib.Core.Bool.{Bool, true, false, cond}
 use mathlib.Core.List.{List, [], _∷_}
 use Prim.Native.Nat.{ℕ, _+_, _-_, min}
 use lib.Dec.{eqb}
-use lib.IntN.{pos, negsuc}
 use lib.ListN.{length}
-use lib.Ieee.{Float, fin, binary64, lt, le, eq, sub, mul, div, toUnsigned}
-use Rattle.answer.specs.Answer.{plusZero, refused, when, firstOf}
-use Rattle.answer.specs.declared.Answer.{Answer}
+use lib.Ieee.{Float, binary64, lt, le, eq, sub, div}
 use Rattle.judge.specs.Check.{node, gap}
 use Rattle.ninterp.specs.declared.strategy.utils.MaybeIndex.{MaybeIndex}
 use Rattle.ninterp.specs.declared.strategy.utils.MaybeIndex.the-variants.{Some, None}
 use Rattle.ninterp.specs.declared.strategy.utils.AxisLocation.{AxisLocation}
 use Rattle.ninterp.specs.declared.strategy.utils.AxisLocation.the-variants.{Exact, Between}
-use Rattle.ninterp.specs.declared.strategy.utils.Tolerance.{Tolerance}
-use Rattle.ninterp.specs.declared.strategy.utils.Tolerance.the-variants.{Lent, Default}
 
 -- how many nodes pass a test
 unfoldable pub howMany : (Float → Bool) → List Float → ℕ
@@ -64,29 +59,3 @@ upperStep nodes p = byRange nodes p 1 (length nodes - 1) (countBelow nodes p)
 -- "0 lower, 1 upper"
 unfoldable pub stepIndex : ℕ → List Float → Float → ℕ
 stepIndex direction nodes p = cond (eqb direction 0) (lowerStep nodes p) (upperStep nodes p)
-
--- "If t is below 0, the index is 0. Otherwise it is the whole part of t, at most n-2; but where t is infinite or 2^64 and more .. the index is 0":
--- `toUnsigned 64` cuts what lies from 0 up to 2^64 to its whole part
-unfoldable pub uniformCell : ℕ → Float → ℕ
-uniformCell n t = cond (lt t plusZero) 0 (cond (lt t (fin false 1 (pos 64))) (min (toUnsigned 64 t) (n - 2)) 0)
-
--- "t = (p - first node) / step"
-unfoldable pub uniformIndex : Float → Float → ℕ → Float → ℕ
-uniformIndex first step n p = uniformCell n (div binary64 (sub binary64 p first) step)
-
--- how far two gaps differ, "as rounded"
-unfoldable pub apart : Float → Float → Float
-apart x y = cond (lt y x) (sub binary64 x y) (sub binary64 y x)
-
--- 8: "axis not uniform". "step is the first gap"; "The place named is the interval's lower node."
-unfoldable pub gapFault : ℕ → List Float → Float → ℕ → Answer
-gapFault axis nodes tolerance i = when (lt tolerance (apart (gap nodes i) (gap nodes 0))) (refused 8 axis i)
-
--- "Every later gap differs from it .. by at most the tolerance.": the n-2 gaps from gap 1 on
-unfoldable pub uniformFault : ℕ → List Float → Float → Answer
-uniformFault axis nodes tolerance = firstOf (gapFault axis nodes tolerance) 1 (length nodes - 2)
-
--- "The default is step times 2^-42." (`negsuc 41` is -42)
-unfoldable pub toleranceOf : List Float → Tolerance → Float
-toleranceOf nodes (Lent tolerance) = tolerance
-toleranceOf nodes Default = mul binary64 (gap nodes 0) (fin false 1 (negsuc 41))

@@ -3,13 +3,13 @@ use crate::line::Reply;
 use crate::list;
 use crate::list::Header;
 use answer::Answer;
+use answer::IndexAnswer;
 use ninterp::strategy::utils;
 use ninterp::strategy::utils::AxisAnswer;
 use ninterp::strategy::utils::AxisLocation;
 use ninterp::strategy::utils::ExactAnswer;
-use ninterp::strategy::utils::IndexAnswer;
 use ninterp::strategy::utils::MaybeIndex;
-use ninterp::strategy::utils::Tolerance;
+use uniform::Tolerance;
 
 pub(crate) const MOST_NODES: usize = 128;
 
@@ -72,12 +72,12 @@ fn locate_lower_index_uniform(call: Header) -> Reply {
     let first = binary64::float_of_bits(call.second);
     let step = binary64::float_of_bits(call.third);
     let n = list::wide(call.a);
-    of_index(utils::locate_lower_index_uniform(first, step, n, call.reading))
+    of_index(uniform::locate_lower_index_uniform(first, step, n, call.reading))
 }
 
 fn validate_uniform_grid(nodes: &[f64], call: Header) -> Reply {
     let tolerance = binary64::float_of_bits(call.second);
-    of_check(utils::validate_uniform_grid(nodes, tolerance))
+    of_check(uniform::validate_uniform_grid(nodes, tolerance))
 }
 
 fn validate_uniform_grid_epsilon(nodes: &[f64], call: Header) -> Reply {
@@ -87,7 +87,7 @@ fn validate_uniform_grid_epsilon(nodes: &[f64], call: Header) -> Reply {
         1 => Tolerance::Lent(binary64::float_of_bits(call.second)),
         _ => return Reply::Bad,
     };
-    of_check(utils::validate_uniform_grid_epsilon(nodes, tolerance))
+    of_check(uniform::validate_uniform_grid_epsilon(nodes, tolerance))
 }
 
 // Bad where the list's format has no such call.

@@ -1,6 +1,6 @@
 use mathlib.Core.Path.{_≡_, refl, sym, ap, ap₂, _∙_}
-use Rattle.answer.proofs.Orders.{passes}
-use Rattle.ninterp.proofs.Primitives.{index-refused, index-given, read-axis, read-finite}
+use Rattle.answer.proofs.Orders.{passes, index-refused, index-given}
+use Rattle.ninterp.proofs.Primitives.{read-axis, read-finite}
 use Rattle.ninterp.specs.Calls.{locateLowerIndex}
 use borrow.Author.Needs.{needs}
 use Rattle.ninterp.proofs.strategy.utils.locate_lower_index.Statement.{statement}

@@ -1,6 +1,6 @@
 use mathlib.Core.Path.{_≡_, refl, sym, ap, ap₂, _∙_}
-use Rattle.answer.proofs.Orders.{passes}
-use Rattle.ninterp.proofs.Primitives.{index-refused, index-given, directed-axis, directed-finite}
+use Rattle.answer.proofs.Orders.{passes, index-refused, index-given}
+use Rattle.ninterp.proofs.Primitives.{directed-axis, directed-finite}
 use Rattle.ninterp.specs.Calls.{locateStepIndex}
 use borrow.Author.Needs.{needs}
 use Rattle.ninterp.proofs.strategy.utils.locate_step_index.Statement.{statement}

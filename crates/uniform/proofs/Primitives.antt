@@ -1,0 +1,35 @@
+-- What the public calls on a uniform axis owe, on plain values. Assumes nothing.
+use mathlib.Core.Path.{_≡_, sym, ap, _∙_}
+use mathlib.Core.Bool.{true, false}
+use mathlib.Core.List.{List}
+use Prim.Native.Nat.{ℕ, _≤_}
+use lib.Ieee.{Float, binary64, lt, sub}
+use Rattle.answer.specs.Answer.{refused, fine, good, _or_}
+use Rattle.answer.proofs.Orders as orders
+use Rattle.judge.specs.Check.{gap, countFault, finiteFault, lentStepFault, readingFault}
+use Rattle.judge.proofs.Rows.{count-enough}
+use Rattle.uniform.specs.Uniform.{apart, gapFault}
+use Rattle.uniform.specs.Calls.{uniformReadFault}
+
+pub uniform-enough : (first step : Float) (n : ℕ) (p : Float) → good (uniformReadFault first step n p) ≡ true → 2 ≤ n
+unfolding uniformReadFault
+uniform-enough first step n p h =
+    count-enough 0 n (orders.first-passed (countFault 0 n) (finiteFault 0 0 first or lentStepFault step or readingFault 0 p) h)
+
+-- ---- 8 of an interval
+module _ (axis : ℕ) (nodes : List Float) (tolerance : Float) (i : ℕ) (d : Float) (e : d ≡ apart (gap nodes i) (gap nodes 0)) where
+  pub gap-far : lt tolerance d ≡ true → refused 8 axis i ≡ gapFault axis nodes tolerance i
+  unfolding gapFault
+  gap-far h = orders.row-met (lt tolerance (apart (gap nodes i) (gap nodes 0))) 7 axis i (sym (ap (lt tolerance) e) ∙ h)
+
+  pub gap-near : lt tolerance d ≡ false → fine ≡ gapFault axis nodes tolerance i
+  unfolding gapFault
+  gap-near h = orders.row-passed (lt tolerance (apart (gap nodes i) (gap nodes 0))) 7 axis i (sym (ap (lt tolerance) e) ∙ h)
+
+pub apart-wider : (x y : Float) → lt y x ≡ true → sub binary64 x y ≡ apart x y
+unfolding apart
+apart-wider x y h = simp h
+
+pub apart-narrower : (x y : Float) → lt y x ≡ false → sub binary64 y x ≡ apart x y
+unfolding apart
+apart-narrower x y h = simp h

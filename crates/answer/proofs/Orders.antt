@@ -209,6 +209,14 @@ module _ (r a : Answer) (e : r ≡ a) where
     pub given-kept : (y : A) → r .number ≡ 0 → y ≡ x → y ≡ given a x zeros
     given-kept y h q = q ∙ sym (given-good a x zeros (passes r a e h))
 
+-- the same of two rows that one check answers for, in front of the rest
+module _ (r a b : Answer) (e : r ≡ (a or b)) where
+  pub pair-stops : (rest : Answer) → (r .number ≡ 0 → ⊥) → r ≡ (a or b or rest)
+  pair-stops rest h = or-stops r (a or b) e rest h ∙ or-assoc a b rest
+
+  pub pair-goes-on : (s rest : Answer) → r .number ≡ 0 → s ≡ rest → s ≡ (a or b or rest)
+  pair-goes-on s rest h q = or-goes-on r (a or b) e s rest h q ∙ or-assoc a b rest
+
 -- ---- an answer with an index
 module _ (r a : Answer) (e : r ≡ a) where
   pub index-refused : (i : ℕ) → (r .number ≡ 0 → ⊥) → _≡_ {A = IndexAnswer} (record { answer = r; index = 0 }) (indexAnswer a i)

@@ -16,8 +16,9 @@ use Rattle.table.specs.Table.{frameFault, lengthFault, axesFault, valuesFault, 
 use Rattle.table.specs.declared.Shape.{Shape}
 use Rattle.table.proofs.Removals.{getD-without, getD-without-below, slices-comm}
 use Rattle.ninterp.specs.Tables.{nearestRule, stepRule}
-use Rattle.ninterp.specs.Slices.{axisOf, noAxisFault, roomFault, shapeWithout, pointFault, nearestFront, stepFront, nearestSliceFault, stepSliceFault, ruleSlice}
-use Rattle.ninterp.proofs.Slices.{axis-there, room-enough}
+use Rattle.order.specs.Fronts.{noAxisFault, roomFault, nearestFront, stepFront}
+use Rattle.ninterp.specs.Slices.{axisOf, shapeWithout, pointFault, nearestSliceFault, stepSliceFault, ruleSlice}
+use Rattle.order.proofs.Fronts.{axis-there, room-enough}
 use Rattle.ninterp.proofs.Demands.{Accepted}
 use Rattle.ninterp.proofs.Lowered as low
 use Rattle.ninterp.proofs.SliceLaw as law

@@ -23,7 +23,8 @@ use Rattle.table.proofs.Layouts.{tabulate-same}
 use Rattle.table.proofs.Tables.{length-same, range-inside}
 use Rattle.table.proofs.Grids.{frame-axes, grid-of}
 use Rattle.ninterp.specs.Utils.{lowerIndex, lowerStep, upperStep, stepIndex}
-use Rattle.ninterp.specs.Tables.{nearer, nearestIndex, indices, picked, nearestRule, stepRule, lookupFault, stepFault, nearestAnswer, stepAnswer}
+use Rattle.order.specs.Lookups.{lookupFault, stepFault}
+use Rattle.ninterp.specs.Tables.{nearer, nearestIndex, indices, picked, nearestRule, stepRule, nearestAnswer, stepAnswer}
 use Rattle.ninterp.specs.Rust.{lowerBy, upperBy, rustStep}
 use Rattle.ninterp.proofs.Axes.{rises-all}
 use Rattle.ninterp.proofs.Steps.{lower-step-last, on-upper, on-lower, upper-step-first, past-first}

@@ -22,7 +22,8 @@ use Rattle.table.proofs.Tables.{shape-four, length-passed}
 use Rattle.table.proofs.Layouts.{tabulate-same}
 use Rattle.table.proofs.Grids.{frame-shape, frame-values, frame-axes, grid-of, readings-finite}
 use Rattle.ninterp.specs.Utils.{stepIndex}
-use Rattle.ninterp.specs.Tables.{nearestIndex, indices, picked, nearestRule, stepRule, lookupFault, stepFault}
+use Rattle.order.specs.Lookups.{lookupFault, stepFault}
+use Rattle.ninterp.specs.Tables.{nearestIndex, indices, picked, nearestRule, stepRule}
 use Rattle.ninterp.specs.Picks.{pickIndex, pickRule}
 
 -- ---- a judged table and reading

@@ -14,8 +14,10 @@ use Rattle.judge.specs.Check.{node, countFault, finiteFault, riseFault, nodeFau
 use Rattle.table.specs.Shape.{countsOf, axesOf}
 use Rattle.table.specs.Table.{shapeFault, lengthFault, frameFault, axesFault, valueFault, valuesFault, directionsFault, readingsFault, rangeFault, rangesFault}
 use Rattle.table.specs.declared.Shape.{Shape}
-use Rattle.ninterp.specs.Tables.{lookupFault, stepFault, nearestRule, stepRule, picked, nearestAnswer, stepAnswer}
-use Rattle.ninterp.specs.Slices.{noAxisFault, roomFault, pointFault, nearestFront, stepFront, nearestSliceFault, stepSliceFault, slicedInto}
+use Rattle.order.specs.Lookups.{lookupFault, stepFault}
+use Rattle.ninterp.specs.Tables.{nearestRule, stepRule, picked, nearestAnswer, stepAnswer}
+use Rattle.order.specs.Fronts.{noAxisFault, roomFault, nearestFront, stepFront}
+use Rattle.ninterp.specs.Slices.{pointFault, nearestSliceFault, stepSliceFault, slicedInto}
 
 -- an answer that gives no value
 abbrev Bare : Answer → Type 0

@@ -25,8 +25,10 @@ use Rattle.table.proofs.Layouts.{length-tabulate, getD-tabulate, place-below, i
 use Rattle.table.proofs.Removals.{size-split, size-without, length-without, getD-without, getD-without-below, length-slice, axes-without, total-without, insert-inside, length-insert, getD-insert, getD-insert-below, getD-insert-above, tabulate-insert, slice-law}
 use Rattle.table.proofs.Grids.{length-axis, readings-finite}
 use Rattle.ninterp.specs.Utils.{stepIndex}
-use Rattle.ninterp.specs.Tables.{nearestIndex, indices, picked, nearestRule, stepRule, lookupFault, stepFault, nearestAnswer, stepAnswer}
-use Rattle.ninterp.specs.Slices.{axisOf, noAxisFault, shapeWithout, pointFault, nearestFront, stepFront, nearestSliceFault, stepSliceFault, ruleSlice, lowered}
+use Rattle.order.specs.Lookups.{lookupFault, stepFault}
+use Rattle.ninterp.specs.Tables.{nearestIndex, indices, picked, nearestRule, stepRule, nearestAnswer, stepAnswer}
+use Rattle.order.specs.Fronts.{noAxisFault, nearestFront, stepFront}
+use Rattle.ninterp.specs.Slices.{axisOf, shapeWithout, pointFault, nearestSliceFault, stepSliceFault, ruleSlice, lowered}
 use Rattle.ninterp.proofs.Picks.{step-fits, nearest-fits, list-inside}
 use Rattle.ninterp.proofs.Sliced.{Sliceable, nearest-sliceable, step-sliceable, step-axis-lent, point-finite, point-range}
 use Rattle.ninterp.proofs.Lowered as low

@@ -18,9 +18,10 @@ use Rattle.table.specs.declared.Shape.{Shape}
 use Rattle.table.proofs.Grids.{frame-shape, frame-values, grid-of}
 use Rattle.table.proofs.Tables.{shape-four, length-passed}
 use Rattle.table.proofs.Removals.{length-slice}
-use Rattle.ninterp.specs.Slices.{axisOf, noAxisFault, roomFault, shapeWithout, noShape, pointFault, nearestFront, stepFront, sliceAnswer, slicedInto}
+use Rattle.order.specs.Fronts.{noAxisFault, roomFault, nearestFront, stepFront}
+use Rattle.ninterp.specs.Slices.{axisOf, shapeWithout, noShape, pointFault, sliceAnswer, slicedInto}
 use Rattle.ninterp.specs.declared.slice.SliceAnswer.{SliceAnswer}
-use Rattle.ninterp.proofs.Slices.{axis-many, axis-in, room-passed}
+use Rattle.order.proofs.Fronts.{axis-many, axis-in, room-passed}
 
 -- ---- a table that can be sliced on an axis
 pub record Sliceable (s : Shape) (nodes values : List Float) (axis : ℕ) : Type 0 where

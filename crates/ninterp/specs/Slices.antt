@@ -1,30 +1,23 @@
 -- "A slice removes one axis": the slices of Nearest and Step on any axis, and what they answer and write for every input.
-use mathlib.Core.Bool.{Bool, true, false, not, _&&_, _||_, cond}
+use mathlib.Core.Bool.{_&&_, _||_, cond}
 use mathlib.Core.List.{List, [], _∷_, _++_}
 use Prim.Native.Nat.{ℕ, _-_}
-use lib.Dec.{leb, ltb, eqb}
+use lib.Dec.{ltb, eqb}
 use lib.ListN.{length, drop, getD}
 use lib.Ieee.{Float}
-use Rattle.answer.specs.Answer.{refused, when, _or_, given}
+use Rattle.answer.specs.Answer.{_or_, given}
 use Rattle.answer.specs.declared.Answer.{Answer}
 use Rattle.judge.specs.Check.{readingFault}
 use Rattle.table.specs.Shape.{countsOf, size, axesOf, tabulate, without, sliceValues}
-use Rattle.table.specs.Table.{frameFault, lengthFault, axesFault, valuesFault, directionsFault, rangeFault}
+use Rattle.table.specs.Table.{rangeFault}
 use Rattle.table.specs.declared.Shape.{Shape}
+use Rattle.order.specs.Fronts.{roomFault, nearestFront, stepFront}
 use Rattle.ninterp.specs.Tables.{nearestRule, stepRule}
 use Rattle.ninterp.specs.declared.slice.SliceAnswer.{SliceAnswer}
 
 -- the nodes of one axis
 abbrev pub axisOf : Shape → List Float → ℕ → List Float
 axisOf s nodes axis = getD (axesOf (countsOf s) nodes) axis []
-
--- 16: "slice of a one-axis table, no such axis"
-unfoldable pub noAxisFault : Shape → ℕ → Answer
-noAxisFault s axis = when (leb (s .axes) 1 || not (ltb axis (s .axes))) (refused 16 0 0)
-
--- 15: "an output buffer too short", "place .. 1 values"
-unfoldable pub roomFault : ℕ → ℕ → Answer
-roomFault wanted room = when (ltb room wanted) (refused 15 0 1)
 
 -- "the other axes .. stay, in their order": the shape of what is left, its unused counts zero
 unfoldable pub shapeWithout : Shape → ℕ → Shape
@@ -40,26 +33,8 @@ pointFault s nodes axis p room =
     or rangeFault axis (axisOf s nodes axis) p
     or roomFault (size (without axis (countsOf s))) room
 
--- "A slice inserts 16 after 3 and 15 (place 1) before 12"
-unfoldable pub nearestFront : Shape → List Float → List Float → ℕ → Answer
-nearestFront s nodes values axis =
-    frameFault s (length nodes) (length values)
-    or noAxisFault s axis
-    or axesFault (countsOf s) nodes
-    or valuesFault values
-
 unfoldable pub nearestSliceFault : Shape → List Float → List Float → ℕ → Float → ℕ → Answer
 nearestSliceFault s nodes values axis p room = nearestFront s nodes values axis or pointFault s nodes axis p room
-
--- "Directions for all axes are lent to a Step slice"
-unfoldable pub stepFront : Shape → List Float → List Float → List ℕ → ℕ → Answer
-stepFront s nodes values directions axis =
-    frameFault s (length nodes) (length values)
-    or lengthFault 3 (s .axes) (length directions)
-    or noAxisFault s axis
-    or axesFault (countsOf s) nodes
-    or valuesFault values
-    or directionsFault directions
 
 unfoldable pub stepSliceFault : Shape → List Float → List Float → List ℕ → ℕ → Float → ℕ → Answer
 stepSliceFault s nodes values directions axis p room = stepFront s nodes values directions axis or pointFault s nodes axis p room

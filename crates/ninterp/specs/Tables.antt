@@ -8,8 +8,8 @@ use Rattle.answer.specs.Answer.{answered, _or_}
 use Rattle.answer.specs.declared.Answer.{Answer}
 use Rattle.judge.specs.Check.{node}
 use Rattle.table.specs.Shape.{countsOf, axesOf, table, tabulate}
-use Rattle.table.specs.Table.{frameFault, lengthFault, axesFault, valuesFault, directionsFault, readingsFault, rangesFault}
 use Rattle.table.specs.declared.Shape.{Shape}
+use Rattle.order.specs.Lookups.{lookupFault, stepFault}
 use Rattle.ninterp.specs.Utils.{lowerIndex, stepIndex}
 
 -- "the lower node if (p - lower) is less than (upper - p) as rounded, else the upper"
@@ -33,28 +33,6 @@ nearestRule a nodes p = nearestIndex nodes p
 -- "Step: per axis, the step index; each axis has its own direction."
 abbrev pub stepRule : List ℕ → ℕ → List Float → Float → ℕ
 stepRule directions a nodes p = stepIndex (getD directions a 0) nodes p
-
--- "Order for a lookup: 1, 2, 3; then each axis node by node (4, 5, 6 at each node); 7; .. 10 for all axes; 11 for all axes"
-unfoldable pub lookupFault : Shape → List Float → List Float → List Float → Answer
-lookupFault s nodes values readings =
-    frameFault s (length nodes) (length values)
-    or lengthFault 2 (s .axes) (length readings)
-    or axesFault (countsOf s) nodes
-    or valuesFault values
-    or readingsFault readings
-    or rangesFault (countsOf s) nodes readings
-
--- ".. 3 directions", ".. 9 for Step, all axes; 10 for all axes; 11 for all axes"
-unfoldable pub stepFault : Shape → List Float → List Float → List Float → List ℕ → Answer
-stepFault s nodes values readings directions =
-    frameFault s (length nodes) (length values)
-    or lengthFault 2 (s .axes) (length readings)
-    or lengthFault 3 (s .axes) (length directions)
-    or axesFault (countsOf s) nodes
-    or valuesFault values
-    or directionsFault directions
-    or readingsFault readings
-    or rangesFault (countsOf s) nodes readings
 
 unfoldable pub nearestAnswer : Shape → List Float → List Float → List Float → Answer
 nearestAnswer s nodes values readings = lookupFault s nodes values readings or answered (picked nearestRule (countsOf s) nodes values readings)

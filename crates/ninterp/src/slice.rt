@@ -11,7 +11,7 @@ ghost use Rattle.judge.specs.Check.{Axis};
 ghost use Rattle.table.specs.Shape.{countsOf, size, total, tabulate, without, sliceValues};
 ghost use Rattle.table.specs.Table.{Grid};
 ghost use Rattle.ninterp.specs.Picks.{pickIndex};
-ghost use Rattle.ninterp.specs.Slices.{axisOf, noAxisFault, roomFault, shapeWithout, noShape, pointFault, nearestFront, stepFront, sliceAnswer, slicedInto, nearestSlice, nearestSliced, stepSlice, stepSliced};
+ghost use Rattle.ninterp.specs.Slices.{axisOf, shapeWithout, noShape, pointFault, sliceAnswer, slicedInto, nearestSlice, nearestSliced, stepSlice, stepSliced};
 use crate::interpolator::n::pick;
 use answer::Answer;
 use table::Shape;
@@ -20,31 +20,6 @@ use table::Shape;
 pub struct SliceAnswer {
     pub answer: Answer,
     pub shape: Shape,
-}
-
-// 16: no second axis, or no such axis.
-fn no_axis_fault(shape: Shape, axis: usize) -> Answer
-    ensures { λ r. ⌜ r ≡ noAxisFault shape axis ⌝ }
-{
-    if shape.axes <= 1 {
-        return answer::refuse(16, 0, 0);
-    }
-    if axis < shape.axes {
-        answer::pass()
-    } else {
-        answer::refuse(16, 0, 0)
-    }
-}
-
-// 15: no room for the values.
-fn room_fault(wanted: usize, room: usize) -> Answer
-    ensures { λ r. ⌜ r ≡ roomFault wanted room ⌝ }
-{
-    if room < wanted {
-        answer::refuse(15, 0, 1)
-    } else {
-        answer::pass()
-    }
 }
 
 // The number that axis a of what is left has in the whole.
@@ -192,53 +167,7 @@ fn point_fault(
     if fault.number != 0 {
         return fault;
     }
-    room_fault(values / n, room)
-}
-
-// 1, 2, 3; 16; 4, 5, 6; 7.
-fn nearest_front(shape: Shape, nodes: &[f64], values: &[f64], axis: usize) -> Answer
-    ensures { λ r. ⌜ r ≡ nearestFront shape (now (nodes .entry)) (now (values .entry)) axis ⌝ }
-{
-    let fault = table::frame_fault(shape, nodes.len(), values.len());
-    if fault.number != 0 {
-        return fault;
-    }
-    let fault = no_axis_fault(shape, axis);
-    if fault.number != 0 {
-        return fault;
-    }
-    let fault = table::axes_fault(shape, nodes);
-    if fault.number != 0 {
-        return fault;
-    }
-    table::values_fault(values)
-}
-
-// The same with 3 and 9 of the directions.
-fn step_front(shape: Shape, nodes: &[f64], values: &[f64], directions: &[u8], axis: usize) -> Answer
-    ensures { λ r. ⌜ r ≡ stepFront shape (now (nodes .entry)) (now (values .entry)) (now (directions .entry)) axis ⌝ }
-{
-    let fault = table::frame_fault(shape, nodes.len(), values.len());
-    if fault.number != 0 {
-        return fault;
-    }
-    let fault = table::length_fault(3, shape.axes, directions.len());
-    if fault.number != 0 {
-        return fault;
-    }
-    let fault = no_axis_fault(shape, axis);
-    if fault.number != 0 {
-        return fault;
-    }
-    let fault = table::axes_fault(shape, nodes);
-    if fault.number != 0 {
-        return fault;
-    }
-    let fault = table::values_fault(values);
-    if fault.number != 0 {
-        return fault;
-    }
-    table::directions_fault(directions)
+    order::room_fault(values / n, room)
 }
 
 // Judges the one reading and the room, and writes.
@@ -288,7 +217,7 @@ pub fn nearest(
 ) -> SliceAnswer
     ensures { λ r. ⌜ (r ≡ nearestSlice shape (now (nodes .entry)) (now (values .entry)) axis point (length (now (out .entry)))) × (now (out .exit) ≡ nearestSliced shape (now (nodes .entry)) (now (values .entry)) axis point (now (out .entry))) ⌝ }
 {
-    let answer = nearest_front(shape, nodes, values, axis);
+    let answer = order::nearest_front(shape, nodes, values, axis);
     if answer.number != 0 {
         return SliceAnswer {
             answer,
@@ -310,7 +239,7 @@ pub fn step(
 ) -> SliceAnswer
     ensures { λ r. ⌜ (r ≡ stepSlice shape (now (nodes .entry)) (now (values .entry)) (now (directions .entry)) axis point (length (now (out .entry)))) × (now (out .exit) ≡ stepSliced shape (now (nodes .entry)) (now (values .entry)) (now (directions .entry)) axis point (now (out .entry))) ⌝ }
 {
-    let answer = step_front(shape, nodes, values, directions, axis);
+    let answer = order::step_front(shape, nodes, values, directions, axis);
     if answer.number != 0 {
         return SliceAnswer {
             answer,

@@ -1,5 +1,4 @@
 // Lookups in tables of any number of axes.
-mod check;
 pub mod nearest;
 pub(crate) mod pick;
 pub mod step;

@@ -9,7 +9,8 @@ use Rattle.answer.specs.declared.Answer.{Answer}
 use Rattle.answer.proofs.Orders.{passes}
 use Rattle.table.specs.Shape.{countsOf, sliceValues}
 use Rattle.table.proofs.Shapes.{length-ids}
-use Rattle.ninterp.specs.Slices.{axisOf, pointFault, nearestFront, nearestSliceFault, sliceAnswer, slicedInto, ruleSlice, nearestSlice, nearestSliced}
+use Rattle.order.specs.Fronts.{nearestFront}
+use Rattle.ninterp.specs.Slices.{axisOf, pointFault, nearestSliceFault, sliceAnswer, slicedInto, ruleSlice, nearestSlice, nearestSliced}
 use Rattle.ninterp.proofs.Lookups.{is-nearest}
 use Rattle.ninterp.proofs.Sliced.{Sliceable, nearest-sliceable, slice-refused, out-kept, front-passed, front-refused}
 use borrow.Author.Needs.{needs}

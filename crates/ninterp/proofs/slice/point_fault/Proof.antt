@@ -8,7 +8,8 @@ use Rattle.answer.proofs.Orders.{or-stops, or-goes-on}
 use Rattle.table.specs.Shape.{countsOf, size, without}
 use Rattle.table.specs.Table.{rangeFault}
 use Rattle.table.proofs.Shapes.{length-ids}
-use Rattle.ninterp.specs.Slices.{roomFault, pointFault}
+use Rattle.order.specs.Fronts.{roomFault}
+use Rattle.ninterp.specs.Slices.{pointFault}
 use Rattle.ninterp.proofs.Slices.{few-at, some-at, axis-ends, axis-lies, slice-count}
 use borrow.Author.Needs.{needs}
 use Rattle.ninterp.proofs.slice.point_fault.Statement.{statement}

@@ -9,7 +9,8 @@ use Rattle.answer.specs.declared.Answer.{Answer}
 use Rattle.answer.proofs.Orders.{passes}
 use Rattle.table.specs.Shape.{countsOf, sliceValues}
 use Rattle.table.proofs.Shapes.{length-ids}
-use Rattle.ninterp.specs.Slices.{axisOf, pointFault, stepFront, stepSliceFault, sliceAnswer, slicedInto, ruleSlice, stepSlice, stepSliced}
+use Rattle.order.specs.Fronts.{stepFront}
+use Rattle.ninterp.specs.Slices.{axisOf, pointFault, stepSliceFault, sliceAnswer, slicedInto, ruleSlice, stepSlice, stepSliced}
 use Rattle.ninterp.proofs.Lookups.{is-step}
 use Rattle.ninterp.proofs.Sliced.{Sliceable, step-sliceable, step-axis-lent, step-axis-direction, slice-refused, out-kept, front-passed, front-refused}
 use borrow.Author.Needs.{needs}

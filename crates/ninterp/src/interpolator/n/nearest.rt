@@ -4,7 +4,6 @@ ghost use mathlib.Core.Bool.{true};
 ghost use lib.Ieee.Scale.{finite};
 ghost use Rattle.judge.specs.Check.{Axis};
 ghost use Rattle.ninterp.specs.Tables.{nearestIndex, nearestAnswer};
-use crate::interpolator::n::check;
 use crate::interpolator::n::pick;
 use crate::strategy::utils;
 use answer::Answer;
@@ -26,7 +25,7 @@ pub(crate) fn nearest_index(grid: &[f64], point: f64) -> usize
 pub fn interpolate(shape: Shape, nodes: &[f64], values: &[f64], point: &[f64]) -> Answer
     ensures { λ r. ⌜ r ≡ nearestAnswer shape (now (nodes .entry)) (now (values .entry)) (now (point .entry)) ⌝ }
 {
-    let fault = check::lookup_fault(shape, nodes, values, point);
+    let fault = order::lookup_fault(shape, nodes, values, point);
     if fault.number != 0 {
         return fault;
     }

@@ -1,7 +1,6 @@
 // Step: one stored value, at the step index of each axis.
 ghost use mathlib.Core.Path.{_≡_};
 ghost use Rattle.ninterp.specs.Tables.{stepAnswer};
-use crate::interpolator::n::check;
 use crate::interpolator::n::pick;
 use answer::Answer;
 use table::Shape;
@@ -15,7 +14,7 @@ pub fn interpolate(
 ) -> Answer
     ensures { λ r. ⌜ r ≡ stepAnswer shape (now (nodes .entry)) (now (values .entry)) (now (point .entry)) (now (directions .entry)) ⌝ }
 {
-    let fault = check::step_fault(shape, nodes, values, point, directions);
+    let fault = order::step_fault(shape, nodes, values, point, directions);
     if fault.number != 0 {
         return fault;
     }

@@ -7,7 +7,8 @@ use Rattle.answer.specs.Answer.{answered}
 use Rattle.answer.proofs.Orders.{passes, or-stops, or-goes-on}
 use Rattle.table.specs.Shape.{countsOf}
 use Rattle.table.proofs.Shapes.{length-ids}
-use Rattle.ninterp.specs.Tables.{stepRule, stepFault, stepAnswer}
+use Rattle.order.specs.Lookups.{stepFault}
+use Rattle.ninterp.specs.Tables.{stepRule, stepAnswer}
 use Rattle.ninterp.proofs.Lookups.{Judged, step-judged, step-lent, step-directions, picks-step, stored-at}
 use mathlib.Core.Bool.{true}
 use Rattle.answer.specs.Answer.{good}

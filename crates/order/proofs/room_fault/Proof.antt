@@ -1,8 +1,8 @@
-use mathlib.Core.Path.{_≡_, refl, sym, ap, _∙_, subst}
-use Rattle.ninterp.proofs.Slices.{room-short, room-enough}
+use mathlib.Core.Path.{_∙_}
+use Rattle.order.proofs.Fronts.{room-short, room-enough}
 use borrow.Author.Needs.{needs}
-use Rattle.ninterp.proofs.slice.room_fault.Statement.{statement}
-use Rattle.ninterp.proofs.slice.room_fault.Tie as tie
+use Rattle.order.proofs.room_fault.Statement.{statement}
+use Rattle.order.proofs.room_fault.Tie as tie
 
 refuse-requires : tie.Need-refuse-requires
 refuse-requires c κs = search needs

@@ -1,8 +1,8 @@
-use mathlib.Core.Path.{_≡_, refl, sym, ap, _∙_, subst}
-use Rattle.ninterp.proofs.Slices.{axis-alone, axis-none, axis-there}
+use mathlib.Core.Path.{_∙_}
+use Rattle.order.proofs.Fronts.{axis-alone, axis-none, axis-there}
 use borrow.Author.Needs.{needs}
-use Rattle.ninterp.proofs.slice.no_axis_fault.Statement.{statement}
-use Rattle.ninterp.proofs.slice.no_axis_fault.Tie as tie
+use Rattle.order.proofs.no_axis_fault.Statement.{statement}
+use Rattle.order.proofs.no_axis_fault.Tie as tie
 
 refuse-requires : tie.Need-refuse-requires
 refuse-requires c κs = search needs

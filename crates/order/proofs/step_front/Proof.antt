@@ -1,9 +1,8 @@
-use mathlib.Core.Path.{_≡_, refl, sym, ap, _∙_}
-use Rattle.answer.proofs.Orders.{or-stops, or-goes-on}
-use Rattle.ninterp.specs.Slices.{stepFront}
+use Rattle.answer.proofs.Orders.{or-goes-on, or-stops, pair-goes-on, pair-stops}
+use Rattle.order.specs.Fronts.{stepFront}
 use borrow.Author.Needs.{needs}
-use Rattle.ninterp.proofs.slice.step_front.Statement.{statement}
-use Rattle.ninterp.proofs.slice.step_front.Tie as tie
+use Rattle.order.proofs.step_front.Statement.{statement}
+use Rattle.order.proofs.step_front.Tie as tie
 
 frame-fault-requires : tie.Need-frame-fault-requires
 frame-fault-requires c κs = search needs
@@ -38,8 +37,8 @@ returns-3 c =
     let f0 = e0 .before .before in
     or-goes-on _ _ (f0 .frame-fault .ensures) _ _ (e0 .if1 .left) (or-goes-on _ _ (f1 .length-fault .ensures) _ _ (e1 .if2 .left) (or-stops _ _ (f2 .no-axis-fault .ensures) _ (c .if3 .taken)))
 
-axes-fault-requires : tie.Need-axes-fault-requires
-axes-fault-requires c κs = search needs
+table-fault-requires : tie.Need-table-fault-requires
+table-fault-requires c κs = search needs
 
 returns-4 : tie.Need-returns-4
 unfolding stepFront
@@ -51,34 +50,15 @@ returns-4 c =
     let f1 = e1 .before .before in
     let e0 = f1 .before in
     let f0 = e0 .before .before in
-    or-goes-on _ _ (f0 .frame-fault .ensures) _ _ (e0 .if1 .left) (or-goes-on _ _ (f1 .length-fault .ensures) _ _ (e1 .if2 .left) (or-goes-on _ _ (f2 .no-axis-fault .ensures) _ _ (e2 .if3 .left) (or-stops _ _ (f3 .axes-fault .ensures) _ (c .if4 .taken))))
-
-values-fault-requires : tie.Need-values-fault-requires
-values-fault-requires c κs = search needs
-
-returns-5 : tie.Need-returns-5
-unfolding stepFront
-returns-5 c =
-    let f4 = c .before .before in
-    let e3 = f4 .before in
-    let f3 = e3 .before .before in
-    let e2 = f3 .before in
-    let f2 = e2 .before .before in
-    let e1 = f2 .before in
-    let f1 = e1 .before .before in
-    let e0 = f1 .before in
-    let f0 = e0 .before .before in
-    or-goes-on _ _ (f0 .frame-fault .ensures) _ _ (e0 .if1 .left) (or-goes-on _ _ (f1 .length-fault .ensures) _ _ (e1 .if2 .left) (or-goes-on _ _ (f2 .no-axis-fault .ensures) _ _ (e2 .if3 .left) (or-goes-on _ _ (f3 .axes-fault .ensures) _ _ (e3 .if4 .left) (or-stops _ _ (f4 .values-fault .ensures) _ (c .if5 .taken)))))
+    or-goes-on _ _ (f0 .frame-fault .ensures) _ _ (e0 .if1 .left) (or-goes-on _ _ (f1 .length-fault .ensures) _ _ (e1 .if2 .left) (or-goes-on _ _ (f2 .no-axis-fault .ensures) _ _ (e2 .if3 .left) (pair-stops _ _ _ (f3 .table-fault .ensures) _ (c .if4 .taken))))
 
 directions-fault-requires : tie.Need-directions-fault-requires
 directions-fault-requires c κs = search needs
 
-returns-6 : tie.Need-returns-6
+returns-5 : tie.Need-returns-5
 unfolding stepFront
-returns-6 c =
-    let e4 = c .before in
-    let f4 = e4 .before .before in
-    let e3 = f4 .before in
+returns-5 c =
+    let e3 = c .before in
     let f3 = e3 .before .before in
     let e2 = f3 .before in
     let f2 = e2 .before .before in
@@ -86,7 +66,7 @@ returns-6 c =
     let f1 = e1 .before .before in
     let e0 = f1 .before in
     let f0 = e0 .before .before in
-    or-goes-on _ _ (f0 .frame-fault .ensures) _ _ (e0 .if1 .left) (or-goes-on _ _ (f1 .length-fault .ensures) _ _ (e1 .if2 .left) (or-goes-on _ _ (f2 .no-axis-fault .ensures) _ _ (e2 .if3 .left) (or-goes-on _ _ (f3 .axes-fault .ensures) _ _ (e3 .if4 .left) (or-goes-on _ _ (f4 .values-fault .ensures) _ _ (e4 .if5 .left) (c .directions-fault .ensures)))))
+    or-goes-on _ _ (f0 .frame-fault .ensures) _ _ (e0 .if1 .left) (or-goes-on _ _ (f1 .length-fault .ensures) _ _ (e1 .if2 .left) (or-goes-on _ _ (f2 .no-axis-fault .ensures) _ _ (e2 .if3 .left) (pair-goes-on _ _ _ (f3 .table-fault .ensures) _ _ (e3 .if4 .left) (c .directions-fault .ensures))))
 
 pub step-front-spec : {M : Type 1} → statement M
 step-front-spec =
@@ -98,9 +78,7 @@ step-front-spec =
     returns-2
     no-axis-fault-requires
     returns-3
-    axes-fault-requires
+    table-fault-requires
     returns-4
-    values-fault-requires
-    returns-5
     directions-fault-requires
-    returns-6)
+    returns-5)

@@ -1,0 +1,84 @@
+use Rattle.answer.proofs.Orders.{or-goes-on, or-stops, pair-goes-on, pair-stops}
+use Rattle.order.specs.Lookups.{stepFault}
+use borrow.Author.Needs.{needs}
+use Rattle.order.proofs.step_fault.Statement.{statement}
+use Rattle.order.proofs.step_fault.Tie as tie
+
+lengths-fault-requires : tie.Need-lengths-fault-requires
+lengths-fault-requires c κs = search needs
+
+returns : tie.Need-returns
+unfolding stepFault
+returns c =
+    let f0 = c .before .before in
+    pair-stops _ _ _ (f0 .lengths-fault .ensures) _ (c .if1 .taken)
+
+length-fault-requires : tie.Need-length-fault-requires
+length-fault-requires c κs = search needs
+
+returns-2 : tie.Need-returns-2
+unfolding stepFault
+returns-2 c =
+    let f1 = c .before .before in
+    let e0 = f1 .before in
+    let f0 = e0 .before .before in
+    pair-goes-on _ _ _ (f0 .lengths-fault .ensures) _ _ (e0 .if1 .left) (or-stops _ _ (f1 .length-fault .ensures) _ (c .if2 .taken))
+
+table-fault-requires : tie.Need-table-fault-requires
+table-fault-requires c κs = search needs
+
+returns-3 : tie.Need-returns-3
+unfolding stepFault
+returns-3 c =
+    let f2 = c .before .before in
+    let e1 = f2 .before in
+    let f1 = e1 .before .before in
+    let e0 = f1 .before in
+    let f0 = e0 .before .before in
+    pair-goes-on _ _ _ (f0 .lengths-fault .ensures) _ _ (e0 .if1 .left) (or-goes-on _ _ (f1 .length-fault .ensures) _ _ (e1 .if2 .left) (pair-stops _ _ _ (f2 .table-fault .ensures) _ (c .if3 .taken)))
+
+directions-fault-requires : tie.Need-directions-fault-requires
+directions-fault-requires c κs = search needs
+
+returns-4 : tie.Need-returns-4
+unfolding stepFault
+returns-4 c =
+    let f3 = c .before .before in
+    let e2 = f3 .before in
+    let f2 = e2 .before .before in
+    let e1 = f2 .before in
+    let f1 = e1 .before .before in
+    let e0 = f1 .before in
+    let f0 = e0 .before .before in
+    pair-goes-on _ _ _ (f0 .lengths-fault .ensures) _ _ (e0 .if1 .left) (or-goes-on _ _ (f1 .length-fault .ensures) _ _ (e1 .if2 .left) (pair-goes-on _ _ _ (f2 .table-fault .ensures) _ _ (e2 .if3 .left) (or-stops _ _ (f3 .directions-fault .ensures) _ (c .if4 .taken))))
+
+inside-fault-requires : tie.Need-inside-fault-requires
+inside-fault-requires c κs = search needs
+
+returns-5 : tie.Need-returns-5
+unfolding stepFault
+returns-5 c =
+    let e3 = c .before in
+    let f3 = e3 .before .before in
+    let e2 = f3 .before in
+    let f2 = e2 .before .before in
+    let e1 = f2 .before in
+    let f1 = e1 .before .before in
+    let e0 = f1 .before in
+    let f0 = e0 .before .before in
+    pair-goes-on _ _ _ (f0 .lengths-fault .ensures) _ _ (e0 .if1 .left) (or-goes-on _ _ (f1 .length-fault .ensures) _ _ (e1 .if2 .left) (pair-goes-on _ _ _ (f2 .table-fault .ensures) _ _ (e2 .if3 .left) (or-goes-on _ _ (f3 .directions-fault .ensures) _ _ (e3 .if4 .left) (c .inside-fault .ensures))))
+
+pub step-fault-spec : {M : Type 1} → statement M
+step-fault-spec =
+    tie.close
+    (tie.spec
+    lengths-fault-requires
+    returns
+    length-fault-requires
+    returns-2
+    table-fault-requires
+    returns-3
+    directions-fault-requires
+    returns-4
+    inside-fault-requires
+    returns-5)

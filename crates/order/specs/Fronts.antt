@@ -1,0 +1,38 @@
+-- What is judged before a slice, in the order of the table of numbers.
+use mathlib.Core.Bool.{not, _||_}
+use mathlib.Core.List.{List}
+use Prim.Native.Nat.{ℕ}
+use lib.Dec.{leb, ltb}
+use lib.ListN.{length}
+use lib.Ieee.{Float}
+use Rattle.answer.specs.Answer.{refused, when, _or_}
+use Rattle.answer.specs.declared.Answer.{Answer}
+use Rattle.table.specs.Shape.{countsOf}
+use Rattle.table.specs.Table.{frameFault, lengthFault, axesFault, valuesFault, directionsFault}
+use Rattle.table.specs.declared.Shape.{Shape}
+
+-- 16: "slice of a one-axis table, no such axis"
+unfoldable pub noAxisFault : Shape → ℕ → Answer
+noAxisFault s axis = when (leb (s .axes) 1 || not (ltb axis (s .axes))) (refused 16 0 0)
+
+-- 15: "an output buffer too short", "place .. 1 values"
+unfoldable pub roomFault : ℕ → ℕ → Answer
+roomFault wanted room = when (ltb room wanted) (refused 15 0 1)
+
+-- "A slice inserts 16 after 3 and 15 (place 1) before 12"
+unfoldable pub nearestFront : Shape → List Float → List Float → ℕ → Answer
+nearestFront s nodes values axis =
+    frameFault s (length nodes) (length values)
+    or noAxisFault s axis
+    or axesFault (countsOf s) nodes
+    or valuesFault values
+
+-- "Directions for all axes are lent to a Step slice"
+unfoldable pub stepFront : Shape → List Float → List Float → List ℕ → ℕ → Answer
+stepFront s nodes values directions axis =
+    frameFault s (length nodes) (length values)
+    or lengthFault 3 (s .axes) (length directions)
+    or noAxisFault s axis
+    or axesFault (countsOf s) nodes
+    or valuesFault values
+    or directionsFault directions

@@ -1,0 +1,161 @@
+// The orders of checks that stand before a lookup and before a slice: one function each, total.
+ghost use mathlib.Core.Path.{_≡_};
+ghost use Rattle.answer.specs.Answer.{_or_};
+ghost use Rattle.table.specs.Shape.{countsOf};
+ghost use Rattle.table.specs.Table.{frameFault, lengthFault, axesFault, valuesFault, readingsFault, rangesFault};
+ghost use Rattle.order.specs.Lookups.{lookupFault, stepFault};
+ghost use Rattle.order.specs.Fronts.{noAxisFault, roomFault, nearestFront, stepFront};
+use answer::Answer;
+use table::Shape;
+
+// ---- what the orders share
+
+// 1, 2, 3 of a table and a reading.
+fn lengths_fault(shape: Shape, nodes: usize, values: usize, point: usize) -> Answer
+    ensures { λ r. ⌜ r ≡ (frameFault shape nodes values or lengthFault 2 (shape .axes) point) ⌝ }
+{
+    let fault = table::frame_fault(shape, nodes, values);
+    if fault.number != 0 {
+        return fault;
+    }
+    table::length_fault(2, shape.axes, point)
+}
+
+// 4, 5, 6; 7.
+fn table_fault(shape: Shape, nodes: &[f64], values: &[f64]) -> Answer
+    ensures { λ r. ⌜ r ≡ (axesFault (countsOf shape) (now (nodes .entry)) or valuesFault (now (values .entry))) ⌝ }
+{
+    let fault = table::axes_fault(shape, nodes);
+    if fault.number != 0 {
+        return fault;
+    }
+    table::values_fault(values)
+}
+
+// 10; 11.
+fn inside_fault(shape: Shape, nodes: &[f64], point: &[f64]) -> Answer
+    ensures { λ r. ⌜ r ≡ (readingsFault (now (point .entry)) or rangesFault (countsOf shape) (now (nodes .entry)) (now (point .entry))) ⌝ }
+{
+    let fault = table::readings_fault(point);
+    if fault.number != 0 {
+        return fault;
+    }
+    table::ranges_fault(shape, nodes, point)
+}
+
+// ---- before a lookup
+
+// 1, 2, 3; 4, 5, 6; 7; 10; 11.
+pub fn lookup_fault(shape: Shape, nodes: &[f64], values: &[f64], point: &[f64]) -> Answer
+    ensures { λ r. ⌜ r ≡ lookupFault shape (now (nodes .entry)) (now (values .entry)) (now (point .entry)) ⌝ }
+{
+    let fault = lengths_fault(shape, nodes.len(), values.len(), point.len());
+    if fault.number != 0 {
+        return fault;
+    }
+    let fault = table_fault(shape, nodes, values);
+    if fault.number != 0 {
+        return fault;
+    }
+    inside_fault(shape, nodes, point)
+}
+
+// The same with 3 and 9 of the directions.
+pub fn step_fault(
+    shape: Shape,
+    nodes: &[f64],
+    values: &[f64],
+    point: &[f64],
+    directions: &[u8],
+) -> Answer
+    ensures { λ r. ⌜ r ≡ stepFault shape (now (nodes .entry)) (now (values .entry)) (now (point .entry)) (now (directions .entry)) ⌝ }
+{
+    let fault = lengths_fault(shape, nodes.len(), values.len(), point.len());
+    if fault.number != 0 {
+        return fault;
+    }
+    let fault = table::length_fault(3, shape.axes, directions.len());
+    if fault.number != 0 {
+        return fault;
+    }
+    let fault = table_fault(shape, nodes, values);
+    if fault.number != 0 {
+        return fault;
+    }
+    let fault = table::directions_fault(directions);
+    if fault.number != 0 {
+        return fault;
+    }
+    inside_fault(shape, nodes, point)
+}
+
+// ---- before a slice
+
+// 16: no second axis, or no such axis.
+pub fn no_axis_fault(shape: Shape, axis: usize) -> Answer
+    ensures { λ r. ⌜ r ≡ noAxisFault shape axis ⌝ }
+{
+    if shape.axes <= 1 {
+        return answer::refuse(16, 0, 0);
+    }
+    if axis < shape.axes {
+        answer::pass()
+    } else {
+        answer::refuse(16, 0, 0)
+    }
+}
+
+// 15: no room for the values.
+pub fn room_fault(wanted: usize, room: usize) -> Answer
+    ensures { λ r. ⌜ r ≡ roomFault wanted room ⌝ }
+{
+    if room < wanted {
+        answer::refuse(15, 0, 1)
+    } else {
+        answer::pass()
+    }
+}
+
+// 1, 2, 3; 16; 4, 5, 6; 7.
+pub fn nearest_front(shape: Shape, nodes: &[f64], values: &[f64], axis: usize) -> Answer
+    ensures { λ r. ⌜ r ≡ nearestFront shape (now (nodes .entry)) (now (values .entry)) axis ⌝ }
+{
+    let fault = table::frame_fault(shape, nodes.len(), values.len());
+    if fault.number != 0 {
+        return fault;
+    }
+    let fault = no_axis_fault(shape, axis);
+    if fault.number != 0 {
+        return fault;
+    }
+    table_fault(shape, nodes, values)
+}
+
+// The same with 3 and 9 of the directions.
+pub fn step_front(
+    shape: Shape,
+    nodes: &[f64],
+    values: &[f64],
+    directions: &[u8],
+    axis: usize,
+) -> Answer
+    ensures { λ r. ⌜ r ≡ stepFront shape (now (nodes .entry)) (now (values .entry)) (now (directions .entry)) axis ⌝ }
+{
+    let fault = table::frame_fault(shape, nodes.len(), values.len());
+    if fault.number != 0 {
+        return fault;
+    }
+    let fault = table::length_fault(3, shape.axes, directions.len());
+    if fault.number != 0 {
+        return fault;
+    }
+    let fault = no_axis_fault(shape, axis);
+    if fault.number != 0 {
+        return fault;
+    }
+    let fault = table_fault(shape, nodes, values);
+    if fault.number != 0 {
+        return fault;
+    }
+    table::directions_fault(directions)
+}

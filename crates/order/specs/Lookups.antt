@@ -8,6 +8,7 @@ use Rattle.answer.specs.declared.Answer.{Answer}
 use Rattle.table.specs.Shape.{countsOf}
 use Rattle.table.specs.Table.{frameFault, lengthFault, axesFault, valuesFault, directionsFault, readingsFault, rangesFault}
 use Rattle.table.specs.declared.Shape.{Shape}
+use Rattle.uniform.specs.Uniform.{axesUniformFault}
 
 -- "Order for a lookup: 1, 2, 3; then each axis node by node (4, 5, 6 at each node); 7; .. 10 for all axes; 11 for all axes"
 unfoldable pub lookupFault : Shape → List Float → List Float → List Float → Answer
@@ -28,5 +29,16 @@ stepFault s nodes values readings directions =
     or axesFault (countsOf s) nodes
     or valuesFault values
     or directionsFault directions
+    or readingsFault readings
+    or rangesFault (countsOf s) nodes readings
+
+-- ".. 8 for LinearUniform, all axes; .. 10 for all axes; 11 for all axes"
+unfoldable pub linearUniformFault : Shape → List Float → List Float → List Float → Answer
+linearUniformFault s nodes values readings =
+    frameFault s (length nodes) (length values)
+    or lengthFault 2 (s .axes) (length readings)
+    or axesFault (countsOf s) nodes
+    or valuesFault values
+    or axesUniformFault (countsOf s) nodes
     or readingsFault readings
     or rangesFault (countsOf s) nodes readings

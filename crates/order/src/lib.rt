@@ -3,8 +3,8 @@ ghost use mathlib.Core.Path.{_≡_};
 ghost use Rattle.answer.specs.Answer.{_or_};
 ghost use Rattle.table.specs.Shape.{countsOf};
 ghost use Rattle.table.specs.Table.{frameFault, lengthFault, axesFault, valuesFault, readingsFault, rangesFault};
-ghost use Rattle.order.specs.Lookups.{lookupFault, stepFault};
-ghost use Rattle.order.specs.Fronts.{noAxisFault, roomFault, nearestFront, stepFront};
+ghost use Rattle.order.specs.Lookups.{lookupFault, stepFault, linearUniformFault};
+ghost use Rattle.order.specs.Fronts.{noAxisFault, notFirstFault, roomFault, nearestFront, stepFront, linearFront, linearUniformFront};
 use answer::Answer;
 use table::Shape;
 
@@ -89,6 +89,25 @@ pub fn step_fault(
     inside_fault(shape, nodes, point)
 }
 
+// The same with 8 of all axes.
+pub fn linear_uniform_fault(shape: Shape, nodes: &[f64], values: &[f64], point: &[f64]) -> Answer
+    ensures { λ r. ⌜ r ≡ linearUniformFault shape (now (nodes .entry)) (now (values .entry)) (now (point .entry)) ⌝ }
+{
+    let fault = lengths_fault(shape, nodes.len(), values.len(), point.len());
+    if fault.number != 0 {
+        return fault;
+    }
+    let fault = table_fault(shape, nodes, values);
+    if fault.number != 0 {
+        return fault;
+    }
+    let fault = uniform::axes_uniform_fault(shape, nodes);
+    if fault.number != 0 {
+        return fault;
+    }
+    inside_fault(shape, nodes, point)
+}
+
 // ---- before a slice
 
 // 16: no second axis, or no such axis.
@@ -99,6 +118,20 @@ pub fn no_axis_fault(shape: Shape, axis: usize) -> Answer
         return answer::refuse(16, 0, 0);
     }
     if axis < shape.axes {
+        answer::pass()
+    } else {
+        answer::refuse(16, 0, 0)
+    }
+}
+
+// 16 of the two linears: no second axis, or not the first.
+pub fn not_first_fault(shape: Shape, axis: usize) -> Answer
+    ensures { λ r. ⌜ r ≡ notFirstFault shape axis ⌝ }
+{
+    if shape.axes <= 1 {
+        return answer::refuse(16, 0, 0);
+    }
+    if axis == 0 {
         answer::pass()
     } else {
         answer::refuse(16, 0, 0)
@@ -158,4 +191,30 @@ pub fn step_front(
         return fault;
     }
     table::directions_fault(directions)
+}
+
+// 1, 2, 3; 16 of the two linears; 4, 5, 6; 7.
+pub fn linear_front(shape: Shape, nodes: &[f64], values: &[f64], axis: usize) -> Answer
+    ensures { λ r. ⌜ r ≡ linearFront shape (now (nodes .entry)) (now (values .entry)) axis ⌝ }
+{
+    let fault = table::frame_fault(shape, nodes.len(), values.len());
+    if fault.number != 0 {
+        return fault;
+    }
+    let fault = not_first_fault(shape, axis);
+    if fault.number != 0 {
+        return fault;
+    }
+    table_fault(shape, nodes, values)
+}
+
+// The same with 8 of all axes.
+pub fn linear_uniform_front(shape: Shape, nodes: &[f64], values: &[f64], axis: usize) -> Answer
+    ensures { λ r. ⌜ r ≡ linearUniformFront shape (now (nodes .entry)) (now (values .entry)) axis ⌝ }
+{
+    let fault = linear_front(shape, nodes, values, axis);
+    if fault.number != 0 {
+        return fault;
+    }
+    uniform::axes_uniform_fault(shape, nodes)
 }

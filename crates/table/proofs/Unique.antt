@@ -1,10 +1,13 @@
 -- Each contract of a public function, as it stands in the source (`Post`), allows one outcome.
 use mathlib.Core.Path.{_≡_}
+use Prim.Native.Nat.{ℕ}
 use Rattle.answer.proofs.Outcome.{one-outcome}
 use Rattle.answer.specs.declared.Answer.{Answer}
 use Rattle.table.proofs.shape_fault.Reads as shape-fault
 use Rattle.table.proofs.length_fault.Reads as length-fault
 use Rattle.table.proofs.frame_fault.Reads as frame-fault
+use Rattle.table.proofs.least.Reads as least
+use Rattle.table.proofs.axis_end.Reads as axis-end
 use Rattle.table.proofs.axes_fault.Reads as axes-fault
 use Rattle.table.proofs.values_fault.Reads as values-fault
 use Rattle.table.proofs.directions_fault.Reads as directions-fault
@@ -20,6 +23,12 @@ length-fault-unique κs a r s x y p q = one-outcome r s _ p q
 
 pub frame-fault-unique : (κs : _) (a : _) (r s : Answer) (x y : _) → frame-fault.Post κs a r x → frame-fault.Post κs a s y → r ≡ s
 frame-fault-unique κs a r s x y p q = one-outcome r s _ p q
+
+pub least-unique : (κs : _) (a : _) (r s : ℕ) (x y : _) → least.Post κs a r x → least.Post κs a s y → r ≡ s
+least-unique κs a r s x y p q = one-outcome r s _ p q
+
+pub axis-end-unique : (κs : _) (a : _) (r s : ℕ) (x y : _) → axis-end.Post κs a r x → axis-end.Post κs a s y → r ≡ s
+axis-end-unique κs a r s x y p q = one-outcome r s _ p q
 
 pub axes-fault-unique : (κs : _) (a : _) (r s : Answer) (x y : _) → axes-fault.Post κs a r x → axes-fault.Post κs a s y → r ≡ s
 axes-fault-unique κs a r s x y p q = one-outcome r s _ p q

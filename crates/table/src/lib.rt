@@ -116,17 +116,20 @@ pub fn frame_fault(shape: Shape, nodes: usize, values: usize) -> Answer
 
 // ---- 4, 5, 6 of all axes
 
-fn least(a: usize, b: usize) -> usize
+// The less of two.
+pub fn least(a: usize, b: usize) -> usize
     ensures { λ r. ⌜ r ≡ min a b ⌝ }
 {
     if a < b { a } else { b }
 }
 
 // Where an axis of so many nodes ends that starts at a place, in so many nodes.
-fn axis_end(at: usize, count: usize, len: usize) -> usize
-    requires { ⌜ at ≤ len ⌝ }
+pub fn axis_end(at: usize, count: usize, len: usize) -> usize
     ensures { λ r. ⌜ r ≡ at + min count (len - at) ⌝ }
 {
+    if at >= len {
+        return at;
+    }
     at + least(count, len - at)
 }
 

@@ -2,13 +2,15 @@
 use mathlib.Core.Path.{_≡_, sym, ap, _∙_}
 use mathlib.Core.Bool.{true, false}
 use mathlib.Core.List.{List}
-use Prim.Native.Nat.{ℕ, _≤_}
+use Prim.Native.Nat.{ℕ, _-_, _≤_, _<_}
+use native.Mathlib.Omega.{arith}
+use lib.ListN.{length}
 use lib.Ieee.{Float, binary64, lt, sub}
 use Rattle.answer.specs.Answer.{refused, fine, good, _or_}
 use Rattle.answer.proofs.Orders as orders
 use Rattle.judge.specs.Check.{gap, countFault, finiteFault, lentStepFault, readingFault}
 use Rattle.judge.proofs.Rows.{count-enough}
-use Rattle.uniform.specs.Uniform.{apart, gapFault}
+use Rattle.uniform.specs.Uniform.{apart, gapFault, uniformFault}
 use Rattle.uniform.specs.Calls.{uniformReadFault}
 
 pub uniform-enough : (first step : Float) (n : ℕ) (p : Float) → good (uniformReadFault first step n p) ≡ true → 2 ≤ n
@@ -33,3 +35,8 @@ apart-wider x y h = simp h
 pub apart-narrower : (x y : Float) → lt y x ≡ false → sub binary64 y x ≡ apart x y
 unfolding apart
 apart-narrower x y h = simp h
+
+-- an axis of fewer than two nodes has no gap
+pub few-gaps : (axis : ℕ) (nodes : List Float) (tolerance : Float) → length nodes < 2 → fine ≡ uniformFault axis nodes tolerance
+unfolding uniformFault
+few-gaps axis nodes tolerance h = sym (orders.none-good (gapFault axis nodes tolerance) 1 (length nodes - 2) (λ j l m. absurd (omega arith)))

@@ -1,13 +1,14 @@
 -- "The axis rules (utils.rs)", of uniform axes: the index, and the uniform check.
 use mathlib.Core.Bool.{false, cond}
-use mathlib.Core.List.{List}
+use mathlib.Core.List.{List, []}
 use Prim.Native.Nat.{ℕ, _-_, min}
 use lib.IntN.{pos, negsuc}
-use lib.ListN.{length}
+use lib.ListN.{length, getD}
 use lib.Ieee.{Float, fin, binary64, lt, sub, mul, div, toUnsigned}
 use Rattle.answer.specs.Answer.{plusZero, refused, when, firstOf}
 use Rattle.answer.specs.declared.Answer.{Answer}
 use Rattle.judge.specs.Check.{gap}
+use Rattle.table.specs.Shape.{axesOf}
 use Rattle.uniform.specs.declared.Tolerance.{Tolerance}
 use Rattle.uniform.specs.declared.Tolerance.the-variants.{Lent, Default}
 
@@ -36,3 +37,11 @@ uniformFault axis nodes tolerance = firstOf (gapFault axis nodes tolerance) 1 (l
 unfoldable pub toleranceOf : List Float → Tolerance → Float
 toleranceOf nodes (Lent tolerance) = tolerance
 toleranceOf nodes Default = mul binary64 (gap nodes 0) (fin false 1 (negsuc 41))
+
+-- one axis by the default tolerance
+abbrev pub defaultFault : ℕ → List Float → Answer
+defaultFault axis nodes = uniformFault axis nodes (toleranceOf nodes Default)
+
+-- "8 for LinearUniform, all axes"
+unfoldable pub axesUniformFault : List ℕ → List Float → Answer
+axesUniformFault counts nodes = firstOf (λ a. defaultFault a (getD (axesOf counts nodes) a [])) 0 (length counts)

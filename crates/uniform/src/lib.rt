@@ -1,12 +1,14 @@
 // Uniform axes: three of the seven axis primitives of the Rust's strategy/utils.rs under their names, total, with the checks in front.
-// They share no search with the other four.
+// They share no search with the other four. And the uniform check of a whole table.
 ghost use mathlib.Core.Path.{_≡_};
 ghost use Prim.Native.Nat.{_+_, _<_, _≤_};
 ghost use lib.ListN.{length};
-ghost use Rattle.uniform.specs.Uniform.{uniformCell, uniformIndex, apart, gapFault, uniformFault, toleranceOf};
+ghost use Rattle.table.specs.Shape.{countsOf};
+ghost use Rattle.uniform.specs.Uniform.{uniformCell, uniformIndex, apart, gapFault, uniformFault, toleranceOf, defaultFault, axesUniformFault};
 ghost use Rattle.uniform.specs.Calls.{uniformReadFault, lentFault, locateLowerIndexUniform, validateUniformGrid, validateUniformGridEpsilon};
 use answer::Answer;
 use answer::IndexAnswer;
+use table::Shape;
 
 // The tolerance of a uniform grid: a lent one, or the default. The Rust's Option<f64>.
 pub enum Tolerance {
@@ -151,4 +153,36 @@ pub fn validate_uniform_grid_epsilon(grid: &[f64], tolerance: Tolerance) -> Answ
     }
     let bound = tolerance_of(grid, tolerance);
     uniform_fault(0, grid, bound)
+}
+
+// ---- of a whole table
+
+// 8 of one axis by the default tolerance; fewer than two nodes have no gap.
+fn default_fault(axis: usize, grid: &[f64]) -> Answer
+    ensures { λ r. ⌜ r ≡ defaultFault axis (now (grid .entry)) ⌝ }
+{
+    if grid.len() < 2 {
+        return answer::pass();
+    }
+    let bound = tolerance_of(grid, Tolerance::Default);
+    uniform_fault(axis, grid, bound)
+}
+
+pub fn axes_uniform_fault(shape: Shape, nodes: &[f64]) -> Answer
+    ensures { λ r. ⌜ r ≡ axesUniformFault (countsOf shape) (now (nodes .entry)) ⌝ }
+{
+    let counts = shape.counts;
+    let axes = table::least(shape.axes, 4);
+    let mut at: usize = 0;
+    let mut a: usize = 0;
+    while a < axes {
+        let end = table::axis_end(at, counts[a], nodes.len());
+        let fault = default_fault(a, &nodes[at..end]);
+        if fault.number != 0 {
+            return fault;
+        }
+        at = end;
+        a += 1;
+    }
+    answer::pass()
 }

@@ -169,6 +169,12 @@ module _ (f : ℕ → Answer) where
       go (inl e) later = subst (λ (n : ℕ). good (f n) ≡ true) e (first-passed (f i) (firstOf f (suc i) k) whole)
       go (inr n) later = later (omega arith)
 
+-- the same faults give the same first one
+pub first-same : (f g : ℕ → Answer) (i k : ℕ) → ((j : ℕ) → i ≤ j → j < i + k → f j ≡ g j) → firstOf f i k ≡ firstOf g i k
+unfolding firstOf
+first-same f g i zero h = refl
+first-same f g i (suc k) h = ap₂ (λ (a b : Answer). a or b) (h i (omega arith) (omega arith)) (first-same f g (suc i) k (λ j l m. h j (omega arith) (omega arith)))
+
 -- ---- a row that refuses: met, passed, and in front of the rest of an order
 module _ (b : Bool) (n axis place : ℕ) where
   pub row-met : b ≡ true → refused (suc n) axis place ≡ when b (refused (suc n) axis place)

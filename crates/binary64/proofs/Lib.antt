@@ -1,4 +1,5 @@
 pub mod Order
 pub mod Difference
 pub mod Quotient
+pub mod Finite
 pub mod Unique

@@ -141,8 +141,8 @@ module _ (counts : List ℕ) (nodes : List Float) (a at : ℕ) (l : a < length c
   pub walk-next : Walk counts nodes (a + 1) (at + min count (length nodes - at))
   walk-next = ap (λ (k : ℕ). drop k (axesOf counts nodes)) (add-one a) ∙ tails both ∙ ap₂ axesOf (ap (λ (k : ℕ). drop k counts) (sym (add-one a))) rest
 
--- ---- a walk along the first so many of four counts, as the code goes
-pub counts-least : (counts : List ℕ) (m n : ℕ) → length counts ≡ 4 → m ≡ min n 4 → take m counts ≡ take n counts
+-- ---- the first so many of four, as the code goes
+pub counts-least : {A : Type 0} (counts : List A) (m n : ℕ) → length counts ≡ 4 → m ≡ min n 4 → take m counts ≡ take n counts
 counts-least counts m n l e = go (eq-or-lt-of-le small)
   where
     small : min n 4 ≤ n

@@ -1,0 +1,134 @@
+-- The fold of the corners, pass by pass. Assumes nothing.
+use mathlib.Core.Path.{_≡_, refl, sym, ap, ap₂, _∙_, subst}
+use mathlib.Core.List.{List, [], _∷_, _++_}
+use Prim.Native.Nat.{ℕ, zero, suc, _+_, _-_, _*_, _/_, _^_, _≤_, _<_, min}
+use native.Mathlib.Nat.{add-comm, add-zero, pow-le-pow-right}
+use native.Mathlib.Omega.{arith}
+use lib.ListN.{length, take, drop, getD, set, length-append, length-drop, length-take, List·getD-append}
+use lib.Seq.{getD-append-add, getD-drop, take-length}
+use lib.Ieee.{Float, nan}
+use Rattle.answer.specs.Answer.{firstOf}
+use Rattle.answer.specs.declared.Answer.{Answer}
+use Rattle.answer.proofs.Orders.{first-same}
+use Rattle.table.specs.Shape.{tabulate}
+use Rattle.table.proofs.Layouts.{length-tabulate, getD-tabulate, tabulate-same, tabulate-step}
+use Rattle.table.proofs.Shapes.{ahead, past}
+use Rattle.blend.specs.Blend.{blended, blends, resultFaultAt, resultsFault}
+use Rattle.blend.specs.Rust.{diffs, passed, butterfly}
+use Rattle.blend.specs.Folds.{passedOver, merged, halfOf, grown}
+use Rattle.blend.specs.declared.AxisLocation.{AxisLocation}
+use Rattle.blend.specs.declared.AxisLocation.the-variants.{Exact, Between}
+use Rattle.blend.proofs.Bits.{power-above, power-suc}
+
+-- ---- writing over the front of a list
+pub over-at : (i j : ℕ) (h : ℕ → Float) (xs : List Float) → getD (tabulate i h ++ drop i xs) (i + j) nan ≡ getD xs (i + j) nan
+over-at i j h xs =
+    ap (λ (k : ℕ). getD (tabulate i h ++ drop i xs) (k + j) nan) (sym (length-tabulate i h))
+    ∙ getD-append-add (tabulate i h) (drop i xs) j nan
+    ∙ getD-drop i xs j nan
+
+over-here : (i : ℕ) (h : ℕ → Float) (xs : List Float) → getD (tabulate i h ++ drop i xs) i nan ≡ getD xs i nan
+over-here i h xs = ap (λ (k : ℕ). getD (tabulate i h ++ drop i xs) k nan) (sym (add-zero i)) ∙ over-at i 0 h xs ∙ ap (λ (k : ℕ). getD xs k nan) (add-zero i)
+
+-- one more value of a pass in place
+abbrev pub blendAt : Float → ℕ → List Float → ℕ → Float
+blendAt f half vals i = blended (getD vals i nan) (getD vals (i + half) nan) f
+
+pub pass-step : (f : Float) (half i : ℕ) (vals v : List Float) (b : Float) → i < length vals → v ≡ tabulate i (blendAt f half vals) ++ drop i vals
+    → b ≡ blended (getD v i nan) (getD v (i + half) nan) f
+    → set v i b ≡ tabulate (i + 1) (blendAt f half vals) ++ drop (i + 1) vals
+pass-step f half i vals v b l e q =
+    let low : getD v i nan ≡ getD vals i nan = ap (λ (x : List Float). getD x i nan) e ∙ over-here i (blendAt f half vals) vals in
+    let high : getD v (i + half) nan ≡ getD vals (i + half) nan = ap (λ (x : List Float). getD x (i + half) nan) e ∙ over-at i half (blendAt f half vals) vals in
+    ap₂ (λ (x : List Float) (y : Float). set x i y) e (q ∙ ap₂ (λ (x y : Float). blended x y f) low high)
+    ∙ tabulate-step i (blendAt f half vals) vals l
+
+pub pass-done : (f : Float) (half i : ℕ) (vals v : List Float) → i ≡ half → v ≡ tabulate i (blendAt f half vals) ++ drop i vals → v ≡ passedOver f half vals
+unfolding passed
+pass-done f half i vals v e q = q ∙ ap (λ (k : ℕ). tabulate k (blendAt f half vals) ++ drop k vals) e
+
+-- ---- the butterfly looks at the corners in use alone
+pub front : (fs xs ys : List Float) → 2 ^ length fs ≤ length xs → butterfly fs (xs ++ ys) ≡ butterfly fs xs
+unfolding butterfly passed
+front [] xs ys l = List·getD-append xs ys nan 0 (omega (arith, l))
+front (f ∷ fs) xs ys l = ap (butterfly fs) (tabulate-same (2 ^ length fs) _ _ turn)
+  where
+    turn : (i : ℕ) → i < 2 ^ length fs → blended (getD (xs ++ ys) i nan) (getD (xs ++ ys) (i + 2 ^ length fs) nan) f ≡ blended (getD xs i nan) (getD xs (i + 2 ^ length fs) nan) f
+    turn i b =
+        ap₂ (λ (x y : Float). blended x y f)
+        (List·getD-append xs ys nan i (omega (arith, l, power-suc (length fs), b)))
+        (List·getD-append xs ys nan (i + 2 ^ length fs) (omega (arith, l, power-suc (length fs), b)))
+
+-- ---- how many corners are in use
+pub half-power : (p : AxisLocation) (ps : List AxisLocation) (h : ℕ) → h ≡ 2 ^ length (diffs (p ∷ ps)) → halfOf p h ≡ 2 ^ length (diffs ps)
+half-power (Exact node) ps h e = e
+half-power (Between l f) ps h e = let d : h ≡ 2 ^ length (diffs ps) + 2 ^ length (diffs ps) = e ∙ power-suc (length (diffs ps)) in omega (arith, d)
+
+pub grown-power : (p : AxisLocation) (ps : List AxisLocation) (h : ℕ) → h ≡ 2 ^ length (diffs ps) → grown p h ≡ 2 ^ length (diffs (p ∷ ps))
+grown-power (Exact node) ps h e = e
+grown-power (Between l f) ps h e = ap₂ (λ (x y : ℕ). x + y) e e ∙ sym (power-suc (length (diffs ps)))
+
+few-diffs : (ps : List AxisLocation) → length (diffs ps) ≤ length ps
+few-diffs [] = omega arith
+few-diffs (Exact node ∷ ps) = omega (arith, few-diffs ps)
+few-diffs (Between l f ∷ ps) = omega (arith, few-diffs ps)
+
+pub few-corners : (ps : List AxisLocation) → length ps ≤ 4 → 2 ^ length (diffs ps) ≤ 16
+few-corners ps l = let u : 2 ^ length (diffs ps) ≤ 2 ^ 4 = pow-le-pow-right (omega arith) {j = 4} (omega (arith, few-diffs ps, l)) in u
+
+left-few : (ls : List AxisLocation) (n d : ℕ) → n ≤ 4 → length (drop d (take n ls)) ≤ 4
+left-few ls n d l = omega (arith, length-drop d (take n ls), length-take n ls, l)
+
+-- from the last axis on
+pub count-step : (ls : List AxisLocation) (n d count : ℕ) → n ≤ length ls → 0 < d → d ≤ n → count ≡ 2 ^ length (diffs (drop d (take n ls)))
+    → grown (getD ls (d - 1) (Exact 0)) count ≡ 2 ^ length (diffs (drop (d - 1) (take n ls)))
+count-step ls n d count a b l e =
+    let v : d ≡ d - 1 + 1 = omega arith in
+    grown-power (getD ls (d - 1) (Exact 0)) (drop (d - 1 + 1) (take n ls)) count (e ∙ ap (λ (k : ℕ). 2 ^ length (diffs (drop k (take n ls)))) v)
+    ∙ ap (λ (r : List AxisLocation). 2 ^ length (diffs r)) (sym (ahead ls n (d - 1) (Exact 0) (omega arith) a))
+
+pub count-few : (ls : List AxisLocation) (n d count : ℕ) → n ≤ 4 → count ≡ 2 ^ length (diffs (drop d (take n ls))) → count ≤ 16
+count-few ls n d count l e = omega (arith, e, few-corners (drop d (take n ls)) (left-few ls n d l))
+
+pub count-none : (ls : List AxisLocation) (n : ℕ) → 1 ≡ 2 ^ length (diffs (drop n (take n ls)))
+count-none ls n = sym (ap (λ (r : List AxisLocation). 2 ^ length (diffs r)) (past ls n n (omega arith)))
+
+-- ---- the loop: the corners in use, blended on the axes that are left, give r
+pub record Folding (ps : List AxisLocation) (r : Float) (v : List Float) (h : ℕ) : Type 0 where
+  pub counted : h ≡ 2 ^ length (diffs ps)
+  pub same : butterfly (diffs ps) v ≡ r
+
+pub fold-step : (p : AxisLocation) (ps : List AxisLocation) (r : Float) (v w : List Float) (h m : ℕ) → Folding (p ∷ ps) r v h → m ≡ halfOf p h → w ≡ merged p m v → Folding ps r w m
+unfolding butterfly passed
+fold-step (Exact node) ps r v w h m z a b = record { counted = a ∙ z .counted; same = ap (butterfly (diffs ps)) b ∙ z .same }
+fold-step (Between l f) ps r v w h m z a b =
+    let e : m ≡ 2 ^ length (diffs ps) = a ∙ half-power (Between l f) ps h (z .counted) in
+    let long : 2 ^ length (diffs ps) ≤ length (passed f m v) = omega (arith, length-tabulate m (blendAt f m v), e) in
+    record {
+      counted = e;
+      same = ap (butterfly (diffs ps)) b ∙ front (diffs ps) (passed f m v) (drop m v) long ∙ ap (λ (k : ℕ). butterfly (diffs ps) (passed f k v)) e ∙ z .same;
+    }
+
+pub fold-fits : (p : AxisLocation) (ps : List AxisLocation) (h m : ℕ) → h ≡ 2 ^ length (diffs (p ∷ ps)) → h ≤ 16 → m ≡ halfOf p h → grown p m ≤ 16
+fold-fits p ps h m e l a = omega (arith, grown-power p ps m (a ∙ half-power p ps h e), e, l)
+
+pub fold-at : (ls : List AxisLocation) (n d : ℕ) {r : Float} {v : List Float} {h : ℕ} → d < n → n ≤ length ls → Folding (drop d (take n ls)) r v h
+    → Folding (getD ls d (Exact 0) ∷ drop (d + 1) (take n ls)) r v h
+fold-at ls n d a b z = rw (ahead ls n d (Exact 0) a b) at z
+
+pub fold-done : (ls : List AxisLocation) (n d : ℕ) {r : Float} {v : List Float} {h : ℕ} → n ≤ d → Folding (drop d (take n ls)) r v h → getD v 0 nan ≡ r
+unfolding butterfly
+fold-done ls n d l z = let u = rw (past ls n d l) at z in u .same
+
+-- ---- two runs
+abbrev pub runAt : Float → List Float → List Float → ℕ → Float
+runAt f low high i = blended (getD low i nan) (getD high i nan) f
+
+abbrev pub runFault : Float → List Float → List Float → ℕ → Answer
+runFault f low high i = resultFaultAt i (runAt f low high i)
+
+pub results-blends : (f : Float) (low high : List Float) → resultsFault (blends f low high) ≡ firstOf (runFault f low high) 0 (min (length low) (length high))
+unfolding resultsFault blends
+results-blends f low high =
+    ap (λ (n : ℕ). firstOf (λ i. resultFaultAt i (getD (tabulate (min (length low) (length high)) (runAt f low high)) i nan)) 0 n) (length-tabulate (min (length low) (length high)) (runAt f low high))
+    ∙ first-same _ _ 0 (min (length low) (length high)) (λ j a b. ap (resultFaultAt j) (getD-tabulate (min (length low) (length high)) j (runAt f low high) nan (omega arith)))

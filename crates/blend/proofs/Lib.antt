@@ -1,0 +1,4 @@
+pub mod Bits
+pub mod Folds
+pub mod Finites
+pub mod Unique

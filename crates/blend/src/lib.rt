@@ -1,0 +1,170 @@
+// What the two linears compute: the blend of two values, the fold of a reading's corners, and the blend of two runs of values.
+ghost use mathlib.Core.Path.{_≡_};
+ghost use Prim.Native.Nat.{ℕ, _+_, _^_, _≤_, min};
+ghost use lib.ListN.{length, take};
+ghost use Rattle.blend.specs.Blend.{blended, computed, blends, resultsFault, resultFaultAt, blendedInto};
+ghost use Rattle.blend.specs.Rust.{diffs, butterfly};
+ghost use Rattle.blend.specs.Folds.{passedOver, merged, halfOf, grown};
+use answer::Answer;
+
+// Where a reading lies on an axis: on a node, or at a fraction of a cell.
+pub enum AxisLocation {
+    Exact(usize),
+    Between { lower: usize, frac: f64 },
+}
+
+// Two values blended: four rounded operations in this order.
+pub fn blend(a: f64, b: f64, f: f64) -> f64
+    ensures { λ r. ⌜ r ≡ blended a b f ⌝ }
+{
+    a * (1.0 - f) + b * f
+}
+
+// ---- the corners of a reading
+
+// One pass: each of the first `half` values blended with the one `half` places on.
+fn pass_over(vals: [f64; 16], half: usize, f: f64) -> [f64; 16]
+    requires { ⌜ half ≤ 8 ⌝ }
+    ensures { λ r. ⌜ r ≡ passedOver f half vals ⌝ }
+{
+    let mut v = vals;
+    let mut i: usize = 0;
+    while i < half {
+        let j = i + half;
+        let b = blend(v[i], v[j], f);
+        v[i] = b;
+        i += 1;
+    }
+    v
+}
+
+// The corners after one axis, of which `half` are left: an exact axis has fixed them already.
+fn merge(location: AxisLocation, vals: [f64; 16], half: usize) -> [f64; 16]
+    requires { ⌜ grown location half ≤ 16 ⌝ }
+    ensures { λ r. ⌜ r ≡ merged location half vals ⌝ }
+{
+    let AxisLocation::Between { lower: _, frac } = location else {
+        return vals;
+    };
+    pass_over(vals, half, frac)
+}
+
+// How many corners one axis leaves.
+fn half_of(location: AxisLocation, count: usize) -> usize
+    ensures { λ r. ⌜ r ≡ halfOf location count ⌝ }
+{
+    match location {
+        AxisLocation::Exact(_) => count,
+        AxisLocation::Between { lower: _, frac: _ } => count / 2,
+    }
+}
+
+// How many corners there are with one axis more.
+fn grow(location: AxisLocation, count: usize) -> usize
+    requires { ⌜ count ≤ 1000 ⌝ }
+    ensures { λ r. ⌜ r ≡ grown location count ⌝ }
+{
+    match location {
+        AxisLocation::Exact(_) => count,
+        AxisLocation::Between { lower: _, frac: _ } => count + count,
+    }
+}
+
+// How many corners the first n axes have.
+fn count_corners(locations: [AxisLocation; 4], n: usize) -> usize
+    requires { ⌜ n ≤ 4 ⌝ }
+    ensures { λ r. ⌜ r ≡ 2 ^ length (diffs (take n locations)) ⌝ }
+{
+    let mut count: usize = 1;
+    let mut d = n;
+    while d > 0 {
+        d -= 1;
+        let location = locations[d];
+        count = grow(location, count);
+    }
+    count
+}
+
+// n, at most 4.
+fn four_at_most(n: usize) -> usize
+    ensures { λ r. ⌜ r ≡ min n 4 ⌝ }
+{
+    if n < 4 { n } else { 4 }
+}
+
+// The corners' values blended, axis after axis, the first one first.
+pub fn fold(vals: [f64; 16], locations: [AxisLocation; 4], n: usize) -> f64
+    ensures { λ r. ⌜ r ≡ butterfly (diffs (take n locations)) vals ⌝ }
+{
+    let axes = four_at_most(n);
+    let mut v = vals;
+    let mut half = count_corners(locations, axes);
+    let mut d: usize = 0;
+    while d < axes {
+        let location = locations[d];
+        half = half_of(location, half);
+        v = merge(location, v, half);
+        d += 1;
+    }
+    v[0]
+}
+
+// The fold's value, or 12.
+pub fn compute(vals: [f64; 16], locations: [AxisLocation; 4], n: usize) -> Answer
+    ensures { λ r. ⌜ r ≡ computed (butterfly (diffs (take n locations)) vals) ⌝ }
+{
+    let value = fold(vals, locations, n);
+    let fault = judge::result_fault(value);
+    if fault.number != 0 {
+        return fault;
+    }
+    answer::succeed(value)
+}
+
+// ---- two runs of values
+
+// 12 of one value of a slice.
+fn result_fault_at(place: usize, value: f64) -> Answer
+    ensures { λ r. ⌜ r ≡ resultFaultAt place value ⌝ }
+{
+    if binary64::is_finite(value) {
+        answer::pass()
+    } else {
+        answer::refuse(12, 0, place)
+    }
+}
+
+fn shorter(m: usize, n: usize) -> usize
+    ensures { λ r. ⌜ r ≡ min m n ⌝ }
+{
+    if m < n { m } else { n }
+}
+
+// 12 of the first blend of two runs that is not finite.
+pub fn blend_fault(low: &[f64], high: &[f64], f: f64) -> Answer
+    ensures { λ r. ⌜ r ≡ resultsFault (blends f (now (low .entry)) (now (high .entry))) ⌝ }
+{
+    let count = shorter(low.len(), high.len());
+    let mut i: usize = 0;
+    while i < count {
+        let fault = result_fault_at(i, blend(low[i], high[i], f));
+        if fault.number != 0 {
+            return fault;
+        }
+        i += 1;
+    }
+    answer::pass()
+}
+
+// Writes the blends of two runs, as many as there is room for.
+pub fn blend_into(low: &[f64], high: &[f64], f: f64, out: &mut [f64])
+    ensures { λ _. ⌜ now (out .exit) ≡ blendedInto f (now (low .entry)) (now (high .entry)) (now (out .entry)) ⌝ }
+{
+    let both = shorter(low.len(), high.len());
+    let count = shorter(both, out.len());
+    let mut i: usize = 0;
+    while i < count {
+        out[i] = blend(low[i], high[i], f);
+        i += 1;
+    }
+}

@@ -15,8 +15,8 @@ use Rattle.uniform.specs.declared.Tolerance.the-variants.{Default}
 use Rattle.ninterp.specs.Utils.{howMany, lowerIndex, exactNode, fraction, axisLocation, lowerStep, upperStep, stepIndex}
 use Rattle.ninterp.specs.Calls.{axisAnswer, axisReadingFault, directedFault, locateLowerIndex, locateAxis, locateStepIndex}
 use Rattle.ninterp.specs.Tables.{nearestIndex}
-use Rattle.ninterp.specs.declared.strategy.utils.AxisLocation.{AxisLocation}
-use Rattle.ninterp.specs.declared.strategy.utils.AxisLocation.the-variants.{Exact, Between}
+use Rattle.blend.specs.declared.AxisLocation.{AxisLocation}
+use Rattle.blend.specs.declared.AxisLocation.the-variants.{Exact, Between}
 use Rattle.ninterp.specs.declared.strategy.utils.AxisAnswer.{AxisAnswer}
 
 -- what a call tells

@@ -24,8 +24,8 @@ use Rattle.ninterp.specs.Utils.{howMany, countBelow, lowerIndex, exactNo
 use Rattle.ninterp.specs.Calls.{indexOf, locationIndex, locationFraction, exactAnswer, axisAnswer}
 use Rattle.ninterp.specs.declared.strategy.utils.MaybeIndex.{MaybeIndex}
 use Rattle.ninterp.specs.declared.strategy.utils.MaybeIndex.the-variants.{Some, None}
-use Rattle.ninterp.specs.declared.strategy.utils.AxisLocation.{AxisLocation}
-use Rattle.ninterp.specs.declared.strategy.utils.AxisLocation.the-variants.{Exact, Between}
+use Rattle.blend.specs.declared.AxisLocation.{AxisLocation}
+use Rattle.blend.specs.declared.AxisLocation.the-variants.{Exact, Between}
 use Rattle.ninterp.proofs.Counts.{Splits, Falls, count-is, count-splits}
 use Rattle.ninterp.proofs.Axes.{rises-all, climbs, AtMost, Below, below-count, lower-at, lower-fits, cell-low, cell-high, lowest}
 use Rattle.ninterp.proofs.Primitives.{exact-lower, exact-upper}

@@ -17,8 +17,8 @@ use Rattle.ninterp.specs.Utils.{lowerIndex, exactNode, fraction, axisLoc
 use Rattle.ninterp.specs.Calls.{exactAnswer, axisAnswer, axisReadingFault, directedFault, lowerFault, exactFault}
 use Rattle.ninterp.specs.declared.strategy.utils.MaybeIndex.{MaybeIndex}
 use Rattle.ninterp.specs.declared.strategy.utils.MaybeIndex.the-variants.{Some, None}
-use Rattle.ninterp.specs.declared.strategy.utils.AxisLocation.{AxisLocation}
-use Rattle.ninterp.specs.declared.strategy.utils.AxisLocation.the-variants.{Exact, Between}
+use Rattle.blend.specs.declared.AxisLocation.{AxisLocation}
+use Rattle.blend.specs.declared.AxisLocation.the-variants.{Exact, Between}
 use Rattle.ninterp.specs.declared.strategy.utils.ExactAnswer.{ExactAnswer}
 use Rattle.ninterp.specs.declared.strategy.utils.AxisAnswer.{AxisAnswer}
 use Rattle.judge.proofs.Rows.{axis-of, reading-finite}

@@ -12,8 +12,8 @@ use Rattle.judge.specs.Check.{axisFault, directionFault, readingFault, resultFa
 use Rattle.ninterp.specs.Utils.{lowerIndex, exactNode, axisLocation, stepIndex}
 use Rattle.ninterp.specs.declared.strategy.utils.MaybeIndex.{MaybeIndex}
 use Rattle.ninterp.specs.declared.strategy.utils.MaybeIndex.the-variants.{Some, None}
-use Rattle.ninterp.specs.declared.strategy.utils.AxisLocation.{AxisLocation}
-use Rattle.ninterp.specs.declared.strategy.utils.AxisLocation.the-variants.{Exact, Between}
+use Rattle.blend.specs.declared.AxisLocation.{AxisLocation}
+use Rattle.blend.specs.declared.AxisLocation.the-variants.{Exact, Between}
 use Rattle.ninterp.specs.declared.strategy.utils.ExactAnswer.{ExactAnswer}
 use Rattle.ninterp.specs.declared.strategy.utils.AxisAnswer.{AxisAnswer}
 

@@ -8,8 +8,8 @@ use lib.Ieee.{Float, binary64, lt, le, eq, sub, div}
 use Rattle.judge.specs.Check.{node, gap}
 use Rattle.ninterp.specs.declared.strategy.utils.MaybeIndex.{MaybeIndex}
 use Rattle.ninterp.specs.declared.strategy.utils.MaybeIndex.the-variants.{Some, None}
-use Rattle.ninterp.specs.declared.strategy.utils.AxisLocation.{AxisLocation}
-use Rattle.ninterp.specs.declared.strategy.utils.AxisLocation.the-variants.{Exact, Between}
+use Rattle.blend.specs.declared.AxisLocation.{AxisLocation}
+use Rattle.blend.specs.declared.AxisLocation.the-variants.{Exact, Between}
 
 -- how many nodes pass a test
 unfoldable pub howMany : (Float → Bool) → List Float → ℕ

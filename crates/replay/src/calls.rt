@@ -6,7 +6,7 @@ use answer::Answer;
 use answer::IndexAnswer;
 use ninterp::strategy::utils;
 use ninterp::strategy::utils::AxisAnswer;
-use ninterp::strategy::utils::AxisLocation;
+use blend::AxisLocation;
 use ninterp::strategy::utils::ExactAnswer;
 use ninterp::strategy::utils::MaybeIndex;
 use uniform::Tolerance;

@@ -10,18 +10,13 @@ ghost use Rattle.judge.specs.Check.{Axis};
 ghost use Rattle.ninterp.specs.Utils.{lowerIndex, exactNode, axisLocation, lowerStep, upperStep, stepIndex};
 ghost use Rattle.ninterp.specs.Calls.{locationFraction, axisReadingFault, directedFault, lowerFault, exactFault, locateLowerIndex, exactIndex, locateAxis, locateStepIndex};
 use answer::Answer;
+use blend::AxisLocation;
 use answer::IndexAnswer;
 
 // An index, or none: the Rust's Option<usize>.
 pub enum MaybeIndex {
     Some(usize),
     None,
-}
-
-// Where a reading lies on an axis: on a node, or at a fraction of a cell.
-pub enum AxisLocation {
-    Exact(usize),
-    Between { lower: usize, frac: f64 },
 }
 
 // What a primitive answers, with what it gives.

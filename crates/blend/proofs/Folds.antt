@@ -15,7 +15,7 @@ use Rattle.table.proofs.Layouts.{length-tabulate, getD-tabulate, tabulate-same,
 use Rattle.table.proofs.Shapes.{ahead, past}
 use Rattle.blend.specs.Blend.{blended, blends, resultFaultAt, resultsFault}
 use Rattle.blend.specs.Rust.{diffs, passed, butterfly}
-use Rattle.blend.specs.Folds.{passedOver, merged, halfOf, grown}
+use Rattle.blend.specs.Folds.{passedOver, merged, halfOf, grown, moreCorners}
 use Rattle.blend.specs.declared.AxisLocation.{AxisLocation}
 use Rattle.blend.specs.declared.AxisLocation.the-variants.{Exact, Between}
 use Rattle.blend.proofs.Bits.{power-above, power-suc}
@@ -48,16 +48,16 @@ unfolding passed
 pass-done f half i vals v e q = q ∙ ap (λ (k : ℕ). tabulate k (blendAt f half vals) ++ drop k vals) e
 
 -- ---- the butterfly looks at the corners in use alone
-pub front : (fs xs ys : List Float) → 2 ^ length fs ≤ length xs → butterfly fs (xs ++ ys) ≡ butterfly fs xs
+pub butterfly-same : (fs xs ys : List Float) → ((i : ℕ) → i < 2 ^ length fs → getD xs i nan ≡ getD ys i nan) → butterfly fs xs ≡ butterfly fs ys
 unfolding butterfly passed
-front [] xs ys l = List·getD-append xs ys nan 0 (omega (arith, l))
-front (f ∷ fs) xs ys l = ap (butterfly fs) (tabulate-same (2 ^ length fs) _ _ turn)
-  where
-    turn : (i : ℕ) → i < 2 ^ length fs → blended (getD (xs ++ ys) i nan) (getD (xs ++ ys) (i + 2 ^ length fs) nan) f ≡ blended (getD xs i nan) (getD xs (i + 2 ^ length fs) nan) f
-    turn i b =
-        ap₂ (λ (x y : Float). blended x y f)
-        (List·getD-append xs ys nan i (omega (arith, l, power-suc (length fs), b)))
-        (List·getD-append xs ys nan (i + 2 ^ length fs) (omega (arith, l, power-suc (length fs), b)))
+butterfly-same [] xs ys h = h 0 (omega arith)
+butterfly-same (f ∷ fs) xs ys h =
+    ap (butterfly fs)
+    (tabulate-same (2 ^ length fs) _ _
+    (λ i b. ap₂ (λ (x y : Float). blended x y f) (h i (omega (arith, power-suc (length fs), b))) (h (i + 2 ^ length fs) (omega (arith, power-suc (length fs), b)))))
+
+pub front : (fs xs ys : List Float) → 2 ^ length fs ≤ length xs → butterfly fs (xs ++ ys) ≡ butterfly fs xs
+front fs xs ys l = butterfly-same fs (xs ++ ys) xs (λ i b. List·getD-append xs ys nan i (omega (arith, l, b)))
 
 -- ---- how many corners are in use
 pub half-power : (p : AxisLocation) (ps : List AxisLocation) (h : ℕ) → h ≡ 2 ^ length (diffs (p ∷ ps)) → halfOf p h ≡ 2 ^ length (diffs ps)
@@ -67,6 +67,13 @@ half-power (Between l f) ps h e = let d : h ≡ 2 ^ length (diffs ps) + 2 ^ leng
 pub grown-power : (p : AxisLocation) (ps : List AxisLocation) (h : ℕ) → h ≡ 2 ^ length (diffs ps) → grown p h ≡ 2 ^ length (diffs (p ∷ ps))
 grown-power (Exact node) ps h e = e
 grown-power (Between l f) ps h e = ap₂ (λ (x y : ℕ). x + y) e e ∙ sym (power-suc (length (diffs ps)))
+
+pub more-power : (p : AxisLocation) (ps : List AxisLocation) (h : ℕ) → h ≡ 2 ^ length (diffs ps) → 2 ^ length (diffs (p ∷ ps)) ≤ 16 → moreCorners p h ≡ 2 ^ length (diffs (p ∷ ps))
+more-power (Exact node) ps h e l = e
+more-power (Between k f) ps h e l =
+    let d : h + h ≡ 2 ^ suc (length (diffs ps)) = grown-power (Between k f) ps h e in
+    let m : min (h + h) 16 ≡ h + h = omega (arith, d, l) in
+    m ∙ d
 
 few-diffs : (ps : List AxisLocation) → length (diffs ps) ≤ length ps
 few-diffs [] = omega arith
@@ -80,12 +87,15 @@ left-few : (ls : List AxisLocation) (n d : ℕ) → n ≤ 4 → length (drop d (
 left-few ls n d l = omega (arith, length-drop d (take n ls), length-take n ls, l)
 
 -- from the last axis on
-pub count-step : (ls : List AxisLocation) (n d count : ℕ) → n ≤ length ls → 0 < d → d ≤ n → count ≡ 2 ^ length (diffs (drop d (take n ls)))
-    → grown (getD ls (d - 1) (Exact 0)) count ≡ 2 ^ length (diffs (drop (d - 1) (take n ls)))
-count-step ls n d count a b l e =
+pub count-step : (ls : List AxisLocation) (n d count : ℕ) → n ≤ 4 → n ≤ length ls → 0 < d → d ≤ n → count ≡ 2 ^ length (diffs (drop d (take n ls)))
+    → moreCorners (getD ls (d - 1) (Exact 0)) count ≡ 2 ^ length (diffs (drop (d - 1) (take n ls)))
+count-step ls n d count f a b l e =
     let v : d ≡ d - 1 + 1 = omega arith in
-    grown-power (getD ls (d - 1) (Exact 0)) (drop (d - 1 + 1) (take n ls)) count (e ∙ ap (λ (k : ℕ). 2 ^ length (diffs (drop k (take n ls)))) v)
-    ∙ ap (λ (r : List AxisLocation). 2 ^ length (diffs r)) (sym (ahead ls n (d - 1) (Exact 0) (omega arith) a))
+    let open-up : drop (d - 1) (take n ls) ≡ getD ls (d - 1) (Exact 0) ∷ drop (d - 1 + 1) (take n ls) = ahead ls n (d - 1) (Exact 0) (omega arith) a in
+    let few : 2 ^ length (diffs (getD ls (d - 1) (Exact 0) ∷ drop (d - 1 + 1) (take n ls))) ≤ 16 =
+    subst (λ (r : List AxisLocation). 2 ^ length (diffs r) ≤ 16) open-up (few-corners (drop (d - 1) (take n ls)) (left-few ls n (d - 1) f)) in
+    more-power (getD ls (d - 1) (Exact 0)) (drop (d - 1 + 1) (take n ls)) count (e ∙ ap (λ (k : ℕ). 2 ^ length (diffs (drop k (take n ls)))) v) few
+    ∙ ap (λ (r : List AxisLocation). 2 ^ length (diffs r)) (sym open-up)
 
 pub count-few : (ls : List AxisLocation) (n d count : ℕ) → n ≤ 4 → count ≡ 2 ^ length (diffs (drop d (take n ls))) → count ≤ 16
 count-few ls n d count l e = omega (arith, e, few-corners (drop d (take n ls)) (left-few ls n d l))

@@ -1,6 +1,6 @@
 -- What the parts of the fold give: one pass in place, and how many corners are in use before and after an axis.
 use mathlib.Core.List.{List, _++_}
-use Prim.Native.Nat.{ℕ, _+_, _/_}
+use Prim.Native.Nat.{ℕ, _+_, _/_, min}
 use lib.ListN.{drop}
 use lib.Ieee.{Float}
 use Rattle.blend.specs.Rust.{passed}
@@ -18,6 +18,12 @@ abbrev pub halfOf : AxisLocation → ℕ → ℕ
 halfOf (Exact node) count = count
 halfOf (Between lower frac) count = count / 2
 
+-- before an axis, where so many are left after it
 abbrev pub grown : AxisLocation → ℕ → ℕ
 grown (Exact node) count = count
 grown (Between lower frac) count = count + count
+
+-- the same for every number: 16 places are the most
+abbrev pub moreCorners : AxisLocation → ℕ → ℕ
+moreCorners (Exact node) count = count
+moreCorners (Between lower frac) count = min (count + count) 16

@@ -4,7 +4,7 @@ ghost use Prim.Native.Nat.{ℕ, _+_, _^_, _≤_, min};
 ghost use lib.ListN.{length, take};
 ghost use Rattle.blend.specs.Blend.{blended, computed, blends, resultsFault, resultFaultAt, blendedInto};
 ghost use Rattle.blend.specs.Rust.{diffs, butterfly};
-ghost use Rattle.blend.specs.Folds.{passedOver, merged, halfOf, grown};
+ghost use Rattle.blend.specs.Folds.{passedOver, merged, halfOf, grown, moreCorners};
 use answer::Answer;
 
 // Where a reading lies on an axis: on a node, or at a fraction of a cell.
@@ -59,30 +59,21 @@ fn half_of(location: AxisLocation, count: usize) -> usize
     }
 }
 
+// Twice a count of corners, at most 16.
+fn double(count: usize) -> usize
+    ensures { λ r. ⌜ r ≡ min (count + count) 16 ⌝ }
+{
+    if count < 8 { count + count } else { 16 }
+}
+
 // How many corners there are with one axis more.
-fn grow(location: AxisLocation, count: usize) -> usize
-    requires { ⌜ count ≤ 1000 ⌝ }
-    ensures { λ r. ⌜ r ≡ grown location count ⌝ }
+pub fn grow(location: AxisLocation, count: usize) -> usize
+    ensures { λ r. ⌜ r ≡ moreCorners location count ⌝ }
 {
     match location {
         AxisLocation::Exact(_) => count,
-        AxisLocation::Between { lower: _, frac: _ } => count + count,
+        AxisLocation::Between { lower: _, frac: _ } => double(count),
     }
-}
-
-// How many corners the first n axes have.
-fn count_corners(locations: [AxisLocation; 4], n: usize) -> usize
-    requires { ⌜ n ≤ 4 ⌝ }
-    ensures { λ r. ⌜ r ≡ 2 ^ length (diffs (take n locations)) ⌝ }
-{
-    let mut count: usize = 1;
-    let mut d = n;
-    while d > 0 {
-        d -= 1;
-        let location = locations[d];
-        count = grow(location, count);
-    }
-    count
 }
 
 // n, at most 4.
@@ -92,13 +83,27 @@ fn four_at_most(n: usize) -> usize
     if n < 4 { n } else { 4 }
 }
 
+// How many corners the first n axes have.
+pub fn corner_count(locations: [AxisLocation; 4], n: usize) -> usize
+    ensures { λ r. ⌜ r ≡ 2 ^ length (diffs (take n locations)) ⌝ }
+{
+    let mut count: usize = 1;
+    let mut d = four_at_most(n);
+    while d > 0 {
+        d -= 1;
+        let location = locations[d];
+        count = grow(location, count);
+    }
+    count
+}
+
 // The corners' values blended, axis after axis, the first one first.
 pub fn fold(vals: [f64; 16], locations: [AxisLocation; 4], n: usize) -> f64
     ensures { λ r. ⌜ r ≡ butterfly (diffs (take n locations)) vals ⌝ }
 {
     let axes = four_at_most(n);
     let mut v = vals;
-    let mut half = count_corners(locations, axes);
+    let mut half = corner_count(locations, axes);
     let mut d: usize = 0;
     while d < axes {
         let location = locations[d];

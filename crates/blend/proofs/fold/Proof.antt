@@ -15,7 +15,7 @@ use Rattle.blend.proofs.fold.Statement.{statement}
 use Rattle.blend.proofs.fold.Tie as tie
 use Rattle.blend.proofs.fold.Reads as reads
 use Rattle.blend.proofs.fold.Lts as lts
-use Rattle.blend.proofs.count_corners.Reads as count-corners-reads
+use Rattle.blend.proofs.corner_count.Reads as corner-count-reads
 use Rattle.blend.proofs.four_at_most.Reads as four-at-most-reads
 use Rattle.blend.proofs.half_of.Reads as half-of-reads
 use Rattle.blend.proofs.merge.Reads as merge-reads
@@ -31,12 +31,12 @@ four-at-most-requires : tie.Need-four-at-most-requires Inv-loop μ-loop
 four-at-most-requires c κs = search needs
 
 -- src/lib.rt:101:9
-count-corners-requires : tie.Need-count-corners-requires Inv-loop μ-loop
-count-corners-requires c κs = omega (arith, c .four-at-most .ensures)
+corner-count-requires : tie.Need-corner-count-requires Inv-loop μ-loop
+corner-count-requires c κs = omega (arith, c .four-at-most .ensures)
 
 -- src/lib.rt:103:5
 loop-holds : tie.Need-loop-holds Inv-loop μ-loop
-loop-holds c = (omega arith, record { counted = c .count-corners .ensures; same = refl })
+loop-holds c = (omega arith, record { counted = c .corner-count .ensures; same = refl })
 
 -- src/lib.rt:104:24
 mul-location : tie.Need-mul-location Inv-loop μ-loop
@@ -98,7 +98,7 @@ fold-spec =
     Inv-loop
     μ-loop
     four-at-most-requires
-    count-corners-requires
+    corner-count-requires
     loop-holds
     mul-location
     array-copy-out-location

@@ -1,28 +1,36 @@
+use mathlib.Core.Path.{_≡_, refl, sym, ap, ap₂, _∙_, subst}
+use mathlib.Core.List.{List, [], _∷_, _++_}
+use Prim.Native.Nat.{ℕ, _+_, _-_, _*_, _^_, _≤_, _<_, min}
+use native.Mathlib.Omega.{arith}
+use lib.ListN.{length, take, drop, getD}
+use lib.Ieee.{Float, nan}
+use denote.Ref.{now}
 use borrow.Author.Needs.{needs}
 use Rattle.blend.proofs.grow.Statement.{statement}
 use Rattle.blend.proofs.grow.Tie as tie
 use Rattle.blend.proofs.grow.Reads as reads
 use Rattle.blend.proofs.grow.Lts as lts
+use Rattle.blend.proofs.double.Reads as double-reads
 
--- src/lib.rt:68:35
+-- src/lib.rt:74:35
 enum-told : tie.Need-enum-told
 enum-told c = search needs
 
--- src/lib.rt:69:56
+-- src/lib.rt:75:56
 enum-told-2 : tie.Need-enum-told-2
 enum-told-2 c = search needs
 
--- src/lib.rt:69:56
-add-result : tie.Need-add-result
-add-result c = search needs
+-- src/lib.rt:75:56
+double-requires : tie.Need-double-requires
+double-requires c κs = search needs
 
--- src/lib.rt:63:1
+-- src/lib.rt:70:1
 returns : tie.Need-returns
-returns c = search needs
+returns c = simp (c .enum-told .given .1)
 
--- src/lib.rt:63:1
+-- src/lib.rt:70:1
 returns-2 : tie.Need-returns-2
-returns-2 c = simp (c .enum-told2 .given .1)
+returns-2 c = simp (c .before .enum-told2 .given .1) (c .double .ensures)
 
 pub grow-spec : {M : Type 1} → statement M
-grow-spec = tie.close (tie.spec enum-told enum-told-2 add-result returns returns-2)
+grow-spec = tie.close (tie.spec enum-told enum-told-2 double-requires returns returns-2)

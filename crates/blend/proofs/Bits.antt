@@ -10,6 +10,7 @@ use Rattle.table.specs.Shape.{tabulate}
 use Rattle.table.proofs.Layouts.{length-tabulate, getD-tabulate, tabulate-same}
 use Rattle.blend.specs.Blend.{blended, sliced, linear}
 use Rattle.blend.specs.Rust.{view, lowers, diffs, corner, corners, passed, butterfly, rustLinear}
+use Rattle.blend.specs.Folds.{cornerAt}
 use Rattle.blend.specs.declared.AxisLocation.{AxisLocation}
 use Rattle.blend.specs.declared.AxisLocation.the-variants.{Exact, Between}
 
@@ -39,12 +40,7 @@ bit-clear m k l = ap (λ (x : ℕ). x % 2) (div-eq-of-lt l)
 pub bit-set : (m k : ℕ) → m < 2 ^ k → (m + 2 ^ k) / 2 ^ k % 2 ≡ 1
 bit-set m k l = ap (λ (x : ℕ). x % 2) (add-div-right m (power-above k) ∙ ap (λ (x : ℕ). x + 1) (div-eq-of-lt l))
 
--- ---- the index list of a corner, exact axes included
-abbrev pub cornerAt : List AxisLocation → ℕ → List ℕ
-cornerAt [] mask = []
-cornerAt (Exact node ∷ ps) mask = node ∷ cornerAt ps mask
-cornerAt (Between lower frac ∷ ps) mask = (lower + mask / 2 ^ length (diffs ps) % 2) ∷ cornerAt ps mask
-
+-- ---- the index list of a corner
 pub corner-kept : (ps : List AxisLocation) (m k : ℕ) → length (diffs ps) ≤ k → cornerAt ps (m + 2 ^ k) ≡ cornerAt ps m
 corner-kept [] m k l = refl
 corner-kept (Exact node ∷ ps) m k l = ap (λ (r : List ℕ). node ∷ r) (corner-kept ps m k l)

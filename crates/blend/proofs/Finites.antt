@@ -14,9 +14,10 @@ use borrow.Author.Tests.{ltb-true, ltb-false}
 use Rattle.binary64.proofs.Finite.{add-finite, mul-finite}
 use Rattle.blend.specs.Blend.{one, blended, sliced, linear}
 use Rattle.blend.specs.Rust.{diffs}
+use Rattle.blend.specs.Folds.{cornerAt}
 use Rattle.blend.specs.declared.AxisLocation.{AxisLocation}
 use Rattle.blend.specs.declared.AxisLocation.the-variants.{Exact, Between}
-use Rattle.blend.proofs.Bits.{power-suc, cornerAt, low-corner, high-corner}
+use Rattle.blend.proofs.Bits.{power-suc, low-corner, high-corner}
 
 -- 3, and the number of the format nearest to 0.2
 abbrev pub three : Float

@@ -75,7 +75,7 @@ more-power (Between k f) ps h e l =
     let m : min (h + h) 16 ≡ h + h = omega (arith, d, l) in
     m ∙ d
 
-few-diffs : (ps : List AxisLocation) → length (diffs ps) ≤ length ps
+pub few-diffs : (ps : List AxisLocation) → length (diffs ps) ≤ length ps
 few-diffs [] = omega arith
 few-diffs (Exact node ∷ ps) = omega (arith, few-diffs ps)
 few-diffs (Between l f ∷ ps) = omega (arith, few-diffs ps)

@@ -14,3 +14,5 @@ pub mod Lowered
 pub mod SliceLaw
 pub mod Commutes
 pub mod Refusals
+pub mod Corners
+pub mod Located

@@ -22,7 +22,8 @@ use Rattle.table.proofs.Tables.{shape-four, length-passed}
 use Rattle.table.proofs.Layouts.{tabulate-same}
 use Rattle.table.proofs.Grids.{frame-shape, frame-values, frame-axes, grid-of, readings-finite}
 use Rattle.ninterp.specs.Utils.{stepIndex}
-use Rattle.order.specs.Lookups.{lookupFault, stepFault}
+use Rattle.uniform.specs.Uniform.{axesUniformFault}
+use Rattle.order.specs.Lookups.{lookupFault, stepFault, linearUniformFault}
 use Rattle.ninterp.specs.Tables.{nearestIndex, indices, picked, nearestRule, stepRule}
 use Rattle.ninterp.specs.Picks.{pickIndex, pickRule}
 
@@ -74,6 +75,27 @@ module _ (s : Shape) (four : length (s .counts) ≡ 4) (nodes values readings : 
 
       h2 : good (nodes-part or valuesFault values or point-part) ≡ true
       h2 = orders.second-passed reading after-reading h1
+
+  module _ (h : good (linearUniformFault s nodes values readings) ≡ true) where
+    abbrev after-values : Answer
+    after-values = axesUniformFault (countsOf s) nodes or point-part
+
+    u1 : good (reading or nodes-part or valuesFault values or after-values) ≡ true
+    unfolding linearUniformFault
+    u1 = orders.second-passed frame (reading or nodes-part or valuesFault values or after-values) h
+
+    u2 : good (nodes-part or valuesFault values or after-values) ≡ true
+    u2 = orders.second-passed reading (nodes-part or valuesFault values or after-values) u1
+
+    u3 : good after-values ≡ true
+    u3 = orders.second-passed (valuesFault values) after-values (orders.second-passed nodes-part (valuesFault values or after-values) u2)
+
+    pub linear-uniform-judged : Judged s nodes values readings
+    unfolding linearUniformFault
+    linear-uniform-judged =
+        judged (orders.first-passed frame (reading or nodes-part or valuesFault values or after-values) h) (orders.first-passed reading (nodes-part or valuesFault values or after-values) u1)
+        (orders.first-passed nodes-part (valuesFault values or after-values) u2)
+        (orders.second-passed (axesUniformFault (countsOf s) nodes) point-part u3)
 
   module _ (directions : List ℕ) (h : good (stepFault s nodes values readings directions) ≡ true) where
     abbrev lent : Answer

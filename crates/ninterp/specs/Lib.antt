@@ -3,4 +3,6 @@ pub mod Calls
 pub mod Tables
 pub mod Picks
 pub mod Rust
+pub mod Linears
+pub mod Locations
 pub mod Slices

@@ -53,7 +53,7 @@ loop-less c = search needs
 
 -- src/lib.rt:92:5
 loop-again : tie.Need-loop-again Inv-loop μ-loop
-loop-again c = 
+loop-again c =
     let l = c .before .before .before in
     let m = l .before .four-at-most in
     let st = l .before .before in
@@ -62,7 +62,7 @@ loop-again c =
 
 -- src/lib.rt:87:1
 returns : tie.Need-returns Inv-loop μ-loop
-returns c = 
+returns c =
     let l = c .before in
     let st = l .before .before in
     let z : l .loop .d ≡ 0 = omega arith in

@@ -1,4 +1,8 @@
 // Lookups in tables of any number of axes.
+pub(crate) mod corners;
+pub mod linear;
+pub mod linear_uniform;
+pub(crate) mod locate;
 pub mod nearest;
 pub(crate) mod pick;
 pub mod step;

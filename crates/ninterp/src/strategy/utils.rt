@@ -10,8 +10,8 @@ ghost use Rattle.judge.specs.Check.{Axis};
 ghost use Rattle.ninterp.specs.Utils.{lowerIndex, exactNode, axisLocation, lowerStep, upperStep, stepIndex};
 ghost use Rattle.ninterp.specs.Calls.{locationFraction, axisReadingFault, directedFault, lowerFault, exactFault, locateLowerIndex, exactIndex, locateAxis, locateStepIndex};
 use answer::Answer;
-use blend::AxisLocation;
 use answer::IndexAnswer;
+use blend::AxisLocation;
 
 // An index, or none: the Rust's Option<usize>.
 pub enum MaybeIndex {

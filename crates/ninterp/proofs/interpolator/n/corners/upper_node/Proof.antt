@@ -1,0 +1,37 @@
+use Rattle.ninterp.specs.Locations.{upperOf}
+use mathlib.Core.Path.{_≡_, refl, sym, ap, ap₂, _∙_, subst}
+use mathlib.Core.List.{List, [], _∷_, _++_}
+use Prim.Native.Nat.{ℕ, _+_, _-_, _*_, _^_, _≤_, _<_, min}
+use native.Mathlib.Omega.{arith}
+use lib.ListN.{length, take, drop, getD}
+use lib.Ieee.{Float, nan}
+use denote.Ref.{now}
+use borrow.Author.Needs.{needs}
+use Rattle.ninterp.proofs.interpolator.n.corners.upper_node.Statement.{statement}
+use Rattle.ninterp.proofs.interpolator.n.corners.upper_node.Tie as tie
+use Rattle.ninterp.proofs.interpolator.n.corners.upper_node.Reads as reads
+use Rattle.ninterp.proofs.interpolator.n.corners.upper_node.Lts as lts
+
+-- src/interpolator/n/corners.rt:31:29
+enum-known-location : tie.Need-enum-known-location
+enum-known-location c = search needs
+
+-- src/interpolator/n/corners.rt:32:33
+enum-known-location-2 : tie.Need-enum-known-location-2
+enum-known-location-2 c = search needs
+
+-- src/interpolator/n/corners.rt:32:53
+add-result : tie.Need-add-result
+add-result c = omega (arith, rw (c .before .location2 .given .1) at (c .before .before .before .pre))
+
+-- src/interpolator/n/corners.rt:26:1
+returns : tie.Need-returns
+returns c = search needs
+
+-- src/interpolator/n/corners.rt:26:1
+returns-2 : tie.Need-returns-2
+returns-2 c = sym (ap upperOf (c .before .location2 .given .1))
+
+pub upper-node-spec : {M : Type 1} → statement M
+upper-node-spec =
+    tie.close (tie.spec enum-known-location enum-known-location-2 add-result returns returns-2)

@@ -1,0 +1,179 @@
+use lib.ListN.{length-set}
+use lib.Seq.{length-take-le}
+use Rattle.table.specs.Shape.{axesOf, tabulate}
+use Rattle.table.proofs.Shapes.{length-ids, length-axes, Walk}
+use Rattle.blend.specs.declared.AxisLocation.the-variants.{Exact}
+use Rattle.ninterp.specs.Linears.{locations}
+use Rattle.ninterp.specs.Locations.{locationBy}
+use Rattle.ninterp.proofs.Picks.{axis-within, axis-read, axis-good, axis-next}
+use Rattle.ninterp.proofs.Corners.{put-step}
+use Rattle.ninterp.proofs.Located.{take-filled}
+use mathlib.Core.Path.{_≡_, refl, sym, ap, ap₂, _∙_, subst}
+use mathlib.Core.List.{List, [], _∷_, _++_}
+use Prim.Native.Nat.{ℕ, _+_, _-_, _*_, _^_, _≤_, _<_, min}
+use native.Mathlib.Omega.{arith}
+use lib.ListN.{length, take, drop, getD}
+use lib.Ieee.{Float, nan}
+use denote.Ref.{now}
+use borrow.Author.Needs.{needs}
+use Rattle.ninterp.proofs.interpolator.n.locate.all.Statement.{statement}
+use Rattle.ninterp.proofs.interpolator.n.locate.all.Tie as tie
+use Rattle.ninterp.proofs.interpolator.n.locate.all.Reads as reads
+use Rattle.ninterp.proofs.interpolator.n.locate.all.Lts as lts
+use Rattle.ninterp.proofs.interpolator.n.locate.location_by.Reads as location-by-reads
+
+abbrev Inv-loop : tie.InvT-loop
+Inv-loop uniform nodes point counts axes found₀ at₀ a₀ found at a = ((a ≤ axes) × (at ≤ length nodes)) × (Walk (take axes counts) nodes a at × ((length found ≡ 4) × ((k : ℕ) → k < a → getD found k (Exact 0) ≡ locationBy uniform (getD (axesOf (take axes counts) nodes) k []) (getD point k nan))))
+
+abbrev μ-loop : tie.MeasureT-loop
+μ-loop uniform nodes point counts axes found₀ at₀ a₀ found at a = axes - a
+
+abbrev C : tie.Start Inv-loop μ-loop → List ℕ
+C s = s .args .shape .counts
+
+four : (s : tie.Start Inv-loop μ-loop) → length (C s) ≡ 4
+four s = length-ids (C s) (s .good .1 .0 .1 .1 .1 .0 .1 .0 .1)
+
+long : (s : tie.Start Inv-loop μ-loop) → s .args .shape .axes ≤ length (C s)
+long s = omega (arith, four s, s .pre .1 .0)
+
+-- src/interpolator/n/locate.rt:50:5
+loop-holds : tie.Need-loop-holds Inv-loop μ-loop
+loop-holds c = (search needs, (refl, (refl, λ k b. absurd (omega arith))))
+
+-- src/interpolator/n/locate.rt:51:21
+mul-count : tie.Need-mul-count Inv-loop μ-loop
+mul-count c =
+    let w = c in
+    let l = w .before in
+    let s = l .before .before .before .before in
+    omega (arith, four s, long s)
+
+-- src/interpolator/n/locate.rt:51:21
+array-read-count : tie.Need-array-read-count Inv-loop μ-loop
+array-read-count c =
+    let w = c in
+    let l = w .before in
+    let s = l .before .before .before .before in
+    omega (arith, four s, long s)
+
+-- src/interpolator/n/locate.rt:52:19
+add-end : tie.Need-add-end Inv-loop μ-loop
+add-end c =
+    let w = c in
+    let l = w .before in
+    let s = l .before .before .before .before in
+    omega (arith, axis-within (C s) (s .args .shape .axes) (now (s .args .nodes)) [] (now (s .args .point)) (s .pre .0) (long s) (s .pre .1 .1 .1) (l .loop .a) (l .loop .at) (w .loop-test .taken) (l .loop .inv .1 .0))
+
+-- src/interpolator/n/locate.rt:53:45
+mul-location-by : tie.Need-mul-location-by Inv-loop μ-loop
+mul-location-by c = search needs
+
+-- src/interpolator/n/locate.rt:53:45
+sub-location-by : tie.Need-sub-location-by Inv-loop μ-loop
+sub-location-by c = search needs
+
+-- src/interpolator/n/locate.rt:53:45
+part-location-by-start : tie.Need-part-location-by-start Inv-loop μ-loop
+part-location-by-start c = search needs
+
+-- src/interpolator/n/locate.rt:53:45
+part-location-by-end : tie.Need-part-location-by-end Inv-loop μ-loop
+part-location-by-end c =
+    let w = c in
+    let l = w .before in
+    let s = l .before .before .before .before in
+    omega (arith, axis-within (C s) (s .args .shape .axes) (now (s .args .nodes)) [] (now (s .args .point)) (s .pre .0) (long s) (s .pre .1 .1 .1) (l .loop .a) (l .loop .at) (w .loop-test .taken) (l .loop .inv .1 .0))
+
+-- src/interpolator/n/locate.rt:53:62
+mul-location-by-2 : tie.Need-mul-location-by-2 Inv-loop μ-loop
+mul-location-by-2 c = search needs
+
+-- src/interpolator/n/locate.rt:53:62
+shared-slice-read-location-by : tie.Need-shared-slice-read-location-by Inv-loop μ-loop
+shared-slice-read-location-by c = search needs
+
+-- src/interpolator/n/locate.rt:53:13
+location-by-requires : tie.Need-location-by-requires Inv-loop μ-loop
+location-by-requires c κs =
+    let w = c .before .before in
+    let l = w .before in
+    let s = l .before .before .before .before in
+    (axis-good (C s) (s .args .shape .axes) (now (s .args .nodes)) [] (now (s .args .point)) (s .pre .0) (long s) (s .pre .1 .1 .1) (l .loop .a) (l .loop .at) (w .loop-test .taken) (l .loop .inv .1 .0), s .pre .1 .1 .1 (l .loop .a) (w .loop-test .taken))
+
+-- src/interpolator/n/locate.rt:54:9
+mul-found : tie.Need-mul-found Inv-loop μ-loop
+mul-found c =
+    let w = c .before .before .before in
+    let l = w .before in
+    let s = l .before .before .before .before in
+    omega (arith, four s, long s)
+
+-- src/interpolator/n/locate.rt:54:9
+array-set-from-found : tie.Need-array-set-from-found Inv-loop μ-loop
+array-set-from-found c =
+    let w = c .before .before .before in
+    let l = w .before in
+    let s = l .before .before .before .before in
+    omega (arith, four s, long s)
+
+-- src/interpolator/n/locate.rt:56:9
+add-a : tie.Need-add-a Inv-loop μ-loop
+add-a c = search needs
+
+-- src/interpolator/n/locate.rt:50:5
+loop-less : tie.Need-loop-less Inv-loop μ-loop
+loop-less c = search needs
+
+-- src/interpolator/n/locate.rt:50:5
+loop-again : tie.Need-loop-again Inv-loop μ-loop
+loop-again c =
+    let w = c .before .before .before in
+    let l = w .before in
+    let s = l .before .before .before .before in
+    let t = w .loop-test .taken in
+    let same = c .location-by .ensures ∙ ap (λ xs. locationBy (s .args .uniform) xs (getD (now (s .args .point)) (l .loop .a) nan)) (axis-read (C s) (s .args .shape .axes) (now (s .args .nodes)) [] (now (s .args .point)) (s .pre .0) (long s) (s .pre .1 .1 .1) (l .loop .a) (l .loop .at) t (l .loop .inv .1 .0)) in (
+      (omega (arith, t), omega (arith, axis-within (C s) (s .args .shape .axes) (now (s .args .nodes)) [] (now (s .args .point)) (s .pre .0) (long s) (s .pre .1 .1 .1) (l .loop .a) (l .loop .at) t (l .loop .inv .1 .0))),
+      (
+        axis-next (C s) (s .args .shape .axes) (now (s .args .nodes)) [] (now (s .args .point)) (s .pre .0) (long s) (s .pre .1 .1 .1) (l .loop .a) (l .loop .at) t (l .loop .inv .1 .0),
+        (
+          length-set (l .loop .found) (l .loop .a) (c .location-by .result) ∙ l .loop .inv .1 .1 .0,
+          put-step (l .loop .found) (l .loop .a) (c .location-by .result) (Exact 0) (λ k. locationBy (s .args .uniform) (getD (axesOf (take (s .args .shape .axes) (C s)) (now (s .args .nodes))) k []) (getD (now (s .args .point)) k nan)) (omega (arith, l .loop .inv .1 .1 .0, four s, long s, t)) (l .loop .inv .1 .1 .1) same,
+        ),
+      ),
+    )
+
+-- src/interpolator/n/locate.rt:41:1
+returns : tie.Need-returns Inv-loop μ-loop
+unfolding locations
+returns c =
+    let l = c .before in
+    let s = l .before .before .before .before in
+    let cs = take (s .args .shape .axes) (C s) in
+    let n : s .args .shape .axes ≡ length (axesOf (take (s .args .shape .axes) (C s)) (now (s .args .nodes))) = sym (length-axes cs (now (s .args .nodes)) ∙ length-take-le (s .args .shape .axes) (C s) (long s)) in
+    take-filled (l .loop .found) (s .args .shape .axes) (Exact 0) (λ k. locationBy (s .args .uniform) (getD (axesOf cs (now (s .args .nodes))) k []) (getD (now (s .args .point)) k nan)) (omega (arith, l .loop .inv .1 .1 .0, four s, long s)) (λ k b. l .loop .inv .1 .1 .1 k (omega (arith, b, c .loop-test .left)))
+    ∙ ap (λ (m : ℕ). tabulate m (λ k. locationBy (s .args .uniform) (getD (axesOf cs (now (s .args .nodes))) k []) (getD (now (s .args .point)) k nan))) n
+
+pub all-spec : {M : Type 1} → statement M
+all-spec =
+    tie.close
+    (tie.spec
+    Inv-loop
+    μ-loop
+    loop-holds
+    mul-count
+    array-read-count
+    add-end
+    mul-location-by
+    sub-location-by
+    part-location-by-start
+    part-location-by-end
+    mul-location-by-2
+    shared-slice-read-location-by
+    location-by-requires
+    mul-found
+    array-set-from-found
+    add-a
+    loop-less
+    loop-again
+    returns)

@@ -1,0 +1,39 @@
+-- "The table rules", of the two that compute: where a reading lies on each axis, and what a lookup by them answers for every input.
+use mathlib.Core.List.{List, []}
+use Prim.Native.Nat.{ℕ}
+use lib.ListN.{length, getD}
+use lib.Ieee.{Float, nan, binary64, sub, div}
+use Rattle.answer.specs.Answer.{_or_}
+use Rattle.answer.specs.declared.Answer.{Answer}
+use Rattle.judge.specs.Check.{node, gap}
+use Rattle.table.specs.Shape.{countsOf, axesOf, table, tabulate}
+use Rattle.table.specs.declared.Shape.{Shape}
+use Rattle.uniform.specs.Uniform.{uniformIndex}
+use Rattle.order.specs.Lookups.{lookupFault, linearUniformFault}
+use Rattle.blend.specs.Blend.{linear, computed}
+use Rattle.blend.specs.declared.AxisLocation.{AxisLocation}
+use Rattle.blend.specs.declared.AxisLocation.the-variants.{Between}
+use Rattle.ninterp.specs.Utils.{axisLocation}
+
+-- "LinearUniform: no exact shortcut. f = (p - lower node) / first gap."
+abbrev pub uniformBetween : List Float → ℕ → Float → AxisLocation
+uniformBetween nodes lower p = Between lower (div binary64 (sub binary64 p (node nodes lower)) (gap nodes 0))
+
+unfoldable pub uniformLocation : List Float → Float → AxisLocation
+uniformLocation nodes p = uniformBetween nodes (uniformIndex (node nodes 0) (gap nodes 0) (length nodes) p) p
+
+-- a rule gives each axis a location, from its nodes and its reading: `axisLocation` for Linear, `uniformLocation` for LinearUniform
+unfoldable pub locations : (List Float → Float → AxisLocation) → List (List Float) → List Float → List AxisLocation
+locations rule axes readings = tabulate (length axes) (λ a. rule (getD axes a []) (getD readings a nan))
+
+-- the value at the locations, blended axis by axis
+unfoldable pub interpolated : (List Float → Float → AxisLocation) → List ℕ → List Float → List Float → List Float → Float
+interpolated rule counts nodes values readings = linear (locations rule (axesOf counts nodes) readings) (table counts values)
+
+-- "Order for a lookup: .. 10 for all axes; 11 for all axes; 12"
+unfoldable pub linearAnswer : Shape → List Float → List Float → List Float → Answer
+linearAnswer s nodes values readings = lookupFault s nodes values readings or computed (interpolated axisLocation (countsOf s) nodes values readings)
+
+-- ".. 8 for LinearUniform, all axes; .."
+unfoldable pub linearUniformAnswer : Shape → List Float → List Float → List Float → Answer
+linearUniformAnswer s nodes values readings = linearUniformFault s nodes values readings or computed (interpolated uniformLocation (countsOf s) nodes values readings)

@@ -1,0 +1,102 @@
+// The corners of a reading: where they lie in the flat values, and what is stored there.
+ghost use mathlib.Core.Path.{_≡_};
+ghost use Prim.Native.Nat.{ℕ, _+_, _*_, _^_, _<_, _≤_};
+ghost use lib.ListN.{length, take, getD};
+ghost use lib.Ieee.{nan};
+ghost use Rattle.table.specs.Shape.{countsOf, size, place, table};
+ghost use Rattle.blend.specs.Blend.{linear, computed};
+ghost use Rattle.blend.specs.Rust.{diffs};
+ghost use Rattle.ninterp.specs.Calls.{locationIndex};
+ghost use Rattle.ninterp.specs.Locations.{upperOf, Within, cornerPlace};
+use answer::Answer;
+use blend::AxisLocation;
+use table::Shape;
+
+// The node of an exact axis, the lower one of any other.
+pub(crate) fn lower_node(location: AxisLocation) -> usize
+    ensures { λ r. ⌜ r ≡ locationIndex location ⌝ }
+{
+    match location {
+        AxisLocation::Exact(node) => node,
+        AxisLocation::Between { lower, frac: _ } => lower,
+    }
+}
+
+// The node of an exact axis, the upper one of any other.
+fn upper_node(location: AxisLocation) -> usize
+    requires { ⌜ upperOf location ≤ 4096 ⌝ }
+    ensures { λ r. ⌜ r ≡ upperOf location ⌝ }
+{
+    match location {
+        AxisLocation::Exact(node) => node,
+        AxisLocation::Between { lower, frac: _ } => lower + 1,
+    }
+}
+
+// The places with one axis more: the first `count` on its lower node, as many more on its upper one.
+fn spread(places: [usize; 16], count: usize, low: usize, high: usize) -> [usize; 16]
+    requires { ⌜ (count ≤ 8) × ((low ≤ 4096) × (high ≤ 4096)) ⌝ }
+    requires { ⌜ ((i : ℕ) → i < count → getD places i 0 ≤ 4096) ⌝ }
+    ensures { λ r. ⌜ ((i : ℕ) → i < count → (getD r i 0 ≡ getD places i 0 + low) × (getD r (i + count) 0 ≡ getD places i 0 + high)) ⌝ }
+{
+    let mut v = places;
+    let mut i: usize = 0;
+    while i < count {
+        let at = v[i];
+        let j = i + count;
+        v[j] = at + high;
+        v[i] = at + low;
+        i += 1;
+    }
+    v
+}
+
+// The flat place of each corner, by its number: from the last axis on, so that the first one's lower half comes first.
+fn corner_places(counts: [usize; 4], locations: [AxisLocation; 4], n: usize) -> [usize; 16]
+    requires { ⌜ (n ≤ 4) × ((size (take n counts) ≤ 4096) × Within (take n locations) (take n counts)) ⌝ }
+    ensures { λ r. ⌜ ((i : ℕ) → i < 2 ^ length (diffs (take n locations)) → getD r i 0 ≡ cornerPlace (take n counts) (take n locations) i) ⌝ }
+{
+    let mut places = [0usize; 16];
+    let mut count: usize = 1;
+    let mut stride: usize = 1;
+    let mut d = n;
+    while d > 0 {
+        d -= 1;
+        let location = locations[d];
+        let low = lower_node(location) * stride;
+        let high = upper_node(location) * stride;
+        let next = spread(places, count, low, high);
+        places = next;
+        count = blend::grow(location, count);
+        stride = counts[d] * stride;
+    }
+    places
+}
+
+// The values at so many places.
+fn gather(values: &[f64], places: [usize; 16], count: usize) -> [f64; 16]
+    requires { ⌜ (count ≤ 16) × ((i : ℕ) → i < count → getD places i 0 < length (now values)) ⌝ }
+    ensures { λ r. ⌜ ((i : ℕ) → i < count → getD r i nan ≡ getD (now (values .entry)) (getD places i 0) nan) ⌝ }
+{
+    let mut vals = [0.0f64; 16];
+    let mut i: usize = 0;
+    while i < count {
+        let at = places[i];
+        vals[i] = values[at];
+        i += 1;
+    }
+    vals
+}
+
+// What the corners come to: the value, or 12.
+pub(crate) fn compute(shape: Shape, values: &[f64], locations: [AxisLocation; 4]) -> Answer
+    requires { ⌜ (shape .axes ≤ 4) × ((size (countsOf shape) ≤ 4096) × (Within (take (shape .axes) locations) (countsOf shape) × (length (now values) ≡ size (countsOf shape)))) ⌝ }
+    ensures { λ r. ⌜ r ≡ computed (linear (take (shape .axes) locations) (table (countsOf shape) (now (values .entry)))) ⌝ }
+{
+    let axes = shape.axes;
+    let counts = shape.counts;
+    let places = corner_places(counts, locations, axes);
+    let count = blend::corner_count(locations, axes);
+    let vals = gather(values, places, count);
+    blend::compute(vals, locations, axes)
+}

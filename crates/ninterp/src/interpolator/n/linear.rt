@@ -1,0 +1,18 @@
+// Linear: exact axes fixed at their node, every other axis blended in axis order.
+ghost use mathlib.Core.Path.{_≡_};
+ghost use Rattle.ninterp.specs.Linears.{linearAnswer};
+use crate::interpolator::n::corners;
+use crate::interpolator::n::locate;
+use answer::Answer;
+use table::Shape;
+
+pub fn interpolate(shape: Shape, nodes: &[f64], values: &[f64], point: &[f64]) -> Answer
+    ensures { λ r. ⌜ r ≡ linearAnswer shape (now (nodes .entry)) (now (values .entry)) (now (point .entry)) ⌝ }
+{
+    let fault = order::lookup_fault(shape, nodes, values, point);
+    if fault.number != 0 {
+        return fault;
+    }
+    let locations = locate::all(false, shape, nodes, point);
+    corners::compute(shape, values, locations)
+}

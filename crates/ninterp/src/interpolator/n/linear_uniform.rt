@@ -1,0 +1,18 @@
+// LinearUniform: the index by the first node and the first gap, and every axis blended.
+ghost use mathlib.Core.Path.{_≡_};
+ghost use Rattle.ninterp.specs.Linears.{linearUniformAnswer};
+use crate::interpolator::n::corners;
+use crate::interpolator::n::locate;
+use answer::Answer;
+use table::Shape;
+
+pub fn interpolate(shape: Shape, nodes: &[f64], values: &[f64], point: &[f64]) -> Answer
+    ensures { λ r. ⌜ r ≡ linearUniformAnswer shape (now (nodes .entry)) (now (values .entry)) (now (point .entry)) ⌝ }
+{
+    let fault = order::linear_uniform_fault(shape, nodes, values, point);
+    if fault.number != 0 {
+        return fault;
+    }
+    let locations = locate::all(true, shape, nodes, point);
+    corners::compute(shape, values, locations)
+}

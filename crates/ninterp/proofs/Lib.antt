@@ -16,3 +16,4 @@ pub mod Commutes
 pub mod Refusals
 pub mod Corners
 pub mod Located
+pub mod Alongs

@@ -5,7 +5,7 @@ use mathlib.Core.List.{List, [], _++_}
 use Prim.Native.Nat.{ℕ, _+_, _-_, _≤_, _<_}
 use native.Mathlib.Omega.{arith}
 use lib.ListN.{length, drop, getD}
-use lib.Ieee.{Float}
+use lib.Ieee.{Float, nan}
 use Rattle.answer.specs.Answer.{good, _or_, given}
 use Rattle.answer.specs.declared.Answer.{Answer}
 use Rattle.answer.proofs.Orders as orders
@@ -15,13 +15,14 @@ use Rattle.judge.proofs.Rows.{direction-passed, reading-finite}
 use Rattle.table.specs.Shape.{countsOf, size, axesOf, without, sliceValues}
 use Rattle.table.specs.Table.{frameFault, lengthFault, axesFault, valuesFault, directionsFault, rangeFault, Grid}
 use Rattle.table.specs.declared.Shape.{Shape}
-use Rattle.table.proofs.Grids.{frame-shape, frame-values, grid-of}
+use Rattle.table.proofs.Grids.{frame-shape, frame-values, grid-of, values-finite}
 use Rattle.table.proofs.Tables.{shape-four, length-passed}
 use Rattle.table.proofs.Removals.{length-slice}
-use Rattle.order.specs.Fronts.{noAxisFault, roomFault, nearestFront, stepFront}
+use Rattle.order.specs.Fronts.{noAxisFault, notFirstFault, roomFault, nearestFront, stepFront, linearFront, linearUniformFront}
+use Rattle.uniform.specs.Uniform.{axesUniformFault}
 use Rattle.ninterp.specs.Slices.{axisOf, shapeWithout, noShape, pointFault, sliceAnswer, slicedInto}
 use Rattle.ninterp.specs.declared.slice.SliceAnswer.{SliceAnswer}
-use Rattle.order.proofs.Fronts.{axis-many, axis-in, room-passed}
+use Rattle.order.proofs.Fronts.{axis-many, axis-in, first-many, first-axis, room-passed}
 
 -- ---- a table that can be sliced on an axis
 pub record Sliceable (s : Shape) (nodes values : List Float) (axis : ℕ) : Type 0 where
@@ -30,6 +31,15 @@ pub record Sliceable (s : Shape) (nodes values : List Float) (axis : ℕ) : Type
   pub within : axis < s .axes
   pub many : 1 < s .axes
   pub stored : length values ≡ size (countsOf s)
+
+-- .. by the two linears
+pub record FirstSliceable (s : Shape) (nodes values : List Float) (axis : ℕ) : Type 0 where
+  pub grid : Grid (countsOf s) nodes
+  pub four : s .axes ≤ 4
+  pub first : axis ≡ 0
+  pub many : 1 < s .axes
+  pub stored : length values ≡ size (countsOf s)
+  pub finites : (t : ℕ) → t < length values → finite (getD values t nan) ≡ true
 
 module _ (s : Shape) (four : length (s .counts) ≡ 4) (nodes values : List Float) (axis : ℕ) where
   abbrev frame : Answer
@@ -56,6 +66,27 @@ module _ (s : Shape) (four : length (s .counts) ≡ 4) (nodes values : List Floa
       let h1 : good (missing or axes or valuesFault values) ≡ true = orders.second-passed frame (missing or axes or valuesFault values) h in
       let h2 : good (axes or valuesFault values) ≡ true = orders.second-passed missing (axes or valuesFault values) h1 in
       sliceable (orders.first-passed frame (missing or axes or valuesFault values) h) (orders.first-passed missing (axes or valuesFault values) h1) (orders.first-passed axes (valuesFault values) h2)
+
+  -- the two linears, on their first axis
+  pub linear-sliceable : good (linearFront s nodes values axis) ≡ true → FirstSliceable s nodes values axis
+  unfolding linearFront
+  linear-sliceable h =
+      let f : good frame ≡ true = orders.first-passed frame (notFirstFault s axis or axes or valuesFault values) h in
+      let h1 : good (notFirstFault s axis or axes or valuesFault values) ≡ true = orders.second-passed frame (notFirstFault s axis or axes or valuesFault values) h in
+      let n : good (notFirstFault s axis) ≡ true = orders.first-passed (notFirstFault s axis) (axes or valuesFault values) h1 in
+      let h2 : good (axes or valuesFault values) ≡ true = orders.second-passed (notFirstFault s axis) (axes or valuesFault values) h1 in
+      record {
+        grid = grid-of s four nodes values f (orders.first-passed axes (valuesFault values) h2);
+        four = shape-four s (frame-shape s four nodes values f);
+        first = first-axis s axis n;
+        many = first-many s axis n;
+        stored = frame-values s four nodes values f;
+        finites = values-finite values (orders.second-passed axes (valuesFault values) h2);
+      }
+
+  pub linear-uniform-sliceable : good (linearUniformFront s nodes values axis) ≡ true → FirstSliceable s nodes values axis
+  unfolding linearUniformFront
+  linear-uniform-sliceable h = linear-sliceable (orders.first-passed (linearFront s nodes values axis) (axesUniformFault (countsOf s) nodes) h)
 
   module _ (directions : List ℕ) (h : good (stepFront s nodes values directions axis) ≡ true) where
     abbrev lent : Answer

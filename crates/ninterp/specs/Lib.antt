@@ -6,3 +6,4 @@ pub mod Rust
 pub mod Linears
 pub mod Locations
 pub mod Slices
+pub mod LinearSlices

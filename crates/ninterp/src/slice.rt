@@ -12,8 +12,14 @@ ghost use Rattle.table.specs.Shape.{countsOf, size, total, tabulate, without, s
 ghost use Rattle.table.specs.Table.{Grid};
 ghost use Rattle.ninterp.specs.Picks.{pickIndex};
 ghost use Rattle.ninterp.specs.Slices.{axisOf, shapeWithout, noShape, pointFault, sliceAnswer, slicedInto, nearestSlice, nearestSliced, stepSlice, stepSliced};
+ghost use Rattle.blend.specs.Blend.{blends, resultsFault};
+ghost use Rattle.ninterp.specs.Locations.{locationBy};
+ghost use Rattle.ninterp.specs.LinearSlices.{linearValues, linearRest, linearSlice, linearSliced, linearUniformSlice, linearUniformSliced};
+use crate::interpolator::n::corners;
+use crate::interpolator::n::locate;
 use crate::interpolator::n::pick;
 use answer::Answer;
+use blend::AxisLocation;
 use table::Shape;
 
 // What a slice answers, with the shape of what it wrote.
@@ -248,4 +254,121 @@ pub fn step(
     }
     let pick = directions[axis];
     pick_judged(shape, nodes, values, pick, axis, point, out)
+}
+
+// ---- the two linears, on the first axis
+
+// Two neighbouring runs of `rest` values blended: 12, or written.
+fn blend_runs(values: &[f64], rest: usize, lower: usize, frac: f64, out: &mut [f64]) -> Answer
+    requires { ⌜ (lower * rest + rest + rest ≤ length (now values)) × ((length (now values) ≤ 4096) × (rest ≤ length (now out))) ⌝ }
+    ensures { λ r. ⌜ (r ≡ resultsFault (blends frac (take rest (drop (lower * rest) (now (values .entry)))) (take rest (drop (lower * rest + rest) (now (values .entry)))))) × (now (out .exit) ≡ slicedInto (resultsFault (blends frac (take rest (drop (lower * rest) (now (values .entry)))) (take rest (drop (lower * rest + rest) (now (values .entry)))))) (blends frac (take rest (drop (lower * rest) (now (values .entry)))) (take rest (drop (lower * rest + rest) (now (values .entry))))) (now (out .entry))) ⌝ }
+{
+    let start = lower * rest;
+    let middle = start + rest;
+    let end = middle + rest;
+    let fault = blend::blend_fault(&values[start..middle], &values[middle..end], frac);
+    if fault.number != 0 {
+        return fault;
+    }
+    blend::blend_into(&values[start..middle], &values[middle..end], frac, out);
+    fault
+}
+
+// The values along the first axis, where the reading is judged: the run at an exact node, or two runs blended.
+fn along_first(
+    uniform: bool,
+    shape: Shape,
+    nodes: &[f64],
+    values: &[f64],
+    point: f64,
+    out: &mut [f64],
+) -> Answer
+    requires { ⌜ (Grid (countsOf shape) (now nodes) × ((shape .axes ≤ 4) × (1 < shape .axes))) × ((finite point ≡ true) × ((length (now values) ≡ size (countsOf shape)) × (size (without 0 (countsOf shape)) ≤ length (now out)))) ⌝ }
+    requires { ⌜ ((t : ℕ) → t < length (now values) → finite (getD (now values) t nan) ≡ true) ⌝ }
+    ensures { λ r. ⌜ (r ≡ resultsFault (linearValues (locationBy uniform) shape (now (nodes .entry)) (now (values .entry)) point)) × (now (out .exit) ≡ slicedInto (resultsFault (linearValues (locationBy uniform) shape (now (nodes .entry)) (now (values .entry)) point)) (linearValues (locationBy uniform) shape (now (nodes .entry)) (now (values .entry)) point) (now (out .entry))) ⌝ }
+{
+    let counts = shape.counts;
+    let n = counts[0];
+    let location = locate::location_by(uniform, &nodes[0..n], point);
+    let rest = values.len() / n;
+    let node = corners::lower_node(location);
+    let AxisLocation::Between { lower, frac } = location else {
+        fill(values, n, rest, node, rest, out);
+        return answer::pass();
+    };
+    blend_runs(values, rest, lower, frac, out)
+}
+
+// Judges the one reading and the room, then the values, and writes.
+fn linear_judged(
+    uniform: bool,
+    shape: Shape,
+    nodes: &[f64],
+    values: &[f64],
+    point: f64,
+    out: &mut [f64],
+) -> SliceAnswer
+    requires { ⌜ (Grid (countsOf shape) (now nodes) × ((shape .axes ≤ 4) × (1 < shape .axes))) × ((length (now values) ≡ size (countsOf shape)) × ((t : ℕ) → t < length (now values) → finite (getD (now values) t nan) ≡ true)) ⌝ }
+    ensures { λ r. ⌜ (r ≡ sliceAnswer (linearRest (locationBy uniform) shape (now (nodes .entry)) (now (values .entry)) 0 point (length (now (out .entry)))) shape 0) × (now (out .exit) ≡ slicedInto (linearRest (locationBy uniform) shape (now (nodes .entry)) (now (values .entry)) 0 point (length (now (out .entry)))) (linearValues (locationBy uniform) shape (now (nodes .entry)) (now (values .entry)) point) (now (out .entry))) ⌝ }
+{
+    let fault = point_fault(shape, nodes, values.len(), 0, point, out.len());
+    if fault.number != 0 {
+        return SliceAnswer {
+            answer: fault,
+            shape: no_shape(),
+        };
+    }
+    let answer = along_first(uniform, shape, nodes, values, point, out);
+    if answer.number != 0 {
+        return SliceAnswer {
+            answer,
+            shape: no_shape(),
+        };
+    }
+    SliceAnswer {
+        answer,
+        shape: shape_without(shape, 0),
+    }
+}
+
+// The slice of a table by Linear, on its first axis.
+pub fn linear(
+    shape: Shape,
+    nodes: &[f64],
+    values: &[f64],
+    axis: usize,
+    point: f64,
+    out: &mut [f64],
+) -> SliceAnswer
+    ensures { λ r. ⌜ (r ≡ linearSlice shape (now (nodes .entry)) (now (values .entry)) axis point (length (now (out .entry)))) × (now (out .exit) ≡ linearSliced shape (now (nodes .entry)) (now (values .entry)) axis point (now (out .entry))) ⌝ }
+{
+    let answer = order::linear_front(shape, nodes, values, axis);
+    if answer.number != 0 {
+        return SliceAnswer {
+            answer,
+            shape: no_shape(),
+        };
+    }
+    linear_judged(false, shape, nodes, values, point, out)
+}
+
+// The slice of a table by LinearUniform, on its first axis.
+pub fn linear_uniform(
+    shape: Shape,
+    nodes: &[f64],
+    values: &[f64],
+    axis: usize,
+    point: f64,
+    out: &mut [f64],
+) -> SliceAnswer
+    ensures { λ r. ⌜ (r ≡ linearUniformSlice shape (now (nodes .entry)) (now (values .entry)) axis point (length (now (out .entry)))) × (now (out .exit) ≡ linearUniformSliced shape (now (nodes .entry)) (now (values .entry)) axis point (now (out .entry))) ⌝ }
+{
+    let answer = order::linear_uniform_front(shape, nodes, values, axis);
+    if answer.number != 0 {
+        return SliceAnswer {
+            answer,
+            shape: no_shape(),
+        };
+    }
+    linear_judged(true, shape, nodes, values, point, out)
 }

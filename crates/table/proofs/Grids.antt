@@ -1,6 +1,6 @@
 -- What is known of a table that was judged. Assumes nothing.
 use mathlib.Core.Path.{_≡_, refl, sym, ap, _∙_, subst}
-use mathlib.Core.Bool.{true}
+use mathlib.Core.Bool.{true, not}
 use mathlib.Core.List.{List, [], _∷_}
 use Prim.Native.Nat.{ℕ, zero, suc, _+_, _-_, _≤_, _<_, min}
 use native.Mathlib.Omega.{arith}
@@ -11,9 +11,9 @@ use lib.Ieee.Scale.{finite}
 use Rattle.answer.specs.Answer.{good, _or_, firstOf}
 use Rattle.answer.proofs.Orders as orders
 use Rattle.judge.specs.Check.{nodesFault, readingFault, directionFault, Axis}
-use Rattle.judge.proofs.Rows.{nodes-axis, reading-finite}
+use Rattle.judge.proofs.Rows.{not-false, nodes-axis, reading-finite}
 use Rattle.table.specs.Shape.{countsOf, size, total, axesOf}
-use Rattle.table.specs.Table.{shapeFault, lengthFault, frameFault, axesFault, readingsFault, rangeFault, rangesFault, Grid}
+use Rattle.table.specs.Table.{shapeFault, lengthFault, frameFault, axesFault, valueFault, valuesFault, readingsFault, rangeFault, rangesFault, Grid}
 use Rattle.table.specs.declared.Shape.{Shape}
 use Rattle.table.proofs.Shapes.{length-axes}
 use Rattle.table.proofs.Tables.{shape-some, shape-four, shape-enough, shape-few, shape-size, length-passed}
@@ -65,6 +65,12 @@ module _ (s : Shape) (four : length (s .counts) ≡ 4) (nodes values : List Floa
 pub readings-finite : (readings : List Float) → good (readingsFault readings) ≡ true → (a : ℕ) → a < length readings → finite (getD readings a nan) ≡ true
 unfolding readingsFault
 readings-finite readings h a l = reading-finite a (getD readings a nan) (orders.all-passed (λ b. readingFault b (getD readings b nan)) 0 (length readings) h a (omega arith) (omega arith))
+
+pub values-finite : (values : List Float) → good (valuesFault values) ≡ true → (i : ℕ) → i < length values → finite (getD values i nan) ≡ true
+unfolding valuesFault valueFault
+values-finite values h i l =
+    not-false (finite (getD values i nan))
+    (orders.row-good (not (finite (getD values i nan))) 6 0 i (orders.all-passed (λ j. valueFault values j) 0 (length values) h i (omega arith) (omega arith)))
 
 pub ranges-passed : (counts : List ℕ) (nodes readings : List Float) → good (rangesFault counts nodes readings) ≡ true → (a : ℕ) → a < length counts → good (rangeFault a (getD (axesOf counts nodes) a []) (getD readings a nan)) ≡ true
 unfolding rangesFault

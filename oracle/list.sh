@@ -35,7 +35,7 @@ folder=$(mktemp -d)
 trap 'rm -rf "$folder"' EXIT
 target/release/oracle make >"$folder/stdin"
 target/release/oracle answer <"$folder/stdin" >"$folder/stdout"
-calls=$(wc -l <"$folder/stdout")
+calls=$(target/release/oracle count <"$folder/stdin" | tail -n 1 | awk '{print $1}')
 
 if [ "$mode" = --check ]; then
     cmp "$folder/stdin" "$replay/stdin"

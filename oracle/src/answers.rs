@@ -1,8 +1,10 @@
-//! One line for each call: a refusal of `refusals`, or what the unchanged Rust gives.
+//! The answer to each call: a refusal of `refusals`, or what the unchanged Rust gives. One
+//! line, but for a slice, whose lines are in `slices`.
 
 use crate::calls::Call;
 use crate::lookups;
 use crate::refusals::{self, Refusal};
+use crate::slices;
 use crate::table::Table;
 use ninterp::error::ValidateError;
 use ninterp::strategy::step::StepDirection;
@@ -24,6 +26,7 @@ pub fn answer_list(calls: &[Call]) -> String {
         match call {
             Call::Axis(lent) => nodes = lent,
             Call::Table(lent) => table = lent,
+            Call::Slice(slice) => lines += &slices::lines(table, slice),
             _ => lines += &line(answer(call, nodes, table)),
         }
     }
@@ -40,7 +43,7 @@ fn line(answer: Answer) -> String {
 
 fn answer(call: &Call, nodes: &[f64], table: &Table) -> Answer {
     match *call {
-        Call::Axis(_) | Call::Table(_) => Ok(String::new()),
+        Call::Axis(_) | Call::Table(_) | Call::Slice(_) => Ok(String::new()),
         Call::LocateLowerIndex { reading } => lower_index(nodes, reading),
         Call::ExactIndex { lower, reading } => exact(nodes, lower, reading),
         Call::LocateAxis { reading } => axis_location(nodes, reading),
@@ -51,10 +54,9 @@ fn answer(call: &Call, nodes: &[f64], table: &Table) -> Answer {
         },
         Call::ValidateUniformGrid { tolerance } => uniform(nodes, tolerance),
         Call::ValidateUniformGridEpsilon { tolerance } => uniform_epsilon(nodes, tolerance),
-        Call::Nearest { ref readings } => value(lookups::nearest(table, readings)),
         #[rustfmt::skip]
-        Call::Step { ref directions, ref readings } => {
-            value(lookups::stepped(table, directions, readings))
+        Call::Lookup { ref rule, ref readings } => {
+            value(lookups::looked_up(table, rule, readings))
         },
     }
 }
@@ -87,7 +89,7 @@ fn axis_location(nodes: &[f64], reading: f64) -> Answer {
     match locate_axis(ArrayView1::from(nodes), &reading) {
         AxisLocation::Exact(index) => Ok(format!("exact {index}")),
         AxisLocation::Between { lower, frac } => {
-            refusals::fraction(frac)?;
+            refusals::result(frac, 0)?;
             Ok(format!("between {lower} {:016x}", frac.to_bits()))
         }
     }

@@ -1,8 +1,9 @@
 //! The list: records with a header of 32 bytes, little-endian; see README.md.
 
 use crate::header::{read_numbers, write_numbers, Header, HEADER};
+use crate::rules::Rule;
 use crate::table::Table;
-use crate::table_calls;
+use crate::table_calls::{self, Slice, LOOKUP, SLICE};
 
 pub const MOST_NODES: usize = 128;
 
@@ -36,17 +37,15 @@ pub enum Call {
         tolerance: Option<f64>,
     },
     Table(Table),
-    Nearest {
+    Lookup {
+        rule: Rule,
         readings: Vec<f64>,
     },
-    Step {
-        directions: Vec<u8>,
-        readings: Vec<f64>,
-    },
+    Slice(Slice),
 }
 
 /// By op.
-pub const NAMES: [&str; 11] = [
+pub const NAMES: [&str; 17] = [
     "axis",
     "locate_lower_index",
     "exact_index",
@@ -58,6 +57,12 @@ pub const NAMES: [&str; 11] = [
     "table",
     "Nearest",
     "Step",
+    "Linear",
+    "LinearUniform",
+    "slice of Nearest",
+    "slice of Step",
+    "slice of Linear",
+    "slice of LinearUniform",
 ];
 
 impl Call {
@@ -72,13 +77,13 @@ impl Call {
             Call::ValidateUniformGrid { .. } => 6,
             Call::ValidateUniformGridEpsilon { .. } => 7,
             Call::Table(_) => 8,
-            Call::Nearest { .. } => 9,
-            Call::Step { .. } => 10,
+            Call::Lookup { rule, .. } => LOOKUP + rule.number(),
+            Call::Slice(slice) => SLICE + slice.rule.number(),
         }
     }
 
-    /// An axis and a table are lent to the calls that follow; they have no line.
-    pub fn has_line(&self) -> bool {
+    /// An axis and a table are lent to the calls that follow; they have no answer.
+    pub fn has_answer(&self) -> bool {
         !matches!(self, Call::Axis(_) | Call::Table(_))
     }
 
@@ -90,9 +95,7 @@ impl Call {
                 write_numbers(&table.nodes, out);
                 write_numbers(&table.values, out);
             }
-            Call::Nearest { readings } | Call::Step { readings, .. } => {
-                write_numbers(readings, out)
-            }
+            Call::Lookup { readings, .. } => write_numbers(readings, out),
             _ => {}
         }
     }
@@ -132,11 +135,8 @@ impl Call {
                 header.second = tolerance.unwrap_or(0.0).to_bits();
             }
             Call::Table(table) => return table_calls::table_header(table),
-            Call::Nearest { readings } => return table_calls::nearest_header(readings),
-            #[rustfmt::skip]
-            Call::Step { directions, readings } => {
-                return table_calls::step_header(directions, readings)
-            },
+            Call::Lookup { rule, readings } => return table_calls::lookup_header(rule, readings),
+            Call::Slice(slice) => return table_calls::slice_header(slice),
         }
         header
     }
@@ -183,8 +183,8 @@ fn read_call(bytes: &[u8]) -> Read<'_> {
     let (call, rest) = match header.op {
         0 => read_axis(&header, rest)?,
         8 => table_calls::read_table(&header, rest)?,
-        9 => table_calls::read_nearest(&header, rest)?,
-        10 => table_calls::read_step(&header, rest)?,
+        9..=12 => table_calls::read_lookup(&header, rest)?,
+        13..=16 => table_calls::read_slice(&header, rest)?,
         _ => (read_primitive(&header)?, rest),
     };
     if call.header() != header {

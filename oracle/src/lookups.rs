@@ -1,14 +1,15 @@
 //! The lookups of a table: a refusal of `table_refusals`, or what the unchanged Rust gives.
 
-use crate::refusals::Refusal;
+use crate::refusals::{self, Refusal};
+use crate::rules::Rule;
 use crate::table::Table;
 use crate::table_refusals;
 use ninterp::arrays::{Array1, ArrayD, OwnedRepr};
-use ninterp::error::InterpolateError;
+use ninterp::error::{InterpolateError, ValidateError};
 use ninterp::interpolator::data::InterpDataNDBase;
 use ninterp::strategy::step::StepDirection;
 use ninterp::strategy::traits::StrategyND;
-use ninterp::strategy::{Directions, Nearest, Step};
+use ninterp::strategy::{Directions, Linear, LinearUniform, Nearest, Step};
 
 pub type Data = InterpDataNDBase<OwnedRepr<f64>>;
 
@@ -33,18 +34,41 @@ fn step(directions: &[u8]) -> Step {
 }
 
 /// What the Rust gives; a table that its own check does not pass stops the run.
-pub fn ask(strategy: &impl StrategyND<OwnedRepr<f64>>, data: &Data, readings: &[f64]) -> f64 {
+fn asked(strategy: &impl StrategyND<OwnedRepr<f64>>, data: &Data, readings: &[f64]) -> f64 {
     strategy.validate(data).expect("accepted by the Rust");
     let Ok(value): Result<f64, InterpolateError> = strategy.interpolate(data, readings);
     value
 }
 
-pub fn nearest(table: &Table, readings: &[f64]) -> Result<f64, Refusal> {
-    table_refusals::lookup(table, readings, None)?;
-    Ok(ask(&Nearest, &data(table), readings))
+pub fn ask(rule: &Rule, data: &Data, readings: &[f64]) -> f64 {
+    match rule {
+        Rule::Nearest => asked(&Nearest, data, readings),
+        Rule::Step(directions) => asked(&step(directions), data, readings),
+        Rule::Linear => asked(&Linear, data, readings),
+        Rule::LinearUniform => asked(&LinearUniform, data, readings),
+    }
 }
 
-pub fn stepped(table: &Table, directions: &[u8], readings: &[f64]) -> Result<f64, Refusal> {
-    table_refusals::lookup(table, readings, Some(directions))?;
-    Ok(ask(&step(directions), &data(table), readings))
+/// The axis and the interval of the Rust's own uniform check.
+pub fn not_uniform(data: &Data) -> Option<(usize, usize)> {
+    match LinearUniform.validate(data) {
+        Err(ValidateError::NonUniform { dim, index }) => Some((dim, index)),
+        _ => None,
+    }
+}
+
+/// Where a lookup or a slice is refused 8, the Rust must name the same axis and interval.
+pub fn confirmed(table: &Table, no: Refusal) -> Refusal {
+    if no.number == 8 {
+        let named = (no.axis as usize, no.place);
+        assert_eq!(not_uniform(&data(table)), Some(named));
+    }
+    no
+}
+
+pub fn looked_up(table: &Table, rule: &Rule, readings: &[f64]) -> Result<f64, Refusal> {
+    table_refusals::lookup(table, rule, readings).map_err(|no| confirmed(table, no))?;
+    let value = ask(rule, &data(table), readings);
+    refusals::result(value, 0)?;
+    Ok(value)
 }

@@ -1,5 +1,5 @@
 //! `oracle make` writes the list, `oracle answer` answers a list, `oracle count` counts
-//! the calls of a list by kind, `oracle check` tries the strategies that no call reaches.
+//! the calls of a list by kind, `oracle check` tries the strategies on cases worked by hand.
 
 mod answers;
 mod calls;
@@ -7,7 +7,9 @@ mod header;
 mod lookups;
 mod make;
 mod refusals;
+mod rules;
 mod self_check;
+mod slices;
 mod table;
 mod table_calls;
 mod table_refusals;
@@ -33,8 +35,8 @@ fn count_by_kind(calls: &[Call]) -> String {
     for (name, count) in NAMES.iter().zip(counts) {
         text += &format!("{count:6} {name}\n");
     }
-    let lines = calls.iter().filter(|call| call.has_line()).count();
-    text + &format!("{lines:6} calls in all, axes and tables apart\n")
+    let answered = calls.iter().filter(|call| call.has_answer()).count();
+    text + &format!("{answered:6} calls in all, axes and tables apart\n")
 }
 
 fn run(command: Option<&str>) -> Result<Vec<u8>, String> {

@@ -96,12 +96,12 @@ pub fn reading(reading: f64) -> Result<(), Refusal> {
     }
 }
 
-/// The last check of `locate_axis`.
-pub fn fraction(fraction: f64) -> Result<(), Refusal> {
-    if fraction.is_finite() {
+/// The last check of `locate_axis`, of a lookup and, at each place, of a slice.
+pub fn result(result: f64, place: usize) -> Result<(), Refusal> {
+    if result.is_finite() {
         Ok(())
     } else {
-        refuse(12, 0)
+        refuse(12, place)
     }
 }
 

@@ -1,12 +1,26 @@
-//! The records of tables and of their lookups.
+//! The records of tables, of their lookups and of their slices.
 
 use crate::calls::{Call, Read};
 use crate::header::{read_numbers, Header};
+use crate::rules::Rule;
 use crate::table::Table;
 
 const MOST_NODES: usize = 512;
-const MOST_VALUES: usize = 4160;
+pub const MOST_VALUES: usize = 4160;
 const MOST_READINGS: usize = 8;
+
+/// The op of the first rule's lookup, and of its slice.
+pub const LOOKUP: u8 = 9;
+pub const SLICE: u8 = 13;
+
+/// A slice: one axis is removed at a reading, into an output with so much room.
+#[derive(Clone)]
+pub struct Slice {
+    pub rule: Rule,
+    pub axis: u32,
+    pub reading: f64,
+    pub room: u32,
+}
 
 /// Parts of so many bits, the first one lowest.
 fn joined<const N: usize>(parts: [u64; N], bits: u32) -> u64 {
@@ -30,21 +44,30 @@ pub fn table_header(table: &Table) -> Header {
     }
 }
 
-pub fn nearest_header(readings: &[f64]) -> Header {
+/// The directions of Step, in `b` and second; zeros for the others.
+fn rule_header(rule: &Rule) -> Header {
+    let directions = rule.directions();
+    let mut bytes = [0; 8];
+    bytes[..directions.len()].copy_from_slice(directions);
     Header {
-        a: readings.len() as u8,
+        b: directions.len() as u8,
+        second: u64::from_le_bytes(bytes),
         ..Header::default()
     }
 }
 
-pub fn step_header(directions: &[u8], readings: &[f64]) -> Header {
-    let mut bytes = [0; 8];
-    bytes[..directions.len()].copy_from_slice(directions);
+pub fn lookup_header(rule: &Rule, readings: &[f64]) -> Header {
     Header {
         a: readings.len() as u8,
-        b: directions.len() as u8,
-        second: u64::from_le_bytes(bytes),
-        ..Header::default()
+        ..rule_header(rule)
+    }
+}
+
+pub fn slice_header(slice: &Slice) -> Header {
+    Header {
+        reading: slice.reading.to_bits(),
+        third: joined([slice.room, slice.axis].map(u64::from), 32),
+        ..rule_header(&slice.rule)
     }
 }
 
@@ -61,23 +84,34 @@ pub fn read_table<'a>(header: &Header, rest: &'a [u8]) -> Read<'a> {
     Ok((Call::Table(table), rest))
 }
 
-pub fn read_nearest<'a>(header: &Header, rest: &'a [u8]) -> Read<'a> {
-    let (readings, rest) = read_numbers(header.a as usize, MOST_READINGS, rest)?;
-    Ok((Call::Nearest { readings }, rest))
-}
-
-pub fn read_step<'a>(header: &Header, rest: &'a [u8]) -> Read<'a> {
+fn read_rule(number: u8, header: &Header) -> Result<Rule, String> {
     let bytes = header.second.to_le_bytes();
     let Some(directions) = bytes.get(..header.b as usize) else {
         return Err("more directions than a record may have".into());
     };
-    let directions = directions.to_vec();
+    Ok(match number {
+        0 => Rule::Nearest,
+        1 => Rule::Step(directions.to_vec()),
+        2 => Rule::Linear,
+        _ => Rule::LinearUniform,
+    })
+}
+
+pub fn read_lookup<'a>(header: &Header, rest: &'a [u8]) -> Read<'a> {
+    let rule = read_rule(header.op - LOOKUP, header)?;
     let (readings, rest) = read_numbers(header.a as usize, MOST_READINGS, rest)?;
-    Ok((
-        Call::Step {
-            directions,
-            readings,
-        },
-        rest,
-    ))
+    Ok((Call::Lookup { rule, readings }, rest))
+}
+
+pub fn read_slice<'a>(header: &Header, rest: &'a [u8]) -> Read<'a> {
+    let slice = Slice {
+        rule: read_rule(header.op - SLICE, header)?,
+        axis: part(header.third, 32, 1) as u32,
+        reading: f64::from_bits(header.reading),
+        room: part(header.third, 32, 0) as u32,
+    };
+    if slice.room as usize > MOST_VALUES {
+        return Err("more room than a record may have".into());
+    }
+    Ok((Call::Slice(slice), rest))
 }

@@ -1,20 +1,37 @@
 //! The refusals of document 01, section "Numbers the technician sees", for the lookups
-//! of a table, in its order: 1, 2, 3; 4, 5, 6 axis by axis; 7; 9 for Step; 10; 11.
-//! Written from that document alone; nothing here calls the Rust.
+//! and the slices of a table, in its order: 1, 2, 3; 16 for a slice; 4, 5, 6 axis by
+//! axis; 7; 8 for LinearUniform; 9 for Step; 10; 11; 15 for a slice. Written from that
+//! document alone; nothing here calls the Rust.
 
 use crate::refusals::{self, Refusal};
+use crate::rules::Rule;
 use crate::table::Table;
+use crate::table_calls::Slice;
 
-/// Directions are lent to Step alone.
-pub fn lookup(table: &Table, readings: &[f64], directions: Option<&[u8]>) -> Result<(), Refusal> {
+pub fn lookup(table: &Table, rule: &Rule, readings: &[f64]) -> Result<(), Refusal> {
     axes(table.axes)?;
     counts(&table.shape())?;
-    lengths(table, readings, directions)?;
-    nodes(table)?;
-    values(&table.values)?;
-    on_each_axis(directions.unwrap_or(&[]), refusals::direction)?;
+    lengths(table, Some(readings), rule)?;
+    contents(table, rule)?;
     on_each_axis(readings, refusals::reading)?;
-    inside(table, readings)
+    for (axis, nodes) in table.grid().into_iter().enumerate() {
+        inside(nodes, axis, readings[axis])?;
+    }
+    Ok(())
+}
+
+/// 10 and 11 for its one reading alone.
+pub fn slice(table: &Table, slice: &Slice) -> Result<(), Refusal> {
+    let axis = slice.axis as usize;
+    axes(table.axes)?;
+    counts(&table.shape())?;
+    lengths(table, None, &slice.rule)?;
+    removable(table, axis, &slice.rule)?;
+    contents(table, &slice.rule)?;
+    refusals::reading(slice.reading).or_else(|no| refuse(no.number, axis, no.place))?;
+    inside(table.grid()[axis], axis, slice.reading)?;
+    let wanted = table.values.len() / table.shape()[axis];
+    room(slice.room as usize, wanted)
 }
 
 fn refuse(number: u8, axis: usize, place: usize) -> Result<(), Refusal> {
@@ -54,13 +71,18 @@ fn counts(shape: &[usize]) -> Result<(), Refusal> {
     }
 }
 
-fn lengths(table: &Table, readings: &[f64], directions: Option<&[u8]>) -> Result<(), Refusal> {
+/// Readings are lent to a lookup alone, directions to Step alone.
+fn lengths(table: &Table, readings: Option<&[f64]>, rule: &Rule) -> Result<(), Refusal> {
     let shape = table.shape();
+    let directions = match rule {
+        Rule::Step(directions) => directions.len(),
+        _ => shape.len(),
+    };
     let lent = [
         (table.nodes.len(), shape.iter().sum()),
         (table.values.len(), shape.iter().product()),
-        (readings.len(), shape.len()),
-        (directions.map_or(shape.len(), <[u8]>::len), shape.len()),
+        (readings.map_or(shape.len(), <[f64]>::len), shape.len()),
+        (directions, shape.len()),
     ];
     for (place, (length, wanted)) in lent.into_iter().enumerate() {
         if length != wanted {
@@ -70,8 +92,24 @@ fn lengths(table: &Table, readings: &[f64], directions: Option<&[u8]>) -> Result
     Ok(())
 }
 
-fn nodes(table: &Table) -> Result<(), Refusal> {
-    on_each_axis(&table.grid(), refusals::nodes)
+/// 16.
+fn removable(table: &Table, axis: usize, rule: &Rule) -> Result<(), Refusal> {
+    let last = if rule.is_linear() { 0 } else { table.axes - 1 };
+    if table.axes > 1 && axis <= last as usize {
+        Ok(())
+    } else {
+        refuse(16, 0, 0)
+    }
+}
+
+/// 4, 5, 6; 7; 8; 9.
+fn contents(table: &Table, rule: &Rule) -> Result<(), Refusal> {
+    on_each_axis(&table.grid(), refusals::nodes)?;
+    values(&table.values)?;
+    if let Rule::LinearUniform = rule {
+        on_each_axis(&table.grid(), uniform)?;
+    }
+    on_each_axis(rule.directions(), refusals::direction)
 }
 
 fn values(values: &[f64]) -> Result<(), Refusal> {
@@ -81,15 +119,34 @@ fn values(values: &[f64]) -> Result<(), Refusal> {
     }
 }
 
+/// 8 at the default tolerance, of the first gap that differs from the first one by more.
+fn uniform(nodes: &[f64]) -> Result<(), Refusal> {
+    let gaps: Vec<f64> = nodes.windows(2).map(|pair| pair[1] - pair[0]).collect();
+    let tolerance = gaps[0] * (1.0 / (1u64 << 42) as f64);
+    match gaps
+        .iter()
+        .position(|gap| (gap - gaps[0]).abs() > tolerance)
+    {
+        Some(interval) => refusals::not_uniform(interval),
+        None => Ok(()),
+    }
+}
+
 /// Plus and minus zero are equal, so neither is outside an axis that ends at the other.
-fn inside(table: &Table, readings: &[f64]) -> Result<(), Refusal> {
-    for (axis, nodes) in table.grid().into_iter().enumerate() {
-        if readings[axis] < nodes[0] {
-            return refuse(11, axis, 0);
-        }
-        if readings[axis] > nodes[nodes.len() - 1] {
-            return refuse(11, axis, 1);
-        }
+fn inside(nodes: &[f64], axis: usize, reading: f64) -> Result<(), Refusal> {
+    if reading < nodes[0] {
+        return refuse(11, axis, 0);
+    }
+    if reading > nodes[nodes.len() - 1] {
+        return refuse(11, axis, 1);
     }
     Ok(())
+}
+
+fn room(room: usize, wanted: usize) -> Result<(), Refusal> {
+    if room < wanted {
+        refuse(15, 0, 1)
+    } else {
+        Ok(())
+    }
 }

@@ -42,6 +42,17 @@ pub fn of_axis(nodes: &[f64], seed: &mut Seed) -> Vec<f64> {
     within(nodes, found)
 }
 
+/// On the nodes, beside them, halfway and at a drawn place between them.
+pub fn blends_of_axis(nodes: &[f64], seed: &mut Seed) -> Vec<f64> {
+    let picks = readings::picked(nodes.len(), seed);
+    let found = readings::kept(vec![
+        readings::beside(nodes, &picks),
+        readings::between(nodes, &picks, seed),
+        vec![0.0, -0.0],
+    ]);
+    within(nodes, found)
+}
+
 /// Every choice of one number from each list, that of the last list changing fastest.
 pub fn product(lists: &[Vec<f64>]) -> Vec<Vec<f64>> {
     let mut points: Vec<Vec<f64>> = vec![vec![]];
@@ -66,6 +77,19 @@ fn shuffled(mut list: Vec<f64>, seed: &mut Seed) -> Vec<f64> {
 
 /// Points in which every reading of every axis is met, in a drawn order.
 pub fn walk(axes: &[Vec<f64>], seed: &mut Seed) -> Vec<Vec<f64>> {
+    walk_over(axes, of_axis, seed)
+}
+
+/// The same with readings for a blend.
+pub fn blend_walk(axes: &[Vec<f64>], seed: &mut Seed) -> Vec<Vec<f64>> {
+    walk_over(axes, blends_of_axis, seed)
+}
+
+fn walk_over(
+    axes: &[Vec<f64>],
+    of_axis: impl Fn(&[f64], &mut Seed) -> Vec<f64>,
+    seed: &mut Seed,
+) -> Vec<Vec<f64>> {
     let mut lists = Vec::new();
     for nodes in axes {
         let readings = of_axis(nodes, seed);
@@ -97,6 +121,18 @@ pub fn drawn(axes: &[Vec<f64>], seed: &mut Seed) -> Vec<f64> {
         let i = seed.under(nodes.len() - 1);
         let part = 0.125 + 0.75 * seed.part();
         point.push(nodes[i] + (nodes[i + 1] - nodes[i]) * part);
+    }
+    point
+}
+
+/// On a drawn node of the axes in the mask, bit d for axis d; strictly inside an interval
+/// of the others.
+pub fn mixed(axes: &[Vec<f64>], mask: usize, seed: &mut Seed) -> Vec<f64> {
+    let mut point = drawn(axes, seed);
+    for (d, nodes) in axes.iter().enumerate() {
+        if mask >> d & 1 == 1 {
+            point[d] = nodes[seed.under(nodes.len())];
+        }
     }
     point
 }

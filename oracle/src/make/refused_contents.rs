@@ -10,14 +10,14 @@ const ORDINARY: [f64; 3] = [-2.0, 0.5, 3.0];
 fn plain(list: &mut List, table: &Table) {
     list.table(table);
     let count = table.axes as usize;
-    list.nearest_and_stepped(&[1, 0, 0, 1][..count], &[0.5; 4][..count]);
+    list.ask_both(&[1, 0, 0, 1][..count], &[0.5; 4][..count]);
 }
 
 /// Lookups whose own faults stand behind those of nodes and values.
 fn faulty(list: &mut List, axes: usize) {
-    list.nearest(&[f64::NAN; 4][..axes]);
-    list.nearest(&[LARGEST; 4][..axes]);
-    list.stepped(&[2; 4][..axes], &[f64::INFINITY; 4][..axes]);
+    list.ask_first(&[f64::NAN; 4][..axes]);
+    list.ask_first(&[LARGEST; 4][..axes]);
+    list.ask_second(&[2; 4][..axes], &[f64::INFINITY; 4][..axes]);
 }
 
 /// Axes of two nodes, but for one.
@@ -162,5 +162,15 @@ pub fn add(list: &mut List, seed: &mut Seed) {
     borders(list, seed);
     values(list, seed);
     last_of_many(list, seed);
+    nodes_and_values(list, seed);
+}
+
+/// The same without the table of thousands of values.
+pub fn add_small(list: &mut List, seed: &mut Seed) {
+    on_each_axis(list, seed);
+    on_one_axis(list, seed);
+    on_two_axes(list, seed);
+    borders(list, seed);
+    values(list, seed);
     nodes_and_values(list, seed);
 }

@@ -27,7 +27,7 @@ impl Open<'_> {
     }
 
     fn read(&self, list: &mut List, changes: &[(usize, f64)]) {
-        list.nearest_and_stepped(&self.directions, &self.with(changes));
+        list.ask_both(&self.directions, &self.with(changes));
     }
 }
 
@@ -69,7 +69,7 @@ fn reading_counts(list: &mut List, open: &Open) {
         if count % 2 == 1 {
             readings.fill(f64::NAN);
         }
-        list.nearest_and_stepped(&open.directions, &readings[..count]);
+        list.ask_both(&open.directions, &readings[..count]);
     }
 }
 
@@ -104,7 +104,7 @@ fn bad_directions(list: &mut List, open: &Open) {
     }
 }
 
-fn all(list: &mut List, axes: &[Vec<f64>], seed: &mut Seed) {
+fn readings<'a>(list: &mut List, axes: &'a [Vec<f64>], seed: &mut Seed) -> Open<'a> {
     list.table(&tables::over(axes, seed));
     let open = Open {
         axes,
@@ -115,6 +115,11 @@ fn all(list: &mut List, axes: &[Vec<f64>], seed: &mut Seed) {
     nan_or_infinite(list, &open);
     two_axes(list, &open);
     reading_counts(list, &open);
+    open
+}
+
+fn all(list: &mut List, axes: &[Vec<f64>], seed: &mut Seed) {
+    let open = readings(list, axes, seed);
     direction_counts(list, &open);
     bad_directions(list, &open);
 }
@@ -142,4 +147,25 @@ pub fn add(list: &mut List, seed: &mut Seed) {
         all(list, &axes[..count], seed);
     }
     zero_ends(list, seed);
+}
+
+/// The faults of readings alone, on axes that LinearUniform accepts and on one more set
+/// with an axis that it refuses, which then goes before any reading.
+pub fn add_uniform(list: &mut List, seed: &mut Seed) {
+    let axes = [
+        vec![0.0, 1.0, 2.0, 3.0],
+        vec![-1.0, -0.0, 1.0],
+        vec![-3.0, 5.0],
+        vec![0.25, 0.5, 0.75],
+    ];
+    for count in 1..=axes.len() {
+        readings(list, &axes[..count], seed);
+    }
+    readings(list, &[axes[1].clone(), vec![0.0, 1.0, 3.0]], seed);
+    for nodes in [[0.0, 1.0], [-0.0, 1.0], [-1.0, 0.0], [-1.0, -0.0]] {
+        list.table(&tables::over(&[vec![1.0, 2.0], nodes.to_vec()], seed));
+        for zero in [0.0, -0.0] {
+            list.ask_both(&[0, 0], &[1.25, zero]);
+        }
+    }
 }

@@ -30,13 +30,13 @@ fn shaped(counts: &[u16], seed: &mut Seed) -> Table {
 fn plain(list: &mut List, table: &Table) {
     list.table(table);
     let count = table.axes.min(8) as usize;
-    list.nearest_and_stepped(&[0, 1, 1, 0, 0, 1, 0, 1][..count], &[0.5; 8][..count]);
+    list.ask_both(&[0, 1, 1, 0, 0, 1, 0, 1][..count], &[0.5; 8][..count]);
 }
 
 /// Lookups with faults that the table's own precedes.
 fn faulty(list: &mut List) {
-    list.nearest(&[]);
-    list.stepped(&[2, 2], &[f64::NAN; 3]);
+    list.ask_first(&[]);
+    list.ask_second(&[2, 2], &[f64::NAN; 3]);
 }
 
 fn axes(list: &mut List, seed: &mut Seed) {
@@ -63,36 +63,31 @@ fn counts(list: &mut List, seed: &mut Seed) {
     }
 }
 
-/// The first bad count is told, and any bad count before the product. The first has
-/// nothing else at fault.
-fn several_counts(list: &mut List, seed: &mut Seed) {
-    let shapes: [&[u16]; 8] = [
-        &[65, 64],
-        &[64, 65],
-        &[1, 65],
-        &[2, 0, 1],
-        &[64, 64, 65],
-        &[64, 64, 64, 1],
-        &[64, 65, 64, 0],
-        &[65535, 65535, 65535, 65535],
-    ];
-    for counts in shapes {
-        plain(list, &shaped(counts, seed));
-        faulty(list);
-    }
-}
+/// The first bad count is told, and any bad count before the product. The first two have
+/// thousands of values, and the first nothing else at fault.
+const SEVERAL_COUNTS: [&[u16]; 8] = [
+    &[65, 64],
+    &[64, 65],
+    &[1, 65],
+    &[2, 0, 1],
+    &[64, 64, 65],
+    &[64, 64, 64, 1],
+    &[64, 65, 64, 0],
+    &[65535, 65535, 65535, 65535],
+];
 
 /// The first has nothing else at fault: 4,100 values.
-fn products(list: &mut List, seed: &mut Seed) {
-    let shapes: [&[u16]; 7] = [
-        &[41, 50, 2],
-        &[64, 64, 2],
-        &[2, 64, 64],
-        &[17, 16, 16],
-        &[9, 8, 8, 8],
-        &[2, 2, 64, 64],
-        &[64, 64, 64, 64],
-    ];
+const PRODUCTS: [&[u16]; 7] = [
+    &[41, 50, 2],
+    &[64, 64, 2],
+    &[2, 64, 64],
+    &[17, 16, 16],
+    &[9, 8, 8, 8],
+    &[2, 2, 64, 64],
+    &[64, 64, 64, 64],
+];
+
+fn shapes(list: &mut List, seed: &mut Seed, shapes: &[&[u16]]) {
     for counts in shapes {
         plain(list, &shaped(counts, seed));
         faulty(list);
@@ -123,6 +118,9 @@ fn lengths(list: &mut List, seed: &mut Seed) {
         faulty(list);
         plain(list, &resized(&good, values, nodes + 1));
     }
+}
+
+fn lengths_of_many(list: &mut List, seed: &mut Seed) {
     let good = shaped(&[64, 64], seed);
     for wrong in [4095, 4097] {
         plain(list, &resized(&good, 128, wrong));
@@ -142,7 +140,7 @@ fn lengths_and_contents(list: &mut List, seed: &mut Seed) {
     table.values.push(0.0);
     list.table(&table);
     faulty(list);
-    list.stepped(&[2], &[f64::NAN, 0.5]);
+    list.ask_second(&[2], &[f64::NAN, 0.5]);
 }
 
 /// Accepted: the counts past the axes are anything.
@@ -167,8 +165,20 @@ fn not_looked_at(list: &mut List, seed: &mut Seed) {
 pub fn add(list: &mut List, seed: &mut Seed) {
     axes(list, seed);
     counts(list, seed);
-    several_counts(list, seed);
-    products(list, seed);
+    shapes(list, seed, &SEVERAL_COUNTS);
+    shapes(list, seed, &PRODUCTS);
+    lengths(list, seed);
+    lengths_of_many(list, seed);
+    lengths_and_contents(list, seed);
+    not_looked_at(list, seed);
+}
+
+/// The same without the tables of thousands of values.
+pub fn add_small(list: &mut List, seed: &mut Seed) {
+    axes(list, seed);
+    counts(list, seed);
+    shapes(list, seed, &SEVERAL_COUNTS[2..]);
+    shapes(list, seed, &PRODUCTS[1..]);
     lengths(list, seed);
     lengths_and_contents(list, seed);
     not_looked_at(list, seed);

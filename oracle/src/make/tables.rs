@@ -2,24 +2,33 @@
 
 use super::axes::{self, adjacent, geometric, linspace, summed};
 use super::numbers::{above, two_to, Seed, LARGEST, LEAST};
-use super::values;
+use super::values::{self, Kind};
 use crate::table::Table;
 
 pub type Axes = Vec<Vec<f64>>;
 
 /// A table over these axes, 1 to 4 of them; counts past them are zero.
-pub fn over(axes: &[Vec<f64>], seed: &mut Seed) -> Table {
+pub fn with_values(axes: &[Vec<f64>], values: Vec<f64>) -> Table {
     let mut counts = [0; 4];
     for (count, nodes) in counts.iter_mut().zip(axes) {
         *count = nodes.len() as u16;
     }
-    let product = axes.iter().map(Vec::len).product();
     Table {
         axes: axes.len() as u8,
         counts,
         nodes: axes.concat(),
-        values: values::distinct(product, seed),
+        values,
     }
+}
+
+pub fn of_kind(axes: &[Vec<f64>], kind: Kind, seed: &mut Seed) -> Table {
+    let product = axes.iter().map(Vec::len).product();
+    with_values(axes, values::of_kind(kind, product, seed))
+}
+
+/// With values of every size, no two alike.
+pub fn over(axes: &[Vec<f64>], seed: &mut Seed) -> Table {
+    of_kind(axes, Kind::Wide, seed)
 }
 
 fn a() -> Vec<f64> {

@@ -12,7 +12,7 @@ fn deviations(nodes: &[f64]) -> Vec<f64> {
 }
 
 /// The default tolerance met exactly and missed, to either side, at several intervals.
-fn around_default() -> Vec<Vec<f64>> {
+pub fn around_default() -> Vec<Vec<f64>> {
     let mut axes = Vec::new();
     for off in [two_to(-42), two_to(-41)] {
         axes.push(vec![0.0, 1.0, 2.0 + off]);
@@ -26,7 +26,7 @@ fn around_default() -> Vec<Vec<f64>> {
 }
 
 /// Steps whose default tolerance underflows, to zero or to 2^-1074 and its double.
-fn small_steps() -> Vec<Vec<f64>> {
+pub fn small_steps() -> Vec<Vec<f64>> {
     let mut axes = vec![
         vec![0.0, LEAST, 2.0 * LEAST],
         vec![0.0, LEAST, 3.0 * LEAST],

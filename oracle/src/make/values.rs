@@ -1,6 +1,49 @@
-//! Values of a table, no two alike, so that a wrong place shows.
+//! Values of a table.
 
 use super::numbers::{below, two_to, Seed, LARGEST, LEAST};
+
+#[derive(Clone, Copy)]
+pub enum Kind {
+    /// Of like size, so that the rounding of every corner shows in the result.
+    Mild,
+    /// Those of `distinct`: of every size, with the edges among them.
+    Wide,
+    /// Zeros of both signs and, less often, the least numbers of both signs.
+    Zeros,
+    /// Below 2^-1022.
+    Subnormal,
+    /// Near the largest number, of both signs.
+    Huge,
+}
+
+pub const KINDS: [Kind; 5] = [
+    Kind::Mild,
+    Kind::Wide,
+    Kind::Zeros,
+    Kind::Subnormal,
+    Kind::Huge,
+];
+
+pub fn of_kind(kind: Kind, count: usize, seed: &mut Seed) -> Vec<f64> {
+    let zeros = [0.0, -0.0, 0.0, -0.0, LEAST, -LEAST];
+    match kind {
+        Kind::Mild => (0..count).map(|_| seed.spread(-3, 4)).collect(),
+        Kind::Wide => distinct(count, seed),
+        Kind::Zeros => (0..count).map(|_| zeros[seed.under(6)]).collect(),
+        Kind::Subnormal => (0..count).map(|_| seed.spread(-1073, -1022)).collect(),
+        Kind::Huge => (0..count).map(|_| huge(seed)).collect(),
+    }
+}
+
+/// The last bits are drawn, so that roundings differ.
+fn huge(seed: &mut Seed) -> f64 {
+    let magnitude = LARGEST * (1.0 - 0.125 * seed.part());
+    if seed.word() >> 63 == 0 {
+        magnitude
+    } else {
+        -magnitude
+    }
+}
 
 fn edges() -> Vec<f64> {
     vec![
@@ -15,7 +58,8 @@ fn edges() -> Vec<f64> {
     ]
 }
 
-/// Drawn; as often as there is room the edges, in turn, at every third place.
+/// No two alike, so that a wrong place shows. Drawn; as often as there is room the edges,
+/// in turn, at every third place.
 pub fn distinct(count: usize, seed: &mut Seed) -> Vec<f64> {
     let mut edges = edges();
     let first = seed.under(edges.len());

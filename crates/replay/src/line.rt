@@ -2,12 +2,28 @@
 ghost use Prim.Native.Nat.{_≤_};
 ghost use lib.ListN.{length};
 ghost use Rattle.io.specs.Counts.{Counts};
+use crate::list::Header;
 use answer::Answer;
 use libc::STDOUT_FILENO;
 
-// The reply to a record. Silent and End have no line.
+// A slice's answer with the shape that it gives, its counts one by one.
+pub struct Sliced {
+    pub answer: Answer,
+    pub axes: usize,
+    pub a: usize,
+    pub b: usize,
+    pub c: usize,
+    pub d: usize,
+}
+
+// The reply to a record, or one line of it. Silent, ToSlice and End have no line.
 pub enum Reply {
     Silent,
+    // A slice, still to be made.
+    ToSlice(Header),
+    Slice(Sliced),
+    Bits(f64),
+    Kept(usize),
     Index(usize),
     None,
     Exact(usize),
@@ -100,11 +116,44 @@ fn put_refusal(no: Answer, line: &mut [u8]) -> usize
     put_decimal(no.place as u64, line, at)
 }
 
+fn put_count(count: usize, line: &mut [u8], at: usize) -> usize
+    requires { ⌜ at ≤ length (now line) ⌝ }
+    ensures { λ r. ⌜ Counts r (now (line .exit)) ⌝ }
+{
+    let at = put(b" ", line, at);
+    put_decimal(count as u64, line, at)
+}
+
+fn put_outcome(answer: Answer, line: &mut [u8]) -> usize
+    ensures { λ r. ⌜ Counts r (now (line .exit)) ⌝ }
+{
+    if answer.number == 0 {
+        put(b"ok", line, 0)
+    } else {
+        put_refusal(answer, line)
+    }
+}
+
+fn put_slice(made: Sliced, line: &mut [u8]) -> usize
+    ensures { λ r. ⌜ Counts r (now (line .exit)) ⌝ }
+{
+    let at = put_outcome(made.answer, line);
+    let at = put(b" shape", line, at);
+    let at = put_count(made.axes, line, at);
+    let at = put_count(made.a, line, at);
+    let at = put_count(made.b, line, at);
+    let at = put_count(made.c, line, at);
+    put_count(made.d, line, at)
+}
+
 fn put_reply(said: Reply, line: &mut [u8]) -> usize
     ensures { λ r. ⌜ Counts r (now (line .exit)) ⌝ }
 {
     match said {
-        Reply::Silent | Reply::End => 0,
+        Reply::Silent | Reply::ToSlice(_) | Reply::End => 0,
+        Reply::Slice(made) => put_slice(made, line),
+        Reply::Bits(x) => put_bits(x, line, 0),
+        Reply::Kept(count) => put_named(b"kept ", count, line),
         Reply::Index(index) => put_named(b"ok ", index, line),
         Reply::None => put(b"ok none", line, 0),
         Reply::Exact(index) => put_named(b"ok exact ", index, line),
@@ -150,8 +199,8 @@ fn add(said: Reply, out: &mut [u8], held: usize) -> Kept
     requires { ⌜ Counts held (now out) ⌝ }
     ensures { λ r. ⌜ Counts (r .held) (now (out .exit)) ⌝ }
 {
-    // The longest line, a refusal, has 56 bytes.
-    let mut line = [0u8; 64];
+    // The longest line, a slice that is refused, has 167 bytes.
+    let mut line = [0u8; 192];
     let at = put_reply(said, &mut line);
     let end = put(b"\n", &mut line, at);
     hold(&line[..end], out, held)
@@ -163,7 +212,7 @@ pub(crate) fn say(said: Reply, out: &mut [u8], held: usize) -> Kept
     ensures { λ r. ⌜ Counts (r .held) (now (out .exit)) ⌝ }
 {
     match said {
-        Reply::Silent => Kept { held, go: true },
+        Reply::Silent | Reply::ToSlice(_) => Kept { held, go: true },
         Reply::End => Kept { held, go: false },
         Reply::Bad => {
             let kept = add(said, out, held);

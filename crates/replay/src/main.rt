@@ -1,13 +1,16 @@
-// Answers the list of calls on standard input, a line for each. The list and the lines are those of oracle/README.md.
+// Answers the list of calls on standard input, a line for each, or for a slice several. The list and the lines are those of oracle/README.md.
 mod calls;
 mod line;
 mod list;
+mod slices;
 mod tables;
 
 ghost use mathlib.Core.Path.{_≡_};
 ghost use Prim.Native.Nat.{_≤_};
 ghost use lib.ListN.{length};
+ghost use Rattle.io.specs.Counts.{Counts};
 ghost use Rattle.replay.specs.Room.{Room};
+use line::Kept;
 use line::Reply;
 use list::Head;
 use list::Header;
@@ -83,10 +86,15 @@ fn take(
     match op {
         0 => take_axis(call, axis, table),
         8 => take_table(call, count, nodes, values),
-        9 | 10 => {
+        9 | 10 | 11 | 12 => {
             let said = tables::answer(call, table, nodes, values);
             Taken { count, table, said }
         }
+        13 | 14 | 15 | 16 => Taken {
+            count,
+            table,
+            said: Reply::ToSlice(call),
+        },
         _ => {
             let said = answer(call, axis, count);
             Taken { count, table, said }
@@ -122,6 +130,19 @@ fn step(
     }
 }
 
+// Holds what a record has to say; a slice is made here.
+fn tell(taken: Taken, nodes: &[f64], values: &[f64], out: &mut [u8], held: usize) -> Kept
+    requires { ⌜ Room (taken .table) (now nodes) (now values) ⌝ }
+    requires { ⌜ Counts held (now out) ⌝ }
+    ensures { λ r. ⌜ Counts (r .held) (now (out .exit)) ⌝ }
+{
+    let said = taken.said;
+    match said {
+        Reply::ToSlice(call) => slices::say(call, taken.table, nodes, values, out, held),
+        _ => line::say(said, out, held),
+    }
+}
+
 fn main() {
     let mut axis_room = [0.0f64; calls::MOST_NODES];
     let mut node_room = [0.0f64; tables::MOST_NODES];
@@ -139,8 +160,7 @@ fn main() {
     let mut turns = u64::MAX;
     while turns > 0 && go {
         let taken = step(axis, nodes, values, count, table);
-        let said = taken.said;
-        let kept = line::say(said, out, held);
+        let kept = tell(taken, nodes, values, out, held);
         count = taken.count;
         table = taken.table;
         held = kept.held;

@@ -7,6 +7,8 @@ use crate::line::Reply;
 use crate::list;
 use crate::list::Header;
 use answer::Answer;
+use ninterp::interpolator::n::linear;
+use ninterp::interpolator::n::linear_uniform;
 use ninterp::interpolator::n::nearest;
 use ninterp::interpolator::n::step;
 use table::Shape;
@@ -83,11 +85,21 @@ fn step(call: Header, shape: Shape, nodes: &[f64], values: &[f64], point: &[f64]
     of_value(step::interpolate(shape, nodes, values, point, &bytes[..count]))
 }
 
+fn linear(shape: Shape, nodes: &[f64], values: &[f64], point: &[f64]) -> Reply {
+    of_value(linear::interpolate(shape, nodes, values, point))
+}
+
+fn linear_uniform(shape: Shape, nodes: &[f64], values: &[f64], point: &[f64]) -> Reply {
+    of_value(linear_uniform::interpolate(shape, nodes, values, point))
+}
+
 fn look_up(call: Header, shape: Shape, nodes: &[f64], values: &[f64], point: &[f64]) -> Reply {
     let op = call.op;
     match op {
         9 => nearest(shape, nodes, values, point),
         10 => step(call, shape, nodes, values, point),
+        11 => linear(shape, nodes, values, point),
+        12 => linear_uniform(shape, nodes, values, point),
         _ => Reply::Bad,
     }
 }

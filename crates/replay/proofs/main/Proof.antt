@@ -35,8 +35,8 @@ loop-holds c = search needs
 step-requires : tie.Need-step-requires Inv-loop μ-loop
 step-requires c κs = search needs
 
-say-requires : tie.Need-say-requires Inv-loop μ-loop
-say-requires c κs = search needs
+tell-requires : tie.Need-tell-requires Inv-loop μ-loop
+tell-requires c κs = search needs
 
 sub-turns : tie.Need-sub-turns Inv-loop μ-loop
 sub-turns c = search needs
@@ -66,7 +66,7 @@ main-spec =
     none-requires
     loop-holds
     step-requires
-    say-requires
+    tell-requires
     sub-turns
     loop-less
     loop-again

@@ -22,6 +22,7 @@ use Rattle.order.proofs.Fronts.{axis-there, room-enough}
 use Rattle.ninterp.proofs.Demands.{Accepted}
 use Rattle.ninterp.proofs.Lowered as low
 use Rattle.ninterp.proofs.SliceLaw as law
+use Rattle.ninterp.proofs.Left as over
 use Rattle.ninterp.proofs.SliceLaw.{Made}
 
 -- ---- the second slice, after one on axis k
@@ -98,7 +99,7 @@ module _ (s : Shape) (four : length (s .counts) ≡ 4) (nodes values : List Floa
   range-after : good (rangeFault m (axisOf (shapeWithout s k) (nodesWithout k (countsOf s) nodes) m) q) ≡ true
   range-after =
       ap (λ (xs : List Float). good (rangeFault m xs q)) (axis-above s four nodes values k p rule one m km)
-      ∙ ap good (sym (law.range-moves k m (axisOf s nodes (suc m)) q km)) ∙ low.lowered-good k (rangeFault (suc m) (axisOf s nodes (suc m)) q) ∙ other .in-range
+      ∙ ap good (sym (over.range-moves k m (axisOf s nodes (suc m)) q km)) ∙ low.lowered-good k (rangeFault (suc m) (axisOf s nodes (suc m)) q) ∙ other .in-range
 
   range-before : good (rangeFault k (axisOf (shapeWithout s (suc m)) (nodesWithout (suc m) (countsOf s) nodes) k) p) ≡ true
   range-before = ap (λ (xs : List Float). good (rangeFault k xs p)) (axis-below s four nodes values (suc m) q rule other k (omega arith)) ∙ one .in-range

@@ -11,6 +11,7 @@ pub mod Demands
 pub mod Slices
 pub mod Sliced
 pub mod Lowered
+pub mod Left
 pub mod SliceLaw
 pub mod Commutes
 pub mod Refusals

@@ -110,13 +110,13 @@ pub record InRange (s : Shape) (nodes readings : List Float) : Type 0 where
   pub high : (a : ℕ) → a < s .axes → le (getD readings a nan) (node (axisOf s nodes a) (length (axisOf s nodes a) - 1)) ≡ true
 
 module _ (s : Shape) (four : length (s .counts) ≡ 4) (nodes values readings : List Float) (t : Accepted s nodes values) (r : InRange s nodes readings) where
-  counted : length (countsOf s) ≡ s .axes
+  pub counted : length (countsOf s) ≡ s .axes
   counted = frame-axes s four nodes values (t .frame)
 
-  axis-at : (a : ℕ) → a < s .axes → Axis (axisOf s nodes a)
+  pub axis-at : (a : ℕ) → a < s .axes → Axis (axisOf s nodes a)
   axis-at a l = grid-of s four nodes values (t .frame) (t .axes) .axes a (omega (arith, counted))
 
-  reading-length : good (lengthFault 2 (s .axes) (length readings)) ≡ true
+  pub reading-length : good (lengthFault 2 (s .axes) (length readings)) ≡ true
   reading-length = orders.passed-fine (lengthFault 2 (s .axes) (length readings)) (length-same 2 (s .axes) (length readings) (r .count))
 
   readings-good : good (readingsFault readings) ≡ true
@@ -140,10 +140,10 @@ module _ (s : Shape) (four : length (s .counts) ≡ 4) (nodes values readings : 
           (order.not-lt-of-le (getD readings a nan) (node (axisOf s nodes a) 0) (r .finites a k) (ax .finites 0 (omega arith)) (r .low a k))
           (order.not-lt-of-le (node (axisOf s nodes a) (length (axisOf s nodes a) - 1)) (getD readings a nan) (ax .finites (length (axisOf s nodes a) - 1) (omega arith)) (r .finites a k) (r .high a k)))
 
-  point-good : good (readingsFault readings or rangesFault (countsOf s) nodes readings) ≡ true
+  pub point-good : good (readingsFault readings or rangesFault (countsOf s) nodes readings) ≡ true
   point-good = orders.both-passed (readingsFault readings) (rangesFault (countsOf s) nodes readings) readings-good ranges-good
 
-  lookup-passed : good (lookupFault s nodes values readings) ≡ true
+  pub lookup-passed : good (lookupFault s nodes values readings) ≡ true
   unfolding lookupFault
   lookup-passed =
       orders.both-passed (frameFault s (length nodes) (length values)) (lengthFault 2 (s .axes) (length readings) or axesFault (countsOf s) nodes or valuesFault values or readingsFault readings or rangesFault (countsOf s) nodes readings) (t .frame)

@@ -25,7 +25,8 @@ use Rattle.table.proofs.Layouts.{length-tabulate, getD-tabulate, place-below, i
 use Rattle.table.proofs.Removals.{size-split, size-without, length-without, getD-without, getD-without-below, length-slice, axes-without, total-without, insert-inside, length-insert, getD-insert, getD-insert-below, getD-insert-above, tabulate-insert, slice-law}
 use Rattle.table.proofs.Grids.{length-axis, readings-finite}
 use Rattle.ninterp.specs.Utils.{stepIndex}
-use Rattle.order.specs.Lookups.{lookupFault, stepFault}
+use Rattle.uniform.specs.Uniform.{axesUniformFault}
+use Rattle.order.specs.Lookups.{lookupFault, linearUniformFault}
 use Rattle.ninterp.specs.Tables.{nearestIndex, indices, picked, nearestRule, stepRule, nearestAnswer, stepAnswer}
 use Rattle.order.specs.Fronts.{noAxisFault, nearestFront, stepFront}
 use Rattle.ninterp.specs.Slices.{axisOf, shapeWithout, pointFault, nearestSliceFault, stepSliceFault, ruleSlice, lowered}
@@ -255,3 +256,28 @@ skip a b c g e = orders.or-good a b g ∙ e
 
 pub regroup : (l r q v : Answer) → ((l or r or q) or v) ≡ (l or r or q or v)
 regroup l r q v = orders.or-assoc l (r or q) v ∙ ap (λ (x : Answer). l or x) (orders.or-assoc r q v)
+
+module _ (s : Shape) (nodes values readings : List Float) (t : Accepted s nodes values) where
+  abbrev len : Answer
+  len = lengthFault 2 (s .axes) (length readings)
+
+  abbrev where' : Answer
+  where' = readingsFault readings or rangesFault (countsOf s) nodes readings
+
+  pub lookup-core : (v : Answer) → (lookupFault s nodes values readings or v) ≡ core s nodes readings v
+  unfolding lookupFault
+  lookup-core v =
+      ap (λ (x : Answer). x or v)
+      (skip (frameFault s (length nodes) (length values)) (len or axesFault (countsOf s) nodes or valuesFault values or where') (len or where') (t .frame)
+      (ap (λ (x : Answer). len or x) (skip (axesFault (countsOf s) nodes) (valuesFault values or where') where' (t .axes) (skip (valuesFault values) where' where' (t .stored) refl))))
+      ∙ regroup len (readingsFault readings) (rangesFault (countsOf s) nodes readings) v
+
+  pub uniform-core : (v : Answer) → good (axesUniformFault (countsOf s) nodes) ≡ true → (linearUniformFault s nodes values readings or v) ≡ core s nodes readings v
+  unfolding linearUniformFault
+  uniform-core v u =
+      ap (λ (x : Answer). x or v)
+      (skip (frameFault s (length nodes) (length values)) (len or axesFault (countsOf s) nodes or valuesFault values or axesUniformFault (countsOf s) nodes or where') (len or where') (t .frame)
+      (ap (λ (x : Answer). len or x)
+      (skip (axesFault (countsOf s) nodes) (valuesFault values or axesUniformFault (countsOf s) nodes or where') where' (t .axes)
+      (skip (valuesFault values) (axesUniformFault (countsOf s) nodes or where') where' (t .stored) (skip (axesUniformFault (countsOf s) nodes) where' where' u refl)))))
+      ∙ regroup len (readingsFault readings) (rangesFault (countsOf s) nodes readings) v

@@ -18,3 +18,5 @@ pub mod Refusals
 pub mod Corners
 pub mod Located
 pub mod Alongs
+pub mod LinearDemands
+pub mod LinearLaw

@@ -34,7 +34,7 @@ use Rattle.ninterp.proofs.Sliced.{Sliceable, nearest-sliceable, step-sl
 use Rattle.ninterp.proofs.Lowered as low
 use Rattle.ninterp.proofs.Demands.{Accepted}
 use Rattle.ninterp.proofs.Left as over
-use Rattle.ninterp.proofs.Left.{Cut, core, skip, regroup}
+use Rattle.ninterp.proofs.Left.{Cut, core, skip, regroup, lookup-core}
 
 -- ---- what is known of a slice that was made
 pub record Made (s : Shape) (nodes values : List Float) (k : ℕ) (p : Float) (rule : ℕ → List Float → Float → ℕ) : Type 0 where
@@ -149,12 +149,8 @@ module _ (s : Shape) (nodes values readings : List Float) (t : Accepted s nodes 
   where' = readingsFault readings or rangesFault (countsOf s) nodes readings
 
   pub nearest-core : nearestAnswer s nodes values readings ≡ core s nodes readings (answered (picked nearestRule (countsOf s) nodes values readings))
-  unfolding nearestAnswer lookupFault
-  nearest-core =
-      ap (λ (x : Answer). x or answered (picked nearestRule (countsOf s) nodes values readings))
-      (skip (frameFault s (length nodes) (length values)) (len or axesFault (countsOf s) nodes or valuesFault values or where') (len or where') (t .frame)
-      (ap (λ (x : Answer). len or x) (skip (axesFault (countsOf s) nodes) (valuesFault values or where') where' (t .axes) (skip (valuesFault values) where' where' (t .stored) refl))))
-      ∙ regroup len (readingsFault readings) (rangesFault (countsOf s) nodes readings) (answered (picked nearestRule (countsOf s) nodes values readings))
+  unfolding nearestAnswer
+  nearest-core = lookup-core s nodes values readings t (answered (picked nearestRule (countsOf s) nodes values readings))
 
   pub step-core : (directions : List ℕ) → good (lengthFault 3 (s .axes) (length directions)) ≡ true → good (directionsFault directions) ≡ true
       → stepAnswer s nodes values readings directions ≡ core s nodes readings (answered (picked (stepRule directions) (countsOf s) nodes values readings))

@@ -4,7 +4,7 @@ use mathlib.Core.Bool.{true, false, cond}
 use mathlib.Core.List.{List, [], _∷_, map}
 use Prim.Native.Nat.{ℕ, _+_, _-_, _^_}
 use lib.IntN.{pos, negsuc}
-use lib.Ieee.{Float, fin, binary64, ofInt, toUnsigned, lt, le, eq, sub, mul, div}
+use lib.Ieee.{Float, fin, binary64, ofInt, toUnsigned, lt, le, eq, add, sub, mul, div}
 use Rattle.answer.specs.Answer.{refused, answered, fine, good, when, _or_, firstOf, given, indexAnswer}
 use Rattle.answer.specs.declared.Answer.{Answer}
 use Rattle.answer.specs.declared.IndexAnswer.{IndexAnswer}
@@ -15,6 +15,15 @@ use Rattle.uniform.specs.declared.Tolerance.the-variants.{Default}
 use Rattle.ninterp.specs.Utils.{howMany, lowerIndex, exactNode, fraction, axisLocation, lowerStep, upperStep, stepIndex}
 use Rattle.ninterp.specs.Calls.{axisAnswer, axisReadingFault, directedFault, locateLowerIndex, locateAxis, locateStepIndex}
 use Rattle.ninterp.specs.Tables.{nearestIndex}
+use Rattle.ninterp.specs.Linears.{locations, interpolated, linearAnswer}
+use Rattle.ninterp.specs.Slices.{shapeWithout, pointFault, sliceAnswer, slicedInto}
+use Rattle.ninterp.specs.LinearSlices.{alongFirst, linearValues, linearRest, linearSliceFault, linearSlice, linearSliced}
+use Rattle.table.specs.Shape.{size, total, axesOf, strides, placeBy, table, indicesAt}
+use Rattle.table.specs.Table.{shapeFault, lengthFault, frameFault, axesFault, valueFault, valuesFault, readingsFault, rangeFault, rangesFault}
+use Rattle.table.specs.declared.Shape.{Shape}
+use Rattle.order.specs.Lookups.{lookupFault}
+use Rattle.order.specs.Fronts.{notFirstFault, roomFault, linearFront}
+use Rattle.blend.specs.Blend.{blended, computed, resultFaultAt, resultsFault}
 use Rattle.blend.specs.declared.AxisLocation.{AxisLocation}
 use Rattle.blend.specs.declared.AxisLocation.the-variants.{Exact, Between}
 use Rattle.ninterp.specs.declared.strategy.utils.AxisAnswer.{AxisAnswer}
@@ -24,6 +33,8 @@ pub data Outcome : Type 0 where
   refusal : ℕ → ℕ → ℕ → Outcome
   index : ℕ → Outcome
   location : AxisLocation → Outcome
+  value : Float → Outcome
+  written : List Float → Outcome
   passed : Outcome
 
 abbrev told : Answer → Outcome → Outcome
@@ -34,6 +45,9 @@ toldIndex r = told (r .answer) (index (r .index))
 
 abbrev toldLocation : AxisAnswer → Outcome
 toldLocation r = told (r .answer) (location (r .location))
+
+abbrev toldValue : Answer → Outcome
+toldValue a = told a (value (a .value))
 
 -- ---- numbers and axes
 abbrev whole : ℕ → Float
@@ -49,6 +63,19 @@ A = whole 0 ∷ whole 1 ∷ whole 2 ∷ whole 4 ∷ []
 -- [-1, 1]
 abbrev span : List Float
 span = fin true 1 (pos 0) ∷ whole 1 ∷ []
+
+-- axes [0, 1], once and twice
+abbrev unit : Shape
+unit = record { axes = 1; counts = 2 ∷ 0 ∷ 0 ∷ 0 ∷ [] }
+
+abbrev square : Shape
+square = record { axes = 2; counts = 2 ∷ 2 ∷ 0 ∷ 0 ∷ [] }
+
+abbrev edges : List Float
+edges = whole 0 ∷ whole 1 ∷ whole 0 ∷ whole 1 ∷ []
+
+abbrev corners : List Float
+corners = whole 0 ∷ whole 1 ∷ whole 2 ∷ whole 3 ∷ []
 
 -- ---- the cases: on the left what a call tells, on the right what the paper says
 pub record Case : Type 0 where
@@ -88,14 +115,20 @@ cases =
     ∷ toldIndex (locateLowerIndexUniform (whole 0) (whole 1) 4 (whole 1)) is index 1
     ∷ toldIndex (locateLowerIndexUniform (whole 0) (whole 1) 4 (whole 9)) is index 2
     ∷ toldIndex (locateLowerIndexUniform (whole 0) (whole 1) 4 (fin false 1 (pos 70))) is index 0
+    -- P9: 1.25; the slice at 0.5 is 1, 2, in an output of two zeros
+    ∷ toldValue (linearAnswer square edges corners (parts 1 1 ∷ parts 1 2 ∷ [])) is value (parts 5 2)
+    ∷ told (linearSlice square edges corners 0 (parts 1 1) 2 .answer) passed is passed
+    ∷ written (linearSliced square edges corners 0 (parts 1 1) (whole 0 ∷ whole 0 ∷ [])) is written (whole 1 ∷ whole 2 ∷ [])
     -- P10: 2 + 2^-42, 2 + 2^-41
     ∷ told (validateUniformGridEpsilon (whole 0 ∷ whole 1 ∷ parts (2 ^ 43 + 1) 42 ∷ []) Default) passed is passed
     ∷ told (validateUniformGridEpsilon (whole 0 ∷ whole 1 ∷ parts (2 ^ 42 + 1) 41 ∷ []) Default) passed is refusal 8 0 1
     -- P11
     ∷ toldIndex (locateLowerIndex (whole 0 ∷ whole 0 ∷ []) (whole 0)) is refusal 5 0 1
+    -- (d): between two corners at 3, at the number nearest to 0.2, Linear tells more than 3
+    ∷ toldValue (linearAnswer unit (whole 0 ∷ whole 1 ∷ []) (whole 3 ∷ whole 3 ∷ []) (parts 3602879701896397 54 ∷ [])) is value (parts 6755399441055745 51)
     ∷ []
 
 -- the claim over all of it
 pub cases-hold : map (λ c. c .tells) cases ≡ map (λ c. c .paper) cases
-unfolding cases locateLowerIndex locateAxis locateStepIndex locateLowerIndexUniform validateUniformGridEpsilon indexAnswer axisAnswer axisReadingFault directedFault uniformReadFault nearestIndex howMany lowerIndex exactNode fraction axisLocation lowerStep upperStep stepIndex uniformCell uniformIndex gap apart gapFault uniformFault toleranceOf countFault riseFault nodeFault nodesFault axisFault finiteFault lentStepFault directionFault readingFault resultFault refused answered fine good when _or_ firstOf given ofInt toUnsigned lt le eq sub mul div
+unfolding cases locateLowerIndex locateAxis locateStepIndex locateLowerIndexUniform validateUniformGridEpsilon indexAnswer axisAnswer axisReadingFault directedFault uniformReadFault nearestIndex howMany lowerIndex exactNode fraction axisLocation lowerStep upperStep stepIndex uniformCell uniformIndex gap apart gapFault uniformFault toleranceOf countFault riseFault nodeFault nodesFault axisFault finiteFault lentStepFault directionFault readingFault resultFault refused answered fine good when _or_ firstOf given ofInt toUnsigned lt le eq add sub mul div locations interpolated linearAnswer shapeWithout pointFault sliceAnswer slicedInto alongFirst linearValues linearRest linearSliceFault linearSlice linearSliced size total axesOf strides placeBy table indicesAt shapeFault lengthFault frameFault axesFault valueFault valuesFault readingsFault rangeFault rangesFault lookupFault notFirstFault roomFault linearFront blended computed resultFaultAt resultsFault
 cases-hold = refl

@@ -10,13 +10,19 @@ use lib.Ieee.{Float, nan, lt}
 use Rattle.answer.specs.Answer.{plusZero, refused, answered, fine, good, when, _or_, firstOf, given}
 use Rattle.answer.specs.declared.Answer.{Answer}
 use Rattle.answer.proofs.Orders as orders
-use Rattle.judge.specs.Check.{node, countFault, finiteFault, riseFault, nodeFault, nodesFault, readingFault, directionFault}
+use Rattle.judge.specs.Check.{node, countFault, finiteFault, riseFault, nodeFault, nodesFault, readingFault, directionFault, resultFault}
 use Rattle.table.specs.Shape.{countsOf, axesOf}
 use Rattle.table.specs.Table.{shapeFault, lengthFault, frameFault, axesFault, valueFault, valuesFault, directionsFault, readingsFault, rangeFault, rangesFault}
 use Rattle.table.specs.declared.Shape.{Shape}
-use Rattle.order.specs.Lookups.{lookupFault, stepFault}
+use Rattle.order.specs.Lookups.{lookupFault, stepFault, linearUniformFault}
 use Rattle.ninterp.specs.Tables.{nearestRule, stepRule, picked, nearestAnswer, stepAnswer}
-use Rattle.order.specs.Fronts.{noAxisFault, roomFault, nearestFront, stepFront}
+use Rattle.order.specs.Fronts.{noAxisFault, notFirstFault, roomFault, nearestFront, stepFront, linearFront, linearUniformFront}
+use Rattle.uniform.specs.Uniform.{gapFault, uniformFault, axesUniformFault}
+use Rattle.blend.specs.Blend.{computed, resultFaultAt, resultsFault}
+use Rattle.blend.specs.declared.AxisLocation.{AxisLocation}
+use Rattle.ninterp.specs.Utils.{axisLocation}
+use Rattle.ninterp.specs.Linears.{uniformLocation, interpolated, linearAnswer, linearUniformAnswer}
+use Rattle.ninterp.specs.LinearSlices.{linearValues, linearRest, linearSliceFault, linearUniformSliceFault}
 use Rattle.ninterp.specs.Slices.{pointFault, nearestSliceFault, stepSliceFault, slicedInto}
 
 -- an answer that gives no value
@@ -117,6 +123,30 @@ step-refusal s nodes values readings directions bad =
     (bare-or _ _ (bare-frame s _ _) (bare-or _ _ (bare-length 2 _ _) (bare-or _ _ (bare-length 3 _ _)
     (bare-or _ _ (bare-axes _ nodes) (bare-or _ _ (bare-values values) (bare-or _ _ (bare-directions directions) (bare-or _ _ (bare-readings readings) (bare-ranges _ nodes readings)))))))) bad
 
+bare-uniform : (counts : List ℕ) (nodes : List Float) → Bare (axesUniformFault counts nodes)
+unfolding axesUniformFault uniformFault gapFault
+bare-uniform counts nodes = bare-first _ (λ a. bare-first _ (λ i. row _ 8 a i) 1 _) 0 _
+
+-- 12 is the last check before the value
+after-computed : (a : Answer) (v : Float) → Bare a → good (a or computed v) ≡ false → Bare (a or computed v)
+unfolding computed resultFault
+after-computed a v h bad =
+    ap (λ (x : Answer). x .value) (sym (orders.or-assoc a (resultFault v) (answered v)))
+    ∙ after (a or resultFault v) v (bare-or a (resultFault v) h (row _ 12 0 0)) (ap good (orders.or-assoc a (resultFault v) (answered v)) ∙ bad)
+
+pub linear-refusal : (s : Shape) (nodes values readings : List Float) → good (linearAnswer s nodes values readings) ≡ false → linearAnswer s nodes values readings .value ≡ plusZero
+unfolding linearAnswer lookupFault
+linear-refusal s nodes values readings bad =
+    after-computed _ (interpolated axisLocation (countsOf s) nodes values readings)
+    (bare-or _ _ (bare-frame s _ _) (bare-or _ _ (bare-length 2 _ _) (bare-or _ _ (bare-axes _ nodes) (bare-or _ _ (bare-values values) (bare-or _ _ (bare-readings readings) (bare-ranges _ nodes readings)))))) bad
+
+pub linear-uniform-refusal : (s : Shape) (nodes values readings : List Float) → good (linearUniformAnswer s nodes values readings) ≡ false → linearUniformAnswer s nodes values readings .value ≡ plusZero
+unfolding linearUniformAnswer linearUniformFault
+linear-uniform-refusal s nodes values readings bad =
+    after-computed _ (interpolated uniformLocation (countsOf s) nodes values readings)
+    (bare-or _ _ (bare-frame s _ _) (bare-or _ _ (bare-length 2 _ _) (bare-or _ _ (bare-axes _ nodes) (bare-or _ _ (bare-values values)
+    (bare-or _ _ (bare-uniform _ nodes) (bare-or _ _ (bare-readings readings) (bare-ranges _ nodes readings))))))) bad
+
 -- ---- slices
 bare-point : (s : Shape) (nodes : List Float) (axis : ℕ) (p : Float) (room : ℕ) → Bare (pointFault s nodes axis p room)
 unfolding pointFault roomFault
@@ -131,6 +161,27 @@ pub step-slice-bare : (s : Shape) (nodes values : List Float) (directions : List
 unfolding stepSliceFault stepFront noAxisFault
 step-slice-bare s nodes values directions axis p room =
     bare-or _ _ (bare-or _ _ (bare-frame s _ _) (bare-or _ _ (bare-length 3 _ _) (bare-or _ _ (row _ 16 0 0) (bare-or _ _ (bare-axes _ nodes) (bare-or _ _ (bare-values values) (bare-directions directions)))))) (bare-point s nodes axis p room)
+
+bare-results : (values : List Float) → Bare (resultsFault values)
+unfolding resultsFault resultFaultAt
+bare-results values = bare-first _ (λ i. row _ 12 0 i) 0 _
+
+bare-linear-front : (s : Shape) (nodes values : List Float) (axis : ℕ) → Bare (linearFront s nodes values axis)
+unfolding linearFront notFirstFault
+bare-linear-front s nodes values axis = bare-or _ _ (bare-frame s _ _) (bare-or _ _ (row _ 16 0 0) (bare-or _ _ (bare-axes _ nodes) (bare-values values)))
+
+bare-linear-rest : (rule : List Float → Float → AxisLocation) (s : Shape) (nodes values : List Float) (axis : ℕ) (p : Float) (room : ℕ) → Bare (linearRest rule s nodes values axis p room)
+unfolding linearRest
+bare-linear-rest rule s nodes values axis p room = bare-or _ _ (bare-point s nodes axis p room) (bare-results (linearValues rule s nodes values p))
+
+pub linear-slice-bare : (s : Shape) (nodes values : List Float) (axis : ℕ) (p : Float) (room : ℕ) → linearSliceFault s nodes values axis p room .value ≡ plusZero
+unfolding linearSliceFault
+linear-slice-bare s nodes values axis p room = bare-or _ _ (bare-linear-front s nodes values axis) (bare-linear-rest axisLocation s nodes values axis p room)
+
+pub linear-uniform-slice-bare : (s : Shape) (nodes values : List Float) (axis : ℕ) (p : Float) (room : ℕ) → linearUniformSliceFault s nodes values axis p room .value ≡ plusZero
+unfolding linearUniformSliceFault linearUniformFront
+linear-uniform-slice-bare s nodes values axis p room =
+    bare-or _ _ (bare-or _ _ (bare-linear-front s nodes values axis) (bare-uniform _ nodes)) (bare-linear-rest uniformLocation s nodes values axis p room)
 
 -- ---- the output
 pub refused-keeps : (a : Answer) (values out : List Float) → good a ≡ false → slicedInto a values out ≡ out

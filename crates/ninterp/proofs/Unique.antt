@@ -14,8 +14,12 @@ use Rattle.ninterp.proofs.strategy.utils.locate_axis.Reads as locate-ax
 use Rattle.ninterp.proofs.strategy.utils.locate_step_index.Reads as locate-step-index
 use Rattle.ninterp.proofs.interpolator.n.nearest.interpolate.Reads as nearest-lookup
 use Rattle.ninterp.proofs.interpolator.n.step.interpolate.Reads as step-lookup
+use Rattle.ninterp.proofs.interpolator.n.linear.interpolate.Reads as linear-lookup
+use Rattle.ninterp.proofs.interpolator.n.linear_uniform.interpolate.Reads as linear-uniform-lookup
 use Rattle.ninterp.proofs.slice.nearest.Reads as nearest-slice
 use Rattle.ninterp.proofs.slice.step.Reads as step-slice
+use Rattle.ninterp.proofs.slice.linear.Reads as linear-slice
+use Rattle.ninterp.proofs.slice.linear_uniform.Reads as linear-uniform-slice
 use Rattle.ninterp.specs.declared.slice.SliceAnswer.{SliceAnswer}
 
 pub locate-lower-index-unique : (κs : _) (a : _) (r s : IndexAnswer) (x y : _) → locate-lower-index.Post κs a r x → locate-lower-index.Post κs a s y → r ≡ s
@@ -36,11 +40,23 @@ nearest-lookup-unique κs a r s x y p q = one-outcome r s _ p q
 pub step-lookup-unique : (κs : _) (a : _) (r s : Answer) (x y : _) → step-lookup.Post κs a r x → step-lookup.Post κs a s y → r ≡ s
 step-lookup-unique κs a r s x y p q = one-outcome r s _ p q
 
+pub linear-lookup-unique : (κs : _) (a : _) (r s : Answer) (x y : _) → linear-lookup.Post κs a r x → linear-lookup.Post κs a s y → r ≡ s
+linear-lookup-unique κs a r s x y p q = one-outcome r s _ p q
+
+pub linear-uniform-lookup-unique : (κs : _) (a : _) (r s : Answer) (x y : _) → linear-uniform-lookup.Post κs a r x → linear-uniform-lookup.Post κs a s y → r ≡ s
+linear-uniform-lookup-unique κs a r s x y p q = one-outcome r s _ p q
+
 pub nearest-slice-unique : (κs : _) (a : _) (r s : SliceAnswer) (x y : _) → nearest-slice.Post κs a r x → nearest-slice.Post κs a s y → r ≡ s
 nearest-slice-unique κs a r s x y p q = one-outcome r s _ (p .0) (q .0)
 
 pub step-slice-unique : (κs : _) (a : _) (r s : SliceAnswer) (x y : _) → step-slice.Post κs a r x → step-slice.Post κs a s y → r ≡ s
 step-slice-unique κs a r s x y p q = one-outcome r s _ (p .0) (q .0)
+
+pub linear-slice-unique : (κs : _) (a : _) (r s : SliceAnswer) (x y : _) → linear-slice.Post κs a r x → linear-slice.Post κs a s y → r ≡ s
+linear-slice-unique κs a r s x y p q = one-outcome r s _ (p .0) (q .0)
+
+pub linear-uniform-slice-unique : (κs : _) (a : _) (r s : SliceAnswer) (x y : _) → linear-uniform-slice.Post κs a r x → linear-uniform-slice.Post κs a s y → r ≡ s
+linear-uniform-slice-unique κs a r s x y p q = one-outcome r s _ (p .0) (q .0)
 
 -- what the output holds at the end
 pub nearest-slice-output : (κs : _) (a : _) (r s : SliceAnswer) (x y : _) → nearest-slice.Post κs a r x → nearest-slice.Post κs a s y → _≡_ {A = List Float} (now (x .1 .1 .1 .1 .1 .0)) (now (y .1 .1 .1 .1 .1 .0))
@@ -48,3 +64,9 @@ nearest-slice-output κs a r s x y p q = one-outcome (now (x .1 .1 .1 .1 .1 .0))
 
 pub step-slice-output : (κs : _) (a : _) (r s : SliceAnswer) (x y : _) → step-slice.Post κs a r x → step-slice.Post κs a s y → _≡_ {A = List Float} (now (x .1 .1 .1 .1 .1 .1 .0)) (now (y .1 .1 .1 .1 .1 .1 .0))
 step-slice-output κs a r s x y p q = one-outcome (now (x .1 .1 .1 .1 .1 .1 .0)) (now (y .1 .1 .1 .1 .1 .1 .0)) _ (p .1) (q .1)
+
+pub linear-slice-output : (κs : _) (a : _) (r s : SliceAnswer) (x y : _) → linear-slice.Post κs a r x → linear-slice.Post κs a s y → _≡_ {A = List Float} (now (x .1 .1 .1 .1 .1 .0)) (now (y .1 .1 .1 .1 .1 .0))
+linear-slice-output κs a r s x y p q = one-outcome (now (x .1 .1 .1 .1 .1 .0)) (now (y .1 .1 .1 .1 .1 .0)) _ (p .1) (q .1)
+
+pub linear-uniform-slice-output : (κs : _) (a : _) (r s : SliceAnswer) (x y : _) → linear-uniform-slice.Post κs a r x → linear-uniform-slice.Post κs a s y → _≡_ {A = List Float} (now (x .1 .1 .1 .1 .1 .0)) (now (y .1 .1 .1 .1 .1 .0))
+linear-uniform-slice-output κs a r s x y p q = one-outcome (now (x .1 .1 .1 .1 .1 .0)) (now (y .1 .1 .1 .1 .1 .0)) _ (p .1) (q .1)

@@ -15,8 +15,7 @@ use Rattle.answer.proofs.Orders.{both-passed, passed-fine, given-good}
 use Rattle.binary64.proofs.Difference.{sub-above}
 use Rattle.judge.specs.Check.{node, gap, Axis, countFault, finiteFault, lentStepFault, readingFault}
 use Rattle.judge.proofs.Rows.{count-fine, finite-fine, step-fine, reading-fine}
-use Rattle.table.specs.Shape.{countsOf, total, axesOf, tabulate}
-use Rattle.table.specs.declared.Shape.{Shape}
+use Rattle.table.specs.Shape.{total, axesOf, tabulate}
 use Rattle.table.proofs.Shapes.{length-axes}
 use Rattle.table.proofs.Layouts.{length-tabulate, getD-tabulate}
 use Rattle.table.proofs.Grids.{length-axis}
@@ -29,7 +28,6 @@ use Rattle.ninterp.specs.declared.strategy.utils.MaybeIndex.the-variants
 use Rattle.ninterp.specs.Linears.{uniformLocation, locations}
 use Rattle.ninterp.specs.Locations.{locationBy, upperOf, Within}
 use Rattle.ninterp.proofs.Axes.{lower-fits}
-use Rattle.ninterp.proofs.Lookups.{Judged}
 
 -- ---- on one axis
 pub cell-fits : (n : ℕ) (t : Float) → 2 ≤ n → uniformCell n t + 1 < n
@@ -101,11 +99,6 @@ module _ (rule : List Float → Float → AxisLocation) (counts : List ℕ) (nod
       (λ a l.
       let m : a < length counts = omega (arith, length-axes counts nodes) in
       omega (arith, fits a m, length-axis counts nodes flat a m))
-
-pub judged-within : (uniform : Bool) {s : Shape} {nodes values readings : List Float} → Judged s nodes values readings → Within (locations (locationBy uniform) (axesOf (countsOf s) nodes) readings) (countsOf s)
-judged-within uniform {s} {nodes} {values} {readings} j =
-    locations-within (locationBy uniform) (countsOf s) nodes readings (j .grid .flat)
-    (λ a l. location-fits (getD (axesOf (countsOf s) nodes) a []) (getD readings a nan) (j .grid .axes a l) (j .finites a (omega (arith, j .count, l))) uniform)
 
 -- ---- a list filled from its front
 pub take-filled : {A : Type 0} (xs : List A) (n : ℕ) (z : A) (h : ℕ → A) → n ≤ length xs → ((k : ℕ) → k < n → getD xs k z ≡ h k) → take n xs ≡ tabulate n h

@@ -9,7 +9,7 @@ ghost use Rattle.judge.specs.Check.{Axis};
 ghost use Rattle.table.specs.Shape.{countsOf, axesOf};
 ghost use Rattle.table.specs.Table.{Grid};
 ghost use Rattle.ninterp.specs.Linears.{uniformLocation, locations};
-ghost use Rattle.ninterp.specs.Locations.{locationBy, upperOf};
+ghost use Rattle.ninterp.specs.Locations.{locationBy, Within};
 use crate::strategy::utils;
 use blend::AxisLocation;
 use table::Shape;
@@ -40,7 +40,7 @@ pub(crate) fn location_by(uniform: bool, grid: &[f64], point: f64) -> AxisLocati
 // The location on each axis, in axis order.
 pub(crate) fn all(uniform: bool, shape: Shape, nodes: &[f64], point: &[f64]) -> [AxisLocation; 4]
     requires { ⌜ Grid (countsOf shape) (now nodes) × ((shape .axes ≤ 4) × ((shape .axes ≤ length (now point)) × ((a : ℕ) → a < shape .axes → finite (getD (now point) a nan) ≡ true))) ⌝ }
-    ensures { λ r. ⌜ take (shape .axes) r ≡ locations (locationBy uniform) (axesOf (countsOf shape) (now (nodes .entry))) (now (point .entry)) ⌝ }
+    ensures { λ r. ⌜ (take (shape .axes) r ≡ locations (locationBy uniform) (axesOf (countsOf shape) (now (nodes .entry))) (now (point .entry))) × Within (take (shape .axes) r) (countsOf shape) ⌝ }
 {
     let counts = shape.counts;
     let axes = shape.axes;

@@ -1,12 +1,9 @@
-use mathlib.Core.Bool.{true, false}
 use Rattle.answer.proofs.Orders.{passes, or-stops, or-goes-on}
 use Rattle.table.specs.Shape.{countsOf, table}
 use Rattle.table.proofs.Shapes.{length-ids}
 use Rattle.blend.specs.Blend.{linear, computed}
 use Rattle.ninterp.specs.Linears.{interpolated, linearAnswer}
-use Rattle.ninterp.specs.Locations.{Within}
 use Rattle.ninterp.proofs.Lookups.{Judged, lookup-judged}
-use Rattle.ninterp.proofs.Located.{judged-within}
 use mathlib.Core.Path.{_≡_, refl, sym, ap, ap₂, _∙_, subst}
 use mathlib.Core.List.{List, [], _∷_, _++_}
 use Prim.Native.Nat.{ℕ, _+_, _-_, _*_, _^_, _≤_, _<_, min}
@@ -50,8 +47,7 @@ all-requires c κs = let j = known c in (j .grid, (j .four, (omega (arith, j .re
 compute-requires : tie.Need-compute-requires
 compute-requires c κs =
     let j = known (c .before) in
-    let s = start (c .before) in
-    (j .four, (j .grid .small, (subst (λ ps. Within ps (countsOf (s .args .shape))) (sym (c .all .ensures)) (judged-within _ j), j .stored)))
+    (j .four, (j .grid .small, (c .all .ensures .1, j .stored)))
 
 -- src/interpolator/n/linear.rt:9:1
 returns-2 : tie.Need-returns-2
@@ -60,7 +56,7 @@ returns-2 c =
     let e = c .before .before in
     let f = e .before .before in
     let s = start e in
-    or-goes-on _ _ (f .lookup-fault .ensures) _ _ (e .if1 .left) (c .compute .ensures ∙ ap (λ ps. computed (linear ps (table (countsOf (s .args .shape)) (now (s .args .values))))) (c .before .all .ensures))
+    or-goes-on _ _ (f .lookup-fault .ensures) _ _ (e .if1 .left) (c .compute .ensures ∙ ap (λ ps. computed (linear ps (table (countsOf (s .args .shape)) (now (s .args .values))))) (c .before .all .ensures .0))
 
 pub interpolate-spec : {M : Type 1} → statement M
 interpolate-spec =

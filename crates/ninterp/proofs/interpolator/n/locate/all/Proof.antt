@@ -4,10 +4,10 @@ use Rattle.table.specs.Shape.{axesOf, tabulate}
 use Rattle.table.proofs.Shapes.{length-ids, length-axes, Walk}
 use Rattle.blend.specs.declared.AxisLocation.the-variants.{Exact}
 use Rattle.ninterp.specs.Linears.{locations}
-use Rattle.ninterp.specs.Locations.{locationBy}
+use Rattle.ninterp.specs.Locations.{locationBy, Within}
 use Rattle.ninterp.proofs.Picks.{axis-within, axis-read, axis-good, axis-next}
 use Rattle.ninterp.proofs.Corners.{put-step}
-use Rattle.ninterp.proofs.Located.{take-filled}
+use Rattle.ninterp.proofs.Located.{take-filled, location-fits, locations-within}
 use mathlib.Core.Path.{_≡_, refl, sym, ap, ap₂, _∙_, subst}
 use mathlib.Core.List.{List, [], _∷_, _++_}
 use Prim.Native.Nat.{ℕ, _+_, _-_, _*_, _^_, _≤_, _<_, min}
@@ -144,15 +144,30 @@ loop-again c =
     )
 
 -- src/interpolator/n/locate.rt:41:1
-returns : tie.Need-returns Inv-loop μ-loop
+abbrev start : tie.After-loop Inv-loop μ-loop → tie.Start Inv-loop μ-loop
+start c = c .before .before .before .before .before
+
+filled : (c : tie.After-loop Inv-loop μ-loop) → take (start c .args .shape .axes) (c .before .loop .found) ≡ locations (locationBy (start c .args .uniform)) (axesOf (take (start c .args .shape .axes) (C (start c))) (now (start c .args .nodes))) (now (start c .args .point))
 unfolding locations
-returns c =
+filled c =
     let l = c .before in
-    let s = l .before .before .before .before in
+    let s = start c in
     let cs = take (s .args .shape .axes) (C s) in
     let n : s .args .shape .axes ≡ length (axesOf (take (s .args .shape .axes) (C s)) (now (s .args .nodes))) = sym (length-axes cs (now (s .args .nodes)) ∙ length-take-le (s .args .shape .axes) (C s) (long s)) in
     take-filled (l .loop .found) (s .args .shape .axes) (Exact 0) (λ k. locationBy (s .args .uniform) (getD (axesOf cs (now (s .args .nodes))) k []) (getD (now (s .args .point)) k nan)) (omega (arith, l .loop .inv .1 .1 .0, four s, long s)) (λ k b. l .loop .inv .1 .1 .1 k (omega (arith, b, c .loop-test .left)))
     ∙ ap (λ (m : ℕ). tabulate m (λ k. locationBy (s .args .uniform) (getD (axesOf cs (now (s .args .nodes))) k []) (getD (now (s .args .point)) k nan))) n
+
+-- src/interpolator/n/locate.rt:41:1
+returns : tie.Need-returns Inv-loop μ-loop
+returns c =
+    let s = start c in
+    let cs = take (s .args .shape .axes) (C s) in
+    let n : length (take (s .args .shape .axes) (C s)) ≡ s .args .shape .axes = length-take-le (s .args .shape .axes) (C s) (long s) in (
+      filled c,
+      subst (λ ps. Within ps cs) (sym (filled c))
+          (locations-within (locationBy (s .args .uniform)) cs (now (s .args .nodes)) (now (s .args .point)) (s .pre .0 .flat)
+          (λ a l. location-fits (getD (axesOf cs (now (s .args .nodes))) a []) (getD (now (s .args .point)) a nan) (s .pre .0 .axes a l) (s .pre .1 .1 .1 a (omega (arith, n, l))) (s .args .uniform))),
+    )
 
 pub all-spec : {M : Type 1} → statement M
 all-spec =

@@ -49,13 +49,13 @@ fn inside_fault(shape: Shape, nodes: &[f64], point: &[f64]) -> Answer
 pub fn lookup_fault(shape: Shape, nodes: &[f64], values: &[f64], point: &[f64]) -> Answer
     ensures { λ r. ⌜ r ≡ lookupFault shape (now (nodes .entry)) (now (values .entry)) (now (point .entry)) ⌝ }
 {
-    let fault = lengths_fault(shape, nodes.len(), values.len(), point.len());
-    if fault.number != 0 {
-        return fault;
+    let found = lengths_fault(shape, nodes.len(), values.len(), point.len());
+    if found.number != 0 {
+        return found;
     }
-    let fault = table_fault(shape, nodes, values);
-    if fault.number != 0 {
-        return fault;
+    let found = table_fault(shape, nodes, values);
+    if found.number != 0 {
+        return found;
     }
     inside_fault(shape, nodes, point)
 }
@@ -74,9 +74,9 @@ pub fn step_fault(
     if fault.number != 0 {
         return fault;
     }
-    let fault = table::length_fault(3, shape.axes, directions.len());
-    if fault.number != 0 {
-        return fault;
+    let lent = table::length_fault(3, shape.axes, directions.len());
+    if lent.number != 0 {
+        return lent;
     }
     let fault = table_fault(shape, nodes, values);
     if fault.number != 0 {
@@ -157,9 +157,9 @@ pub fn nearest_front(shape: Shape, nodes: &[f64], values: &[f64], axis: usize) -
     if fault.number != 0 {
         return fault;
     }
-    let fault = no_axis_fault(shape, axis);
-    if fault.number != 0 {
-        return fault;
+    let absent = no_axis_fault(shape, axis);
+    if absent.number != 0 {
+        return absent;
     }
     table_fault(shape, nodes, values)
 }

@@ -14,7 +14,7 @@ use Rattle.uniform.specs.Calls.{uniformReadFault, locateLowerIndexUniform, vali
 use Rattle.uniform.specs.declared.Tolerance.the-variants.{Default}
 use Rattle.ninterp.specs.Utils.{howMany, lowerIndex, exactNode, fraction, axisLocation, lowerStep, upperStep, stepIndex}
 use Rattle.ninterp.specs.Calls.{axisAnswer, axisReadingFault, directedFault, locateLowerIndex, locateAxis, locateStepIndex}
-use Rattle.ninterp.specs.Tables.{nearestIndex}
+use Rattle.ninterp.specs.Tables.{nearestIndex, indices, picked, nearestAnswer}
 use Rattle.ninterp.specs.Linears.{locations, interpolated, linearAnswer}
 use Rattle.ninterp.specs.Slices.{shapeWithout, pointFault, sliceAnswer, slicedInto}
 use Rattle.ninterp.specs.LinearSlices.{alongFirst, linearValues, linearRest, linearSliceFault, linearSlice, linearSliced}
@@ -64,13 +64,14 @@ A = whole 0 ∷ whole 1 ∷ whole 2 ∷ whole 4 ∷ []
 abbrev span : List Float
 span = fin true 1 (pos 0) ∷ whole 1 ∷ []
 
--- axes [0, 1], once and twice
-abbrev unit : Shape
-unit = record { axes = 1; counts = 2 ∷ 0 ∷ 0 ∷ 0 ∷ [] }
+-- one axis of n nodes, two of two
+abbrev line : ℕ → Shape
+line n = record { axes = 1; counts = n ∷ 0 ∷ 0 ∷ 0 ∷ [] }
 
 abbrev square : Shape
 square = record { axes = 2; counts = 2 ∷ 2 ∷ 0 ∷ 0 ∷ [] }
 
+-- the square's nodes, [0, 1] twice; values that are their own numbers
 abbrev edges : List Float
 edges = whole 0 ∷ whole 1 ∷ whole 0 ∷ whole 1 ∷ []
 
@@ -100,10 +101,10 @@ cases =
     ∷ toldLocation (locateAxis span (parts (2 ^ 53 - 1) 53)) is location (Between 0 (whole 1))
     -- P4: [0, 2^1000] at 2^-1074
     ∷ toldLocation (locateAxis (whole 0 ∷ fin false 1 (pos 1000) ∷ []) (parts 1 1074)) is location (Between 0 (whole 0))
-    -- P5
-    ∷ index (nearestIndex A (whole 3)) is index 3
-    -- P6: -2^-60
-    ∷ index (nearestIndex span (fin true 1 (negsuc 59))) is index 1
+    -- P5: the value told is the node's number
+    ∷ toldValue (nearestAnswer (line 4) A corners (whole 3 ∷ [])) is value (whole 3)
+    -- P6: -2^-60, likewise
+    ∷ toldValue (nearestAnswer (line 2) span (whole 0 ∷ whole 1 ∷ []) (fin true 1 (negsuc 59) ∷ [])) is value (whole 1)
     -- P7
     ∷ toldIndex (locateStepIndex 0 A (whole 1)) is index 1
     ∷ toldIndex (locateStepIndex 0 A (whole 3)) is index 2
@@ -125,10 +126,10 @@ cases =
     -- P11
     ∷ toldIndex (locateLowerIndex (whole 0 ∷ whole 0 ∷ []) (whole 0)) is refusal 5 0 1
     -- (d): between two corners at 3, at the number nearest to 0.2, Linear tells more than 3
-    ∷ toldValue (linearAnswer unit (whole 0 ∷ whole 1 ∷ []) (whole 3 ∷ whole 3 ∷ []) (parts 3602879701896397 54 ∷ [])) is value (parts 6755399441055745 51)
+    ∷ toldValue (linearAnswer (line 2) (whole 0 ∷ whole 1 ∷ []) (whole 3 ∷ whole 3 ∷ []) (parts 3602879701896397 54 ∷ [])) is value (parts 6755399441055745 51)
     ∷ []
 
 -- the claim over all of it
 pub cases-hold : map (λ c. c .tells) cases ≡ map (λ c. c .paper) cases
-unfolding cases locateLowerIndex locateAxis locateStepIndex locateLowerIndexUniform validateUniformGridEpsilon indexAnswer axisAnswer axisReadingFault directedFault uniformReadFault nearestIndex howMany lowerIndex exactNode fraction axisLocation lowerStep upperStep stepIndex uniformCell uniformIndex gap apart gapFault uniformFault toleranceOf countFault riseFault nodeFault nodesFault axisFault finiteFault lentStepFault directionFault readingFault resultFault refused answered fine good when _or_ firstOf given ofInt toUnsigned lt le eq add sub mul div locations interpolated linearAnswer shapeWithout pointFault sliceAnswer slicedInto alongFirst linearValues linearRest linearSliceFault linearSlice linearSliced size total axesOf strides placeBy table indicesAt shapeFault lengthFault frameFault axesFault valueFault valuesFault readingsFault rangeFault rangesFault lookupFault notFirstFault roomFault linearFront blended computed resultFaultAt resultsFault
+unfolding cases locateLowerIndex locateAxis locateStepIndex locateLowerIndexUniform validateUniformGridEpsilon indexAnswer axisAnswer axisReadingFault directedFault uniformReadFault nearestIndex indices picked nearestAnswer howMany lowerIndex exactNode fraction axisLocation lowerStep upperStep stepIndex uniformCell uniformIndex gap apart gapFault uniformFault toleranceOf countFault riseFault nodeFault nodesFault axisFault finiteFault lentStepFault directionFault readingFault resultFault refused answered fine good when _or_ firstOf given ofInt toUnsigned lt le eq add sub mul div locations interpolated linearAnswer shapeWithout pointFault sliceAnswer slicedInto alongFirst linearValues linearRest linearSliceFault linearSlice linearSliced size total axesOf strides placeBy table indicesAt shapeFault lengthFault frameFault axesFault valueFault valuesFault readingsFault rangeFault rangesFault lookupFault notFirstFault roomFault linearFront blended computed resultFaultAt resultsFault
 cases-hold = refl

@@ -7,10 +7,10 @@ use lib.Dec.{ltb}
 use lib.ListN.{length, drop, getD}
 use lib.Seq.{drop-at}
 use lib.Ieee.{Float, nan, lt}
-use Rattle.answer.specs.Answer.{plusZero, refused, answered, fine, good, when, _or_, firstOf, given}
+use Rattle.answer.specs.Answer.{plusZero, refused, answered, fine, good, when, _or_, firstOf, given, indexAnswer}
 use Rattle.answer.specs.declared.Answer.{Answer}
 use Rattle.answer.proofs.Orders as orders
-use Rattle.judge.specs.Check.{node, countFault, finiteFault, riseFault, nodeFault, nodesFault, readingFault, directionFault, resultFault}
+use Rattle.judge.specs.Check.{node, countFault, finiteFault, riseFault, nodeFault, nodesFault, axisFault, lentStepFault, toleranceFault, readingFault, directionFault, resultFault}
 use Rattle.table.specs.Shape.{countsOf, axesOf}
 use Rattle.table.specs.Table.{shapeFault, lengthFault, frameFault, axesFault, valueFault, valuesFault, directionsFault, readingsFault, rangeFault, rangesFault}
 use Rattle.table.specs.declared.Shape.{Shape}
@@ -18,12 +18,16 @@ use Rattle.order.specs.Lookups.{lookupFault, stepFault, linearUniformFault}
 use Rattle.ninterp.specs.Tables.{nearestRule, stepRule, picked, nearestAnswer, stepAnswer}
 use Rattle.order.specs.Fronts.{noAxisFault, notFirstFault, roomFault, nearestFront, stepFront, linearFront, linearUniformFront}
 use Rattle.uniform.specs.Uniform.{gapFault, uniformFault, axesUniformFault}
+use Rattle.uniform.specs.Calls.{uniformReadFault, locateLowerIndexUniform, lentFault, validateUniformGridEpsilon}
+use Rattle.uniform.specs.declared.Tolerance.{Tolerance}
+use Rattle.uniform.specs.declared.Tolerance.the-variants.{Lent, Default}
 use Rattle.blend.specs.Blend.{computed, resultFaultAt, resultsFault}
 use Rattle.blend.specs.declared.AxisLocation.{AxisLocation}
 use Rattle.ninterp.specs.Utils.{axisLocation}
+use Rattle.ninterp.specs.Calls.{exactAnswer, axisAnswer, axisReadingFault, locateLowerIndex, lowerFault, exactFault, exactIndex, locateAxis, directedFault, locateStepIndex}
 use Rattle.ninterp.specs.Linears.{uniformLocation, interpolated, linearAnswer, linearUniformAnswer}
 use Rattle.ninterp.specs.LinearSlices.{linearValues, linearRest, linearSliceFault, linearUniformSliceFault}
-use Rattle.ninterp.specs.Slices.{pointFault, nearestSliceFault, stepSliceFault, slicedInto}
+use Rattle.ninterp.specs.Slices.{shapeWithout, noShape, pointFault, nearestSliceFault, stepSliceFault, sliceAnswer, slicedInto}
 
 -- an answer that gives no value
 abbrev Bare : Answer → Type 0
@@ -101,6 +105,45 @@ bare-readings readings = bare-first _ (λ a. bare-reading a _) 0 _
 bare-ranges : (counts : List ℕ) (nodes readings : List Float) → Bare (rangesFault counts nodes readings)
 unfolding rangesFault
 bare-ranges counts nodes readings = bare-first _ (λ a. bare-range a _ _) 0 _
+
+-- ---- primitives: none gives a value
+bare-axis : (nodes : List Float) → Bare (axisFault nodes)
+unfolding axisFault countFault nodesFault
+bare-axis nodes = bare-or _ _ (row _ 2 0 0) (bare-first _ (bare-node 0 nodes) 0 _)
+
+bare-axis-reading : (nodes : List Float) (p : Float) → Bare (axisReadingFault nodes p)
+unfolding axisReadingFault
+bare-axis-reading nodes p = bare-or _ _ (bare-axis nodes) (bare-reading 0 p)
+
+pub lower-index-bare : (nodes : List Float) (p : Float) → locateLowerIndex nodes p .answer .value ≡ plusZero
+unfolding locateLowerIndex indexAnswer
+lower-index-bare nodes p = bare-axis-reading nodes p
+
+pub exact-index-bare : (nodes : List Float) (lower : ℕ) (p : Float) → exactIndex nodes lower p .answer .value ≡ plusZero
+unfolding exactIndex exactAnswer exactFault lowerFault
+exact-index-bare nodes lower p = bare-or _ _ (bare-axis nodes) (bare-or _ _ (row _ 2 0 1) (bare-reading 0 p))
+
+pub locate-axis-bare : (nodes : List Float) (p : Float) → locateAxis nodes p .answer .value ≡ plusZero
+unfolding locateAxis axisAnswer resultFault
+locate-axis-bare nodes p = bare-or _ _ (bare-axis-reading nodes p) (row _ 12 0 0)
+
+pub step-index-bare : (direction : ℕ) (nodes : List Float) (p : Float) → locateStepIndex direction nodes p .answer .value ≡ plusZero
+unfolding locateStepIndex indexAnswer directedFault directionFault
+step-index-bare direction nodes p = bare-or _ _ (bare-axis nodes) (bare-or _ _ (row _ 9 0 0) (bare-reading 0 p))
+
+pub uniform-index-bare : (first step : Float) (n : ℕ) (p : Float) → locateLowerIndexUniform first step n p .answer .value ≡ plusZero
+unfolding locateLowerIndexUniform indexAnswer uniformReadFault countFault finiteFault lentStepFault
+uniform-index-bare first step n p = bare-or _ _ (row _ 2 0 0) (bare-or _ _ (row _ 4 0 0) (bare-or _ _ (row _ 8 0 0) (bare-reading 0 p)))
+
+bare-lent : (tolerance : Tolerance) → Bare (lentFault tolerance)
+unfolding toleranceFault
+bare-lent (Lent tolerance) = row _ 8 0 0
+bare-lent Default = bare-fine
+
+-- a lent tolerance is one of its cases
+pub uniform-grid-bare : (nodes : List Float) (tolerance : Tolerance) → validateUniformGridEpsilon nodes tolerance .value ≡ plusZero
+unfolding validateUniformGridEpsilon uniformFault gapFault
+uniform-grid-bare nodes tolerance = bare-or _ _ (bare-axis nodes) (bare-or _ _ (bare-lent tolerance) (bare-first _ (λ i. row _ 8 0 i) 1 _))
 
 -- ---- lookups
 after : (a : Answer) (v : Float) → Bare a → good (a or answered v) ≡ false → Bare (a or answered v)
@@ -182,6 +225,10 @@ pub linear-uniform-slice-bare : (s : Shape) (nodes values : List Float) (axis : 
 unfolding linearUniformSliceFault linearUniformFront
 linear-uniform-slice-bare s nodes values axis p room =
     bare-or _ _ (bare-or _ _ (bare-linear-front s nodes values axis) (bare-uniform _ nodes)) (bare-linear-rest uniformLocation s nodes values axis p room)
+
+pub no-shape : (a : Answer) (s : Shape) (axis : ℕ) → good a ≡ false → sliceAnswer a s axis .shape ≡ noShape
+unfolding sliceAnswer
+no-shape a s axis h = orders.given-bad a (shapeWithout s axis) noShape h
 
 -- ---- the output
 pub refused-keeps : (a : Answer) (values out : List Float) → good a ≡ false → slicedInto a values out ≡ out

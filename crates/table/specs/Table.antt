@@ -57,7 +57,7 @@ rangeFault axis nodes p =
 unfoldable pub rangesFault : List ℕ → List Float → List Float → Answer
 rangesFault counts nodes readings = firstOf (λ a. rangeFault a (getD (axesOf counts nodes) a []) (getD readings a nan)) 0 (length counts)
 
--- what counts and nodes are that pass 1 to 6
+-- what follows of passing 1 to 6 (`grid-of`)
 pub record Grid (counts : List ℕ) (nodes : List Float) : Type 0 where
   pub few : length counts ≤ 4
   pub flat : length nodes ≡ total counts

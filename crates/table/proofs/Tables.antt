@@ -13,9 +13,10 @@ use Rattle.answer.specs.Answer.{refused, fine, good, when, _or_, firstOf}
 use Rattle.answer.specs.declared.Answer.{Answer}
 use Rattle.answer.proofs.Orders as orders
 use Rattle.judge.specs.Check.{node, countFault}
-use Rattle.table.specs.Shape.{countsOf, size}
-use Rattle.table.specs.Table.{shapeFault, lengthFault, valueFault, rangeFault}
+use Rattle.table.specs.Shape.{countsOf, size, total}
+use Rattle.table.specs.Table.{shapeFault, sizesOf, lengthFault, valueFault, rangeFault}
 use Rattle.table.specs.declared.Shape.{Shape}
+use Rattle.table.specs.declared.Holding.{Holding}
 use Rattle.judge.proofs.Rows.{and-false, and-left, and-right, not-false, count-enough, count-few}
 
 -- ---- 1, 2
@@ -175,3 +176,17 @@ module _ (axis : ℕ) (nodes : List Float) (p : Float) where
     pub range-not-over : lt last p ≡ false
     unfolding rangeFault
     range-not-over = orders.row-good (lt last p) 10 axis 1 (orders.second-passed (when (lt p first) (refused 11 axis 0)) above h)
+
+-- ---- what a shape holds
+module _ (s : Shape) (r : Answer) (e : r ≡ shapeFault s) where
+  pub refused-sizes : (r .number ≡ 0 → ⊥) → _≡_ {A = Holding} (record { answer = r; nodes = 0; values = 0 }) (sizesOf s)
+  unfolding sizesOf
+  refused-sizes h =
+      ap (λ (a : Answer). record { answer = a; nodes = 0; values = 0 }) e
+      ∙ ap₂ (λ (n v : ℕ). record { answer = shapeFault s; nodes = n; values = v }) (orders.given-refused r (shapeFault s) e (total (countsOf s)) 0 h) (orders.given-refused r (shapeFault s) e (size (countsOf s)) 0 h)
+
+  pub given-sizes : r .number ≡ 0 → (n v : ℕ) → n ≡ total (countsOf s) → v ≡ size (countsOf s) → _≡_ {A = Holding} (record { answer = r; nodes = n; values = v }) (sizesOf s)
+  unfolding sizesOf
+  given-sizes h n v p q =
+      ap (λ (a : Answer). record { answer = a; nodes = n; values = v }) e
+      ∙ ap₂ (λ (n v : ℕ). record { answer = shapeFault s; nodes = n; values = v }) (orders.given-kept r (shapeFault s) e (total (countsOf s)) 0 n h p) (orders.given-kept r (shapeFault s) e (size (countsOf s)) 0 v h q)

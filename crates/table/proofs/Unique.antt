@@ -4,6 +4,8 @@ use Prim.Native.Nat.{ℕ}
 use Rattle.answer.proofs.Outcome.{one-outcome}
 use Rattle.answer.specs.declared.Answer.{Answer}
 use Rattle.table.proofs.shape_fault.Reads as shape-fault
+use Rattle.table.proofs.sizes.Reads as sizes
+use Rattle.table.specs.declared.Holding.{Holding}
 use Rattle.table.proofs.length_fault.Reads as length-fault
 use Rattle.table.proofs.frame_fault.Reads as frame-fault
 use Rattle.table.proofs.least.Reads as least
@@ -17,6 +19,9 @@ use Rattle.table.proofs.ranges_fault.Reads as ranges-fault
 
 pub shape-fault-unique : (κs : _) (a : _) (r s : Answer) (x y : _) → shape-fault.Post κs a r x → shape-fault.Post κs a s y → r ≡ s
 shape-fault-unique κs a r s x y p q = one-outcome r s _ p q
+
+pub sizes-unique : (κs : _) (a : _) (r s : Holding) (x y : _) → sizes.Post κs a r x → sizes.Post κs a s y → r ≡ s
+sizes-unique κs a r s x y p q = one-outcome r s _ p q
 
 pub length-fault-unique : (κs : _) (a : _) (r s : Answer) (x y : _) → length-fault.Post κs a r x → length-fault.Post κs a s y → r ≡ s
 length-fault-unique κs a r s x y p q = one-outcome r s _ p q

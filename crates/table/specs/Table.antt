@@ -7,11 +7,12 @@ use lib.Dec.{leb, ltb, eqb}
 use lib.ListN.{length, getD}
 use lib.Ieee.{Float, nan, lt}
 use lib.Ieee.Scale.{finite}
-use Rattle.answer.specs.Answer.{refused, when, _or_, firstOf}
+use Rattle.answer.specs.Answer.{refused, when, _or_, firstOf, given}
 use Rattle.answer.specs.declared.Answer.{Answer}
 use Rattle.judge.specs.Check.{node, countFault, nodesFault, directionFault, readingFault, Axis}
 use Rattle.table.specs.Shape.{countsOf, size, total, axesOf}
 use Rattle.table.specs.declared.Shape.{Shape}
+use Rattle.table.specs.declared.Holding.{Holding}
 
 -- 1: "axes not 1 to 4"; 2: "a count outside 2 to 64, else product above 4,096"
 unfoldable pub shapeFault : Shape → Answer
@@ -19,6 +20,10 @@ shapeFault s =
     when (not (leb 1 (s .axes) && leb (s .axes) 4)) (refused 1 0 0)
     or firstOf (λ a. countFault a (getD (s .counts) a 0)) 0 (s .axes)
     or when (ltb 4096 (size (countsOf s))) (refused 2 0 0)
+
+-- how many nodes and values a shape has that passes 1 and 2
+unfoldable pub sizesOf : Shape → Holding
+sizesOf s = record { answer = shapeFault s; nodes = given (shapeFault s) (total (countsOf s)) 0; values = given (shapeFault s) (size (countsOf s)) 0 }
 
 -- 3: "a lent length differs", "place 0 nodes, 1 values, 2 reading, 3 directions"
 unfoldable pub lengthFault : ℕ → ℕ → ℕ → Answer

@@ -8,7 +8,7 @@ ghost use lib.Ieee.Scale.{finite};
 ghost use Rattle.answer.specs.Answer.{firstOf};
 ghost use Rattle.judge.specs.Check.{countFault, node};
 ghost use Rattle.table.specs.Shape.{countsOf, size, total};
-ghost use Rattle.table.specs.Table.{shapeFault, lengthFault, frameFault, axesFault, valueFault, valuesFault, directionsFault, readingsFault, rangeFault, rangesFault};
+ghost use Rattle.table.specs.Table.{shapeFault, sizesOf, lengthFault, frameFault, axesFault, valueFault, valuesFault, directionsFault, readingsFault, rangeFault, rangesFault};
 use answer::Answer;
 
 // A lent shape: how many axes, and the count of nodes of each. Counts past the axes are not looked at.
@@ -85,6 +85,33 @@ pub fn shape_fault(shape: Shape) -> Answer
         answer::refuse(2, 0, 0)
     } else {
         answer::pass()
+    }
+}
+
+// What a shape says of nodes and values, once it is judged.
+pub struct Holding {
+    pub answer: Answer,
+    pub nodes: usize,
+    pub values: usize,
+}
+
+pub fn sizes(shape: Shape) -> Holding
+    ensures { λ r. ⌜ r ≡ sizesOf shape ⌝ }
+{
+    let answer = shape_fault(shape);
+    if answer.number != 0 {
+        return Holding {
+            answer,
+            nodes: 0,
+            values: 0,
+        };
+    }
+    let nodes = total_of(shape);
+    let values = size_of(shape);
+    Holding {
+        answer,
+        nodes,
+        values,
     }
 }
 

@@ -1,0 +1,68 @@
+-- The header: what its checks say once they are passed. Assumes nothing.
+use mathlib.Core.Path.{_≡_, refl, sym, ap, ap₂, _∙_, subst}
+use mathlib.Core.Bool.{Bool, true, false, not, _&&_}
+use mathlib.Core.List.{List, [], _∷_}
+use Prim.Native.Nat.{ℕ, _+_, _-_, _*_, _≤_, _<_}
+use native.Mathlib.Omega.{arith}
+use borrow.Author.Tests.{leb-true}
+use lib.Dec.{leb}
+use lib.ListN.{length, getD}
+use Rattle.answer.specs.Answer.{refused, fine, good, when, _or_, firstOf}
+use Rattle.answer.specs.declared.Answer.{Answer}
+use Rattle.answer.proofs.Orders as orders
+use Rattle.judge.specs.Check.{countFault}
+use Rattle.judge.proofs.Rows.{not-false, and-right}
+use Rattle.table.specs.Shape.{countsOf, size, tabulate}
+use Rattle.table.specs.Table.{shapeFault}
+use Rattle.table.specs.declared.Shape.{Shape}
+use Rattle.table.proofs.Layouts.{getD-tabulate}
+use Rattle.words.specs.Words.{wordAt}
+use Rattle.image.specs.Image.{axesField, countField, shapeOf}
+use Rattle.image.specs.Load.{fieldFault, shortFault, axesRow, lengthRow, startFault, countRow, productRow, offsetRow, headFault}
+use Rattle.image.proofs.Rows.{count-used}
+
+pub shape-same : (img : List ℕ) (n a b c d : ℕ) → n ≡ axesField img → a ≡ countField img 0 → b ≡ countField img 1 → c ≡ countField img 2 → d ≡ countField img 3
+    → _≡_ {A = Shape} (record { axes = n; counts = a ∷ b ∷ c ∷ d ∷ [] }) (shapeOf img)
+unfolding shapeOf
+shape-same img n a b c d e p q r s =
+    ap (λ (m : ℕ). record { axes = m; counts = a ∷ b ∷ c ∷ d ∷ [] }) e
+    ∙ ap₂ (λ (x y : ℕ). record { axes = axesField img; counts = x ∷ y ∷ c ∷ d ∷ [] }) p q
+    ∙ ap₂ (λ (x y : ℕ). record { axes = axesField img; counts = countField img 0 ∷ countField img 1 ∷ x ∷ y ∷ [] }) r s
+
+module _ (img : List ℕ) where
+  pub start-axes : good (startFault img) ≡ true → good (axesRow (axesField img)) ≡ true
+  unfolding startFault
+  start-axes h = orders.first-passed (axesRow (axesField img)) _ (orders.second-passed (fieldFault 0 1 (wordAt 1 img 0)) _ (orders.second-passed (shortFault (length img)) _ h))
+
+  module _ (h : good (axesRow (axesField img)) ≡ true) where
+    inside : leb 1 (axesField img) && leb (axesField img) 4 ≡ true
+    unfolding axesRow
+    inside = not-false (leb 1 (axesField img) && leb (axesField img) 4) (orders.row-good (not (leb 1 (axesField img) && leb (axesField img) 4)) 0 0 0 h)
+
+    pub axes-four : axesField img ≤ 4
+    axes-four = leb-true (axesField img) 4 (and-right (leb 1 (axesField img)) (leb (axesField img) 4) inside)
+
+    -- 1 and the counts are told before: what is left of the shape's faults is the product
+    module _ (g : good (firstOf (countRow img) 0 4) ≡ true) where
+      each : (a : ℕ) → 0 ≤ a → a < 0 + axesField img → good (countFault a (getD (tabulate 4 (countField img)) a 0)) ≡ true
+      each a l m =
+          let four : a < 4 = omega (arith, axes-four) in
+          ap good (ap (countFault a) (getD-tabulate 4 a (countField img) 0 four) ∙ count-used img a (omega (arith, m)))
+          ∙ orders.all-passed (countRow img) 0 4 g a (omega arith) (omega (arith, four))
+
+      pub product-only : shapeFault (shapeOf img) ≡ productRow (shapeOf img)
+      unfolding shapeFault productRow shapeOf axesRow
+      product-only =
+          orders.or-good (when (not (leb 1 (axesField img) && leb (axesField img) 4)) (refused 1 0 0)) _ h
+          ∙ orders.or-good (firstOf (λ a. countFault a (getD (tabulate 4 (countField img)) a 0)) 0 (axesField img)) _
+          (ap good (orders.none-good (λ a. countFault a (getD (tabulate 4 (countField img)) a 0)) 0 (axesField img) each) ∙ orders.good-fine)
+
+-- where the whole header passes, so does its shape
+pub head-shape : (img : List ℕ) → good (headFault img) ≡ true → good (shapeFault (shapeOf img)) ≡ true
+unfolding headFault
+head-shape img h =
+    let h1 = orders.second-passed (startFault img) _ h in
+    let s : good (startFault img) ≡ true = orders.first-passed (startFault img) _ h in
+    let c : good (firstOf (countRow img) 0 4) ≡ true = orders.first-passed (firstOf (countRow img) 0 4) _ h1 in
+    let p : good (productRow (shapeOf img)) ≡ true = orders.first-passed (productRow (shapeOf img)) _ (orders.second-passed (firstOf (countRow img) 0 4) _ h1) in
+    ap good (product-only img (start-axes img s) c) ∙ p

@@ -1,0 +1,62 @@
+-- Loading: accepted exactly where every check is passed, and nothing else is touched. Assumes nothing.
+use mathlib.Core.Path.{_≡_, refl, sym, ap, _∙_}
+use mathlib.Core.Bool.{Bool, true, false, cond}
+use mathlib.Core.List.{List, _++_}
+use Prim.Native.Nat.{ℕ}
+use lib.ListN.{length, drop}
+use lib.Seq.{drop-at}
+use lib.Ieee.{Float}
+use Rattle.answer.specs.Answer.{good, given, _or_}
+use Rattle.answer.specs.declared.Answer.{Answer}
+use Rattle.answer.proofs.Orders as orders
+use Rattle.table.specs.Shape.{countsOf}
+use Rattle.table.specs.Table.{shapeFault, axesFault, valuesFault}
+use Rattle.image.specs.Image.{shapeOf, nodesIn, valuesIn}
+use Rattle.image.specs.Load.{headFault, areasFault, roomsFault, contentsFault, loadFault, loadedInto}
+use Rattle.image.proofs.Heads.{head-shape}
+
+-- every condition of the paper, in its order
+pub record Loadable (img : List ℕ) (nodes values : ℕ) : Type 0 where
+  pub head : good (headFault img) ≡ true
+  pub areas : good (areasFault img) ≡ true
+  pub rooms : good (roomsFault (shapeOf img) nodes values) ≡ true
+  pub axes : good (axesFault (countsOf (shapeOf img)) (nodesIn img)) ≡ true
+  pub stored : good (valuesFault (valuesIn img)) ≡ true
+
+module _ (img : List ℕ) (nodes values : ℕ) where
+  pub load-accepts : Loadable img nodes values → good (loadFault img nodes values) ≡ true
+  unfolding loadFault contentsFault
+  load-accepts l =
+      orders.both-passed (headFault img) _ (l .head)
+      (orders.both-passed (areasFault img) _ (l .areas) (orders.both-passed (roomsFault (shapeOf img) nodes values) _ (l .rooms) (orders.both-passed (axesFault (countsOf (shapeOf img)) (nodesIn img)) (valuesFault (valuesIn img)) (l .axes) (l .stored))))
+
+  pub load-means : good (loadFault img nodes values) ≡ true → Loadable img nodes values
+  unfolding loadFault contentsFault
+  load-means h =
+      let h1 = orders.second-passed (headFault img) _ h in
+      let h2 = orders.second-passed (areasFault img) _ h1 in
+      let h3 = orders.second-passed (roomsFault (shapeOf img) nodes values) (contentsFault img) h2 in
+      record {
+        head = orders.first-passed (headFault img) _ h;
+        areas = orders.first-passed (areasFault img) _ h1;
+        rooms = orders.first-passed (roomsFault (shapeOf img) nodes values) (contentsFault img) h2;
+        axes = orders.first-passed (axesFault (countsOf (shapeOf img)) (nodesIn img)) (valuesFault (valuesIn img)) h3;
+        stored = orders.second-passed (axesFault (countsOf (shapeOf img)) (nodesIn img)) (valuesFault (valuesIn img)) h3;
+      }
+
+  -- a loaded table's shape is a good one
+  pub loaded-shape : good (loadFault img nodes values) ≡ true → good (shapeFault (shapeOf img)) ≡ true
+  loaded-shape h = head-shape img (load-means h .head)
+
+-- a refusal leaves an output as it was; what lies beyond the table is never touched
+pub refused-keeps : (a : Answer) (xs out : List Float) → good a ≡ false → loadedInto a xs out ≡ out
+unfolding loadedInto given
+refused-keeps a xs out h = ap (λ (t : Bool). cond t (xs ++ drop (length xs) out) out) h
+
+pub beyond-kept : (a : Answer) (xs out : List Float) → drop (length xs) (loadedInto a xs out) ≡ drop (length xs) out
+unfolding loadedInto given
+beyond-kept a xs out = go (good a)
+  where
+    go : (t : Bool) → drop (length xs) (cond t (xs ++ drop (length xs) out) out) ≡ drop (length xs) out
+    go true = drop-at xs (drop (length xs) out) (length xs) refl
+    go false = refl

@@ -1,0 +1,6 @@
+pub mod Rows
+pub mod Heads
+pub mod Floats
+pub mod Loads
+pub mod Laws
+pub mod Unique

@@ -1,0 +1,70 @@
+-- What loading answers and writes, put together. Assumes nothing.
+use mathlib.Core.Path.{_≡_, refl, sym, ap, ap₂, _∙_}
+use mathlib.Core.Bool.{true}
+use mathlib.Core.List.{List, _++_}
+use Prim.Native.Nat.{ℕ, _≤_}
+use native.Mathlib.Omega.{arith}
+use borrow.Author.Tests.{ltb-false}
+use lib.Dec.{ltb}
+use lib.ListN.{length, drop}
+use lib.Seq.{sets}
+use lib.Ieee.{Float}
+use Rattle.answer.specs.Answer.{refused, good, when, _or_, given}
+use Rattle.answer.specs.declared.Answer.{Answer}
+use Rattle.answer.proofs.Orders as orders
+use Rattle.table.specs.Shape.{countsOf, size, total}
+use Rattle.table.specs.Table.{shapeFault}
+use Rattle.table.specs.declared.Shape.{Shape}
+use Rattle.image.specs.Image.{shapeOf, nodesIn, valuesIn}
+use Rattle.image.specs.Load.{headFault, areasFault, roomRow, roomsFault, contentsFault, loadFault, noShape, loadAnswer, loadedInto}
+use Rattle.image.specs.declared.LoadAnswer.{LoadAnswer}
+use Rattle.image.proofs.Heads.{head-shape}
+use Rattle.image.proofs.Floats.{nodes-total, values-size, sets-front}
+
+module _ (img : List ℕ) (nodes values : ℕ) (r : Answer) (e : r ≡ loadFault img nodes values) where
+  pub load-refused : (r .number ≡ 0 → ⊥) → (z : Shape) → z ≡ noShape → _≡_ {A = LoadAnswer} (record { answer = r; shape = z }) (loadAnswer img nodes values)
+  unfolding loadAnswer
+  load-refused h z q = ap₂ (λ (a : Answer) (s : Shape). record { answer = a; shape = s }) e (q ∙ orders.given-refused r (loadFault img nodes values) e (shapeOf img) noShape h)
+
+  pub load-made : r .number ≡ 0 → (z : Shape) → z ≡ shapeOf img → _≡_ {A = LoadAnswer} (record { answer = r; shape = z }) (loadAnswer img nodes values)
+  unfolding loadAnswer
+  load-made h z q = ap₂ (λ (a : Answer) (s : Shape). record { answer = a; shape = s }) e (orders.given-kept r (loadFault img nodes values) e (shapeOf img) noShape z h q)
+
+  pub out-kept : (r .number ≡ 0 → ⊥) → (xs out : List Float) → out ≡ loadedInto (loadFault img nodes values) xs out
+  unfolding loadedInto
+  out-kept h xs out = orders.given-refused r (loadFault img nodes values) e (xs ++ drop (length xs) out) out h
+
+  pub out-filled : r .number ≡ 0 → (xs out after : List Float) → length xs ≤ length out → after ≡ sets out 0 xs → after ≡ loadedInto (loadFault img nodes values) xs out
+  unfolding loadedInto
+  out-filled h xs out after l q = orders.given-kept r (loadFault img nodes values) e (xs ++ drop (length xs) out) out after h (q ∙ sets-front xs out l)
+
+-- ---- what is known where every check was passed
+module _ (img : List ℕ) (nodes values : ℕ) (h : good (loadFault img nodes values) ≡ true) where
+  head-good : good (headFault img) ≡ true
+  unfolding loadFault
+  head-good = orders.first-passed (headFault img) _ h
+
+  pub load-shape : good (shapeFault (shapeOf img)) ≡ true
+  load-shape = head-shape img head-good
+
+  rooms-good : good (roomsFault (shapeOf img) nodes values) ≡ true
+  unfolding loadFault
+  rooms-good = orders.first-passed (roomsFault (shapeOf img) nodes values) _ (orders.second-passed (areasFault img) _ (orders.second-passed (headFault img) _ h))
+
+  room-there : (place wanted room : ℕ) → good (roomRow place wanted room) ≡ true → wanted ≤ room
+  unfolding roomRow
+  room-there place wanted room g = ltb-false room wanted (orders.row-good (ltb room wanted) 14 0 place g)
+
+  pub nodes-room : total (countsOf (shapeOf img)) ≤ nodes
+  unfolding roomsFault
+  nodes-room = room-there 0 (total (countsOf (shapeOf img))) nodes (orders.first-passed (roomRow 0 (total (countsOf (shapeOf img))) nodes) _ rooms-good)
+
+  pub values-room : size (countsOf (shapeOf img)) ≤ values
+  unfolding roomsFault
+  values-room = room-there 1 (size (countsOf (shapeOf img))) values (orders.second-passed (roomRow 0 (total (countsOf (shapeOf img))) nodes) (roomRow 1 (size (countsOf (shapeOf img))) values) rooms-good)
+
+  pub nodes-fit : length (nodesIn img) ≤ nodes
+  nodes-fit = omega (arith, nodes-total img load-shape, nodes-room)
+
+  pub values-fit : length (valuesIn img) ≤ values
+  values-fit = omega (arith, values-size img, values-room)

@@ -1,0 +1,108 @@
+-- The rows of the image's checks: which outcome gives which answer. Assumes nothing.
+use mathlib.Core.Path.{_≡_, refl, sym, ap, ap₂, _∙_}
+use mathlib.Core.Bool.{Bool, true, false, not, _&&_, cond}
+use mathlib.Core.List.{List}
+use Prim.Native.Nat.{ℕ, _+_, _*_, _%_, _≤_, _<_}
+use borrow.Author.Tests.{eq-eqb, ne-eqb, lt-ltb, le-ltb, le-leb, lt-leb}
+use lib.Dec.{eqb, leb, ltb}
+use lib.ListN.{length}
+use Rattle.answer.specs.Answer.{refused, fine}
+use Rattle.answer.proofs.Orders.{row-met, row-passed}
+use Rattle.judge.specs.Check.{countFault}
+use Rattle.judge.proofs.Rows.{and-false}
+use Rattle.image.specs.Image.{axesField, countField}
+use Rattle.image.specs.Load.{fieldFault, shortFault, axesRow, lengthRow, countRow, areaFault, roomRow}
+
+module _ (place wanted x : ℕ) where
+  pub field-wrong : (x ≡ wanted → ⊥) → refused 13 0 place ≡ fieldFault place wanted x
+  unfolding fieldFault
+  field-wrong h = row-met (not (eqb x wanted)) 12 0 place (ap not (ne-eqb x wanted h))
+
+  pub field-right : x ≡ wanted → fine ≡ fieldFault place wanted x
+  unfolding fieldFault
+  field-right h = row-passed (not (eqb x wanted)) 12 0 place (ap not (eq-eqb x wanted h))
+
+pub short-wrong : (len : ℕ) → len < 40 → refused 13 0 0 ≡ shortFault len
+unfolding shortFault
+short-wrong len h = row-met (ltb len 40) 12 0 0 (lt-ltb len 40 h)
+
+pub short-right : (len : ℕ) → 40 ≤ len → fine ≡ shortFault len
+unfolding shortFault
+short-right len h = row-passed (ltb len 40) 12 0 0 (le-ltb len 40 h)
+
+module _ (axes : ℕ) where
+  abbrev outside : Bool
+  outside = not (leb 1 axes && leb axes 4)
+
+  pub axes-none : axes < 1 → refused 1 0 0 ≡ axesRow axes
+  unfolding axesRow
+  axes-none h = row-met outside 0 0 0 (ap (λ (b : Bool). not (b && leb axes 4)) (lt-leb 1 axes h))
+
+  pub axes-many : 4 < axes → refused 1 0 0 ≡ axesRow axes
+  unfolding axesRow
+  axes-many h = row-met outside 0 0 0 (ap not (and-false (leb 1 axes) (leb axes 4) (lt-leb axes 4 h)))
+
+  pub axes-right : 1 ≤ axes → axes ≤ 4 → fine ≡ axesRow axes
+  unfolding axesRow
+  axes-right h k = row-passed outside 0 0 0 (ap₂ (λ (p q : Bool). not (p && q)) (le-leb 1 axes h) (le-leb axes 4 k))
+
+module _ (stated len : ℕ) where
+  abbrev unfit : Bool
+  unfit = not (eqb stated len && (leb 40 stated && leb stated 36864))
+
+  pub length-other : (stated ≡ len → ⊥) → refused 13 0 4 ≡ lengthRow stated len
+  unfolding lengthRow
+  length-other h = row-met unfit 12 0 4 (ap (λ (b : Bool). not (b && (leb 40 stated && leb stated 36864))) (ne-eqb stated len h))
+
+  pub length-short : stated < 40 → refused 13 0 4 ≡ lengthRow stated len
+  unfolding lengthRow
+  length-short h = row-met unfit 12 0 4 (ap not (and-false (eqb stated len) (leb 40 stated && leb stated 36864) (ap (λ (b : Bool). b && leb stated 36864) (lt-leb 40 stated h))))
+
+  pub length-long : 36864 < stated → refused 13 0 4 ≡ lengthRow stated len
+  unfolding lengthRow
+  length-long h = row-met unfit 12 0 4 (ap not (and-false (eqb stated len) (leb 40 stated && leb stated 36864) (and-false (leb 40 stated) (leb stated 36864) (lt-leb stated 36864 h))))
+
+  pub length-right : stated ≡ len → 40 ≤ stated → stated ≤ 36864 → fine ≡ lengthRow stated len
+  unfolding lengthRow
+  length-right e h k =
+      row-passed unfit 12 0 4 (ap₂ (λ (p q : Bool). not (p && q)) (eq-eqb stated len e) (ap₂ (λ (p q : Bool). p && q) (le-leb 40 stated h) (le-leb stated 36864 k)))
+
+module _ (len axis offset n : ℕ) where
+  abbrev astray : Bool
+  astray = not (leb 40 offset && (eqb (offset % 8) 0 && leb (offset + 8 * n) len))
+
+  pub area-early : offset < 40 → refused 14 axis 0 ≡ areaFault len axis offset n
+  unfolding areaFault
+  area-early h = row-met astray 13 axis 0 (ap (λ (b : Bool). not (b && (eqb (offset % 8) 0 && leb (offset + 8 * n) len))) (lt-leb 40 offset h))
+
+  pub area-off : (offset % 8 ≡ 0 → ⊥) → refused 14 axis 0 ≡ areaFault len axis offset n
+  unfolding areaFault
+  area-off h = row-met astray 13 axis 0 (ap not (and-false (leb 40 offset) (eqb (offset % 8) 0 && leb (offset + 8 * n) len) (ap (λ (b : Bool). b && leb (offset + 8 * n) len) (ne-eqb (offset % 8) 0 h))))
+
+  pub area-past : len < offset + 8 * n → refused 14 axis 0 ≡ areaFault len axis offset n
+  unfolding areaFault
+  area-past h = row-met astray 13 axis 0 (ap not (and-false (leb 40 offset) (eqb (offset % 8) 0 && leb (offset + 8 * n) len) (and-false (eqb (offset % 8) 0) (leb (offset + 8 * n) len) (lt-leb (offset + 8 * n) len h))))
+
+  pub area-right : 40 ≤ offset → offset % 8 ≡ 0 → offset + 8 * n ≤ len → fine ≡ areaFault len axis offset n
+  unfolding areaFault
+  area-right h e k =
+      row-passed astray 13 axis 0 (ap₂ (λ (p q : Bool). not (p && q)) (le-leb 40 offset h) (ap₂ (λ (p q : Bool). p && q) (eq-eqb (offset % 8) 0 e) (le-leb (offset + 8 * n) len k)))
+
+module _ (place wanted room : ℕ) where
+  pub room-short : room < wanted → refused 15 0 place ≡ roomRow place wanted room
+  unfolding roomRow
+  room-short h = row-met (ltb room wanted) 14 0 place (lt-ltb room wanted h)
+
+  pub room-right : wanted ≤ room → fine ≡ roomRow place wanted room
+  unfolding roomRow
+  room-right h = row-passed (ltb room wanted) 14 0 place (le-ltb room wanted h)
+
+-- a count that is used, and one that is not
+module _ (img : List ℕ) (a : ℕ) where
+  pub count-used : a < axesField img → countFault a (countField img a) ≡ countRow img a
+  unfolding countRow
+  count-used h = sym (ap (λ (b : Bool). cond b (countFault a (countField img a)) (fieldFault (8 + 2 * a) 0 (countField img a))) (lt-ltb a (axesField img) h))
+
+  pub count-unused : axesField img ≤ a → fieldFault (8 + 2 * a) 0 (countField img a) ≡ countRow img a
+  unfolding countRow
+  count-unused h = sym (ap (λ (b : Bool). cond b (countFault a (countField img a)) (fieldFault (8 + 2 * a) 0 (countField img a))) (le-ltb a (axesField img) h))

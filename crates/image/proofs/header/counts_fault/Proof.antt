@@ -1,0 +1,70 @@
+use Rattle.answer.specs.Answer.{firstOf}
+use Rattle.answer.proofs.Orders.{passes, fails, first-step, first-stop, first-end}
+use Rattle.image.specs.Load.{countRow}
+use mathlib.Core.Path.{_≡_, refl, sym, ap, ap₂, _∙_, subst}
+use mathlib.Core.List.{List, [], _∷_, _++_}
+use Prim.Native.Nat.{ℕ, _+_, _-_, _*_, _^_, _≤_, _<_, min}
+use native.Mathlib.Omega.{arith}
+use lib.ListN.{length, take, drop, getD}
+use lib.Ieee.{Float, nan}
+use denote.Ref.{now}
+use borrow.Author.Needs.{needs}
+use Rattle.image.proofs.header.counts_fault.Statement.{statement}
+use Rattle.image.proofs.header.counts_fault.Tie as tie
+use Rattle.image.proofs.header.counts_fault.Reads as reads
+use Rattle.image.proofs.header.counts_fault.Lts as lts
+use Rattle.answer.proofs.pass.Reads as pass-reads
+use Rattle.image.proofs.header.count_row.Reads as count-row-reads
+
+abbrev Inv-loop : tie.InvT-loop
+Inv-loop img a₀ a = (a ≤ 4) × (firstOf (countRow img) 0 4 ≡ firstOf (countRow img) a (4 - a))
+
+abbrev μ-loop : tie.MeasureT-loop
+μ-loop img a₀ a = 4 - a
+
+-- src/header.rt:150:5
+loop-holds : tie.Need-loop-holds Inv-loop μ-loop
+loop-holds c = (omega arith, refl)
+
+-- src/header.rt:151:13
+count-row-requires : tie.Need-count-row-requires Inv-loop μ-loop
+count-row-requires c κs = search needs
+
+-- src/header.rt:153:13
+returns : tie.Need-returns Inv-loop μ-loop
+returns c = let f = c .before .before in let l = f .before .before in f .count-row .ensures ∙ sym (l .loop .inv .1 ∙ first-stop _ _ 4 (f .before .loop-test .taken) (fails _ _ (f .count-row .ensures) (c .if1 .taken)))
+
+-- src/header.rt:155:9
+add-a : tie.Need-add-a Inv-loop μ-loop
+add-a c = search needs
+
+-- src/header.rt:150:5
+loop-less : tie.Need-loop-less Inv-loop μ-loop
+loop-less c = search needs
+
+-- src/header.rt:150:5
+loop-again : tie.Need-loop-again Inv-loop μ-loop
+loop-again c = let f = c .before .before in let l = f .before .before in (omega (arith, f .before .loop-test .taken), l .loop .inv .1 ∙ first-step _ _ 4 (f .before .loop-test .taken) (passes _ _ (f .count-row .ensures) (c .if1 .left)))
+
+-- src/header.rt:157:5
+pass-requires : tie.Need-pass-requires Inv-loop μ-loop
+pass-requires c κs = search needs
+
+-- src/header.rt:146:1
+returns-2 : tie.Need-returns-2 Inv-loop μ-loop
+returns-2 c = let l = c .before .before in c .pass .ensures ∙ sym (l .loop .inv .1 ∙ first-end _ _ 4 (c .before .loop-test .left))
+
+pub counts-fault-spec : {M : Type 1} → statement M
+counts-fault-spec =
+    tie.close
+    (tie.spec
+    Inv-loop
+    μ-loop
+    loop-holds
+    count-row-requires
+    returns
+    add-a
+    loop-less
+    loop-again
+    pass-requires
+    returns-2)

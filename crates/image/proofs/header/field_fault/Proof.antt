@@ -1,0 +1,34 @@
+use Rattle.image.proofs.Rows.{field-right, field-wrong}
+use mathlib.Core.Path.{_≡_, refl, sym, ap, ap₂, _∙_, subst}
+use mathlib.Core.List.{List, [], _∷_, _++_}
+use Prim.Native.Nat.{ℕ, _+_, _-_, _*_, _^_, _≤_, _<_, min}
+use native.Mathlib.Omega.{arith}
+use lib.ListN.{length, take, drop, getD}
+use lib.Ieee.{Float, nan}
+use denote.Ref.{now}
+use borrow.Author.Needs.{needs}
+use Rattle.image.proofs.header.field_fault.Statement.{statement}
+use Rattle.image.proofs.header.field_fault.Tie as tie
+use Rattle.image.proofs.header.field_fault.Reads as reads
+use Rattle.image.proofs.header.field_fault.Lts as lts
+use Rattle.answer.proofs.pass.Reads as pass-reads
+use Rattle.answer.proofs.refuse.Reads as refuse-reads
+
+-- src/header.rt:65:9
+pass-requires : tie.Need-pass-requires
+pass-requires c κs = search needs
+
+-- src/header.rt:67:9
+refuse-requires : tie.Need-refuse-requires
+refuse-requires c κs = search needs
+
+-- src/header.rt:61:1
+returns : tie.Need-returns
+returns c = c .pass .ensures ∙ field-right _ _ _ (c .before .if1 .taken)
+
+-- src/header.rt:61:1
+returns-2 : tie.Need-returns-2
+returns-2 c = c .refuse .ensures ∙ field-wrong _ _ _ (c .before .if1 .left)
+
+pub field-fault-spec : {M : Type 1} → statement M
+field-fault-spec = tie.close (tie.spec pass-requires refuse-requires returns returns-2)

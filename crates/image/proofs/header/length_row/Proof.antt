@@ -1,0 +1,60 @@
+use Rattle.image.proofs.Rows.{length-other, length-short, length-long, length-right}
+use mathlib.Core.Path.{_≡_, refl, sym, ap, ap₂, _∙_, subst}
+use mathlib.Core.List.{List, [], _∷_, _++_}
+use Prim.Native.Nat.{ℕ, _+_, _-_, _*_, _^_, _≤_, _<_, min}
+use native.Mathlib.Omega.{arith}
+use lib.ListN.{length, take, drop, getD}
+use lib.Ieee.{Float, nan}
+use denote.Ref.{now}
+use borrow.Author.Needs.{needs}
+use Rattle.image.proofs.header.length_row.Statement.{statement}
+use Rattle.image.proofs.header.length_row.Tie as tie
+use Rattle.image.proofs.header.length_row.Reads as reads
+use Rattle.image.proofs.header.length_row.Lts as lts
+use Rattle.answer.proofs.pass.Reads as pass-reads
+use Rattle.answer.proofs.refuse.Reads as refuse-reads
+
+-- src/header.rt:98:9
+refuse-requires : tie.Need-refuse-requires
+refuse-requires c κs = search needs
+
+-- src/header.rt:98:9
+returns : tie.Need-returns
+returns c = c .refuse .ensures ∙ length-other _ _ (c .before .if1 .taken)
+
+-- src/header.rt:101:9
+refuse-requires-2 : tie.Need-refuse-requires-2
+refuse-requires-2 c κs = search needs
+
+-- src/header.rt:101:9
+returns-2 : tie.Need-returns-2
+returns-2 c = c .refuse2 .ensures ∙ length-short _ _ (c .before .if2 .taken)
+
+-- src/header.rt:104:9
+refuse-requires-3 : tie.Need-refuse-requires-3
+refuse-requires-3 c κs = search needs
+
+-- src/header.rt:106:9
+pass-requires : tie.Need-pass-requires
+pass-requires c κs = search needs
+
+-- src/header.rt:94:1
+returns-3 : tie.Need-returns-3
+returns-3 c = c .refuse3 .ensures ∙ length-long _ _ (c .before .if3 .taken)
+
+-- src/header.rt:94:1
+returns-4 : tie.Need-returns-4
+returns-4 c = c .pass .ensures ∙ length-right _ _ (c .before .before .before .if1 .left) (c .before .before .if2 .left) (c .before .if3 .left)
+
+pub length-row-spec : {M : Type 1} → statement M
+length-row-spec =
+    tie.close
+    (tie.spec
+    refuse-requires
+    returns
+    refuse-requires-2
+    returns-2
+    refuse-requires-3
+    pass-requires
+    returns-3
+    returns-4)

@@ -1,0 +1,93 @@
+use Rattle.answer.specs.Answer.{firstOf}
+use Rattle.answer.proofs.Orders.{passes, fails, first-step, first-stop, first-end}
+use Rattle.image.specs.Load.{fieldFault, offsetRow}
+use mathlib.Core.Path.{_≡_, refl, sym, ap, ap₂, _∙_, subst}
+use mathlib.Core.List.{List, [], _∷_, _++_}
+use Prim.Native.Nat.{ℕ, _+_, _-_, _*_, _^_, _≤_, _<_, min}
+use native.Mathlib.Omega.{arith}
+use lib.ListN.{length, take, drop, getD}
+use lib.Ieee.{Float, nan}
+use denote.Ref.{now}
+use borrow.Author.Needs.{needs}
+use Rattle.image.proofs.header.offsets_fault.Statement.{statement}
+use Rattle.image.proofs.header.offsets_fault.Tie as tie
+use Rattle.image.proofs.header.offsets_fault.Reads as reads
+use Rattle.image.proofs.header.offsets_fault.Lts as lts
+use Rattle.answer.proofs.pass.Reads as pass-reads
+use Rattle.image.proofs.header.field_fault.Reads as field-fault-reads
+use Rattle.image.proofs.header.offset_of.Reads as offset-of-reads
+
+abbrev Inv-loop : tie.InvT-loop
+Inv-loop img axes a₀ a = ((axes ≤ a) × (a ≤ 4)) × (firstOf (offsetRow img) axes (4 - axes) ≡ firstOf (offsetRow img) a (4 - a))
+
+abbrev μ-loop : tie.MeasureT-loop
+μ-loop img axes a₀ a = 4 - a
+
+abbrev start : tie.After-field-fault Inv-loop μ-loop → tie.Start Inv-loop μ-loop
+start f = f .before .before .before .before .before
+
+told : (f : tie.After-field-fault Inv-loop μ-loop) → f .field-fault .result ≡ offsetRow (now (start f .args .img)) (f .before .before .before .loop .a)
+unfolding offsetRow
+told f = f .field-fault .ensures ∙ ap (fieldFault (16 + 4 * f .before .before .before .loop .a) 0) (f .before .offset-of .ensures .0)
+
+-- src/header.rt:166:5
+loop-holds : tie.Need-loop-holds Inv-loop μ-loop
+loop-holds c = ((omega arith, c .before .pre), refl)
+
+-- src/header.rt:167:38
+mul-field-fault : tie.Need-mul-field-fault Inv-loop μ-loop
+mul-field-fault c = search needs
+
+-- src/header.rt:167:33
+add-field-fault : tie.Need-add-field-fault Inv-loop μ-loop
+add-field-fault c = search needs
+
+-- src/header.rt:167:48
+offset-of-requires : tie.Need-offset-of-requires Inv-loop μ-loop
+offset-of-requires c κs = search needs
+
+-- src/header.rt:167:13
+field-fault-requires : tie.Need-field-fault-requires Inv-loop μ-loop
+field-fault-requires c κs = search needs
+
+-- src/header.rt:169:13
+returns : tie.Need-returns Inv-loop μ-loop
+returns c = let f = c .before .before in let l = f .before .before .before in told f ∙ sym (l .loop .inv .1 ∙ first-stop (offsetRow (now (start f .args .img))) (l .loop .a) 4 (f .before .before .loop-test .taken) (fails _ _ (told f) (c .if1 .taken)))
+
+-- src/header.rt:171:9
+add-a : tie.Need-add-a Inv-loop μ-loop
+add-a c = search needs
+
+-- src/header.rt:166:5
+loop-less : tie.Need-loop-less Inv-loop μ-loop
+loop-less c = search needs
+
+-- src/header.rt:166:5
+loop-again : tie.Need-loop-again Inv-loop μ-loop
+loop-again c = let f = c .before .before in let l = f .before .before .before in let t = f .before .before .loop-test .taken in ((omega (arith, t, l .loop .inv .0 .0), omega (arith, t)), l .loop .inv .1 ∙ first-step (offsetRow (now (start f .args .img))) (l .loop .a) 4 t (passes _ _ (told f) (c .if1 .left)))
+
+-- src/header.rt:173:5
+pass-requires : tie.Need-pass-requires Inv-loop μ-loop
+pass-requires c κs = search needs
+
+-- src/header.rt:161:1
+returns-2 : tie.Need-returns-2 Inv-loop μ-loop
+returns-2 c = let l = c .before .before in c .pass .ensures ∙ sym (l .loop .inv .1 ∙ first-end _ _ 4 (c .before .loop-test .left))
+
+pub offsets-fault-spec : {M : Type 1} → statement M
+offsets-fault-spec =
+    tie.close
+    (tie.spec
+    Inv-loop
+    μ-loop
+    loop-holds
+    mul-field-fault
+    add-field-fault
+    offset-of-requires
+    field-fault-requires
+    returns
+    add-a
+    loop-less
+    loop-again
+    pass-requires
+    returns-2)

@@ -1,0 +1,50 @@
+use Rattle.image.proofs.Heads.{shape-same}
+use mathlib.Core.Path.{_≡_, refl, sym, ap, ap₂, _∙_, subst}
+use mathlib.Core.List.{List, [], _∷_, _++_}
+use Prim.Native.Nat.{ℕ, _+_, _-_, _*_, _^_, _≤_, _<_, min}
+use native.Mathlib.Omega.{arith}
+use lib.ListN.{length, take, drop, getD}
+use lib.Ieee.{Float, nan}
+use denote.Ref.{now}
+use borrow.Author.Needs.{needs}
+use Rattle.image.proofs.header.shape_of.Statement.{statement}
+use Rattle.image.proofs.header.shape_of.Tie as tie
+use Rattle.image.proofs.header.shape_of.Reads as reads
+use Rattle.image.proofs.header.shape_of.Lts as lts
+use Rattle.image.proofs.header.axes_of.Reads as axes-of-reads
+use Rattle.image.proofs.header.count_of.Reads as count-of-reads
+
+-- src/header.rt:49:9
+axes-of-requires : tie.Need-axes-of-requires
+axes-of-requires c κs = search needs
+
+-- src/header.rt:50:9
+count-of-requires : tie.Need-count-of-requires
+count-of-requires c κs = search needs
+
+-- src/header.rt:51:9
+count-of-requires-2 : tie.Need-count-of-requires-2
+count-of-requires-2 c κs = search needs
+
+-- src/header.rt:52:9
+count-of-requires-3 : tie.Need-count-of-requires-3
+count-of-requires-3 c κs = search needs
+
+-- src/header.rt:53:9
+count-of-requires-4 : tie.Need-count-of-requires-4
+count-of-requires-4 c κs = search needs
+
+-- src/header.rt:46:1
+returns : tie.Need-returns
+returns c = shape-same _ _ _ _ _ _ (c .before .before .before .before .axes-of .ensures .0) (c .before .before .before .count-of .ensures .0) (c .before .before .count-of2 .ensures .0) (c .before .count-of3 .ensures .0) (c .count-of4 .ensures .0)
+
+pub shape-of-spec : {M : Type 1} → statement M
+shape-of-spec =
+    tie.close
+    (tie.spec
+    axes-of-requires
+    count-of-requires
+    count-of-requires-2
+    count-of-requires-3
+    count-of-requires-4
+    returns)

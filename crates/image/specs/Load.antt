@@ -1,0 +1,97 @@
+-- "Loading checks", in their order, and what loading answers and writes for every input.
+use mathlib.Core.Bool.{Bool, true, false, not, _&&_, cond}
+use mathlib.Core.List.{List, [], _∷_, _++_}
+use Prim.Native.Nat.{ℕ, _+_, _-_, _*_, _%_}
+use lib.Dec.{leb, ltb, eqb}
+use lib.ListN.{length, drop}
+use lib.Ieee.{Float}
+use Rattle.answer.specs.Answer.{refused, when, _or_, firstOf, given}
+use Rattle.answer.specs.declared.Answer.{Answer}
+use Rattle.judge.specs.Check.{countFault}
+use Rattle.table.specs.Shape.{countsOf, size, total}
+use Rattle.table.specs.Table.{axesFault, valuesFault}
+use Rattle.table.specs.declared.Shape.{Shape}
+use Rattle.words.specs.Words.{wordAt}
+use Rattle.image.specs.Image.{axesField, countField, offsetField, valuesField, shapeOf, nodesIn, valuesIn}
+use Rattle.image.specs.declared.LoadAnswer.{LoadAnswer}
+
+-- 13: "image header wrong", "first byte of the field"
+unfoldable pub fieldFault : ℕ → ℕ → ℕ → Answer
+fieldFault place wanted x = when (not (eqb x wanted)) (refused 13 0 place)
+
+-- "under 40 bytes (13)", "under 40 bytes 0"
+unfoldable pub shortFault : ℕ → Answer
+shortFault len = when (ltb len 40) (refused 13 0 0)
+
+-- "byte 1 (1)"
+unfoldable pub axesRow : ℕ → Answer
+axesRow axes = when (not (leb 1 axes && leb axes 4)) (refused 1 0 0)
+
+-- "length, equal to the lent length and 40 to 36,864"
+unfoldable pub lengthRow : ℕ → ℕ → Answer
+lengthRow stated len = when (not (eqb stated len && (leb 40 stated && leb stated 36864))) (refused 13 0 4)
+
+-- "under 40 bytes (13); byte 0; byte 1 (1); bytes 2-3; length"
+unfoldable pub startFault : List ℕ → Answer
+startFault img =
+    shortFault (length img)
+    or fieldFault 0 1 (wordAt 1 img 0)
+    or axesRow (axesField img)
+    or fieldFault 2 0 (wordAt 2 img 2)
+    or lengthRow (wordAt 4 img 4) (length img)
+
+-- "counts axis by axis (2, or 13 if unused)"
+unfoldable pub countRow : List ℕ → ℕ → Answer
+countRow img a = cond (ltb a (axesField img)) (countFault a (countField img a)) (fieldFault (8 + 2 * a) 0 (countField img a))
+
+-- "product (2)"
+unfoldable pub productRow : Shape → Answer
+productRow s = when (ltb 4096 (size (countsOf s))) (refused 2 0 0)
+
+-- "unused offsets", from the first that is not used
+unfoldable pub offsetRow : List ℕ → ℕ → Answer
+offsetRow img a = fieldFault (16 + 4 * a) 0 (offsetField img a)
+
+-- ".. counts ..; product (2); unused offsets; bytes 36-39"
+unfoldable pub headFault : List ℕ → Answer
+headFault img =
+    startFault img
+    or firstOf (countRow img) 0 4
+    or productRow (shapeOf img)
+    or firstOf (offsetRow img) (axesField img) (4 - axesField img)
+    or fieldFault 36 0 (wordAt 4 img 36)
+
+-- 14: "Each offset is at least 40 and a multiple of 8, and its area ends inside the image"
+unfoldable pub areaFault : ℕ → ℕ → ℕ → ℕ → Answer
+areaFault len axis offset n = when (not (leb 40 offset && (eqb (offset % 8) 0 && leb (offset + 8 * n) len))) (refused 14 axis 0)
+
+-- "axis, or the number of axes for the values"
+unfoldable pub areasFault : List ℕ → Answer
+areasFault img =
+    firstOf (λ a. areaFault (length img) a (offsetField img a) (countField img a)) 0 (axesField img)
+    or areaFault (length img) (axesField img) (valuesField img) (size (countsOf (shapeOf img)))
+
+-- 15: "an output buffer too short", "place 0 nodes, 1 values"
+unfoldable pub roomRow : ℕ → ℕ → ℕ → Answer
+roomRow place wanted room = when (ltb room wanted) (refused 15 0 place)
+
+unfoldable pub roomsFault : Shape → ℕ → ℕ → Answer
+roomsFault s nodes values = roomRow 0 (total (countsOf s)) nodes or roomRow 1 (size (countsOf s)) values
+
+-- "then 4 to 7"
+unfoldable pub contentsFault : List ℕ → Answer
+contentsFault img = axesFault (countsOf (shapeOf img)) (nodesIn img) or valuesFault (valuesIn img)
+
+unfoldable pub loadFault : List ℕ → ℕ → ℕ → Answer
+loadFault img nodes values = headFault img or areasFault img or roomsFault (shapeOf img) nodes values or contentsFault img
+
+abbrev pub noShape : Shape
+noShape = record { axes = 0; counts = 0 ∷ 0 ∷ 0 ∷ 0 ∷ [] }
+
+-- the answer with the shape; "any .. shape it would give is zero" on a refusal
+unfoldable pub loadAnswer : List ℕ → ℕ → ℕ → LoadAnswer
+loadAnswer img nodes values = record { answer = loadFault img nodes values; shape = given (loadFault img nodes values) (shapeOf img) noShape }
+
+-- an output after loading: filled from its front, its rest as it was; on a refusal as it was
+unfoldable pub loadedInto : Answer → List Float → List Float → List Float
+loadedInto a xs out = given a (xs ++ drop (length xs) out) out

@@ -1,0 +1,84 @@
+// Where the areas lie, and the room that is lent for them.
+ghost use mathlib.Core.Path.{_≡_};
+ghost use mathlib.Core.Bool.{true};
+ghost use Prim.Native.Nat.{ℕ, _+_, _*_, _<_, _≤_};
+ghost use lib.ListN.{length};
+ghost use Rattle.answer.specs.Answer.{good, firstOf};
+ghost use Rattle.table.specs.Shape.{countsOf, size, total};
+ghost use Rattle.table.specs.Table.{shapeFault};
+ghost use Rattle.image.specs.Image.{axesField, countField, offsetField, shapeOf};
+ghost use Rattle.image.specs.Load.{headFault, areaFault, areasFault, roomRow, roomsFault};
+use crate::header;
+use answer::Answer;
+
+// 14: an area that starts in the header or off a multiple of 8, or ends outside.
+fn area_fault(len: usize, axis: usize, offset: usize, n: usize) -> Answer
+    requires { ⌜ (offset < 4294967296) × (n < 65536) ⌝ }
+    ensures { λ r. ⌜ r ≡ areaFault len axis offset n ⌝ }
+{
+    if offset < 40 {
+        return answer::refuse(14, axis, 0);
+    }
+    if offset % 8 != 0 {
+        return answer::refuse(14, axis, 0);
+    }
+    if offset + 8 * n > len {
+        answer::refuse(14, axis, 0)
+    } else {
+        answer::pass()
+    }
+}
+
+// The axes' areas.
+fn axes_areas_fault(img: &[u8], axes: usize) -> Answer
+    requires { ⌜ axes ≤ 4 ⌝ }
+    ensures { λ r. ⌜ r ≡ firstOf (λ a. areaFault (length (now (img .entry))) a (offsetField (now (img .entry)) a) (countField (now (img .entry)) a)) 0 axes ⌝ }
+{
+    let len = img.len();
+    let mut a: usize = 0;
+    while a < axes {
+        let fault = area_fault(len, a, header::offset_of(img, a), header::count_of(img, a));
+        if fault.number != 0 {
+            return fault;
+        }
+        a += 1;
+    }
+    answer::pass()
+}
+
+// The axes' areas, then the values'.
+pub(crate) fn areas_fault(img: &[u8]) -> Answer
+    requires { ⌜ good (shapeFault (shapeOf (now img))) ≡ true ⌝ }
+    ensures { λ r. ⌜ r ≡ areasFault (now (img .entry)) ⌝ }
+{
+    let axes = header::axes_of(img);
+    let fault = axes_areas_fault(img, axes);
+    if fault.number != 0 {
+        return fault;
+    }
+    let held = table::sizes(header::shape_of(img));
+    area_fault(img.len(), axes, header::values_at(img), held.values)
+}
+
+// 15: an output that is too short.
+fn room_row(place: usize, wanted: usize, room: usize) -> Answer
+    ensures { λ r. ⌜ r ≡ roomRow place wanted room ⌝ }
+{
+    if room < wanted {
+        answer::refuse(15, 0, place)
+    } else {
+        answer::pass()
+    }
+}
+
+pub(crate) fn rooms_fault(img: &[u8], nodes: usize, values: usize) -> Answer
+    requires { ⌜ good (shapeFault (shapeOf (now img))) ≡ true ⌝ }
+    ensures { λ r. ⌜ r ≡ roomsFault (shapeOf (now (img .entry))) nodes values ⌝ }
+{
+    let held = table::sizes(header::shape_of(img));
+    let fault = room_row(0, held.nodes, nodes);
+    if fault.number != 0 {
+        return fault;
+    }
+    room_row(1, held.values, values)
+}

@@ -1,0 +1,65 @@
+// The table image: a header of counts and offsets, then nodes and values as f64 bits, anywhere after it.
+ghost use mathlib.Core.Path.{_≡_};
+ghost use lib.ListN.{length};
+ghost use Rattle.image.specs.Image.{nodesIn, valuesIn};
+ghost use Rattle.image.specs.Load.{loadFault, loadAnswer, loadedInto, noShape};
+
+pub(crate) mod areas;
+pub(crate) mod contents;
+pub(crate) mod header;
+
+use answer::Answer;
+use table::Shape;
+
+// What loading answers, with the shape of what it wrote.
+pub struct LoadAnswer {
+    pub answer: Answer,
+    pub shape: Shape,
+}
+
+fn no_shape() -> Shape
+    ensures { λ r. ⌜ r ≡ noShape ⌝ }
+{
+    Shape {
+        axes: 0,
+        counts: [0; 4],
+    }
+}
+
+// Every check, before anything is written.
+fn load_fault(img: &[u8], nodes: usize, values: usize) -> Answer
+    ensures { λ r. ⌜ r ≡ loadFault (now (img .entry)) nodes values ⌝ }
+{
+    let fault = header::head_fault(img);
+    if fault.number != 0 {
+        return fault;
+    }
+    let fault = areas::areas_fault(img);
+    if fault.number != 0 {
+        return fault;
+    }
+    let fault = areas::rooms_fault(img, nodes, values);
+    if fault.number != 0 {
+        return fault;
+    }
+    contents::contents_fault(img)
+}
+
+// Reads a table out of an image into two outputs, which may be longer.
+pub fn load(img: &[u8], nodes: &mut [f64], values: &mut [f64]) -> LoadAnswer
+    ensures { λ r. ⌜ (r ≡ loadAnswer (now (img .entry)) (length (now (nodes .entry))) (length (now (values .entry)))) × ((now (nodes .exit) ≡ loadedInto (loadFault (now (img .entry)) (length (now (nodes .entry))) (length (now (values .entry)))) (nodesIn (now (img .entry))) (now (nodes .entry))) × (now (values .exit) ≡ loadedInto (loadFault (now (img .entry)) (length (now (nodes .entry))) (length (now (values .entry)))) (valuesIn (now (img .entry))) (now (values .entry)))) ⌝ }
+{
+    let answer = load_fault(img, nodes.len(), values.len());
+    if answer.number != 0 {
+        return LoadAnswer {
+            answer,
+            shape: no_shape(),
+        };
+    }
+    contents::read_nodes(img, nodes);
+    contents::read_values(img, values);
+    LoadAnswer {
+        answer,
+        shape: header::shape_of(img),
+    }
+}

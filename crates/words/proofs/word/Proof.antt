@@ -1,0 +1,54 @@
+use native.Mathlib.Nat.{pow-le-pow-right}
+use Rattle.words.specs.Words.{wordAt}
+use Rattle.words.proofs.Bytes.{word-past, word-there, power-above}
+use mathlib.Core.Path.{_≡_, refl, sym, ap, ap₂, _∙_, subst}
+use mathlib.Core.List.{List, [], _∷_, _++_}
+use Prim.Native.Nat.{ℕ, _+_, _-_, _*_, _^_, _≤_, _<_, min}
+use native.Mathlib.Omega.{arith}
+use lib.ListN.{length, take, drop, getD}
+use lib.Ieee.{Float, nan}
+use denote.Ref.{now}
+use borrow.Author.Needs.{needs}
+use Rattle.words.proofs.word.Statement.{statement}
+use Rattle.words.proofs.word.Tie as tie
+use Rattle.words.proofs.word.Reads as reads
+use Rattle.words.proofs.word.Lts as lts
+use Rattle.words.proofs.least.Reads as least-reads
+use Rattle.words.proofs.word_within.Reads as word-within-reads
+
+-- src/lib.rt:40:9
+returns : tie.Need-returns
+returns c = let s = c .before .before in (sym (word-past (min (s .args .n) 8) (now (s .args .s)) (s .args .at) (c .if1 .taken)), power-above (min (s .args .n) 8))
+
+-- src/lib.rt:42:9
+least-requires : tie.Need-least-requires
+least-requires c κs = search needs
+
+-- src/lib.rt:43:31
+sub-least : tie.Need-sub-least
+sub-least c = search needs
+
+-- src/lib.rt:43:9
+least-requires-2 : tie.Need-least-requires-2
+least-requires-2 c κs = search needs
+
+-- src/lib.rt:44:5
+word-within-requires : tie.Need-word-within-requires
+word-within-requires c κs = search needs
+
+-- src/lib.rt:35:1
+returns-2 : tie.Need-returns-2
+returns-2 c =
+    let t = c .before in
+    let w = t .before in
+    let s = w .before .before .before in
+    let m : t .least2 .result ≡ min (min (s .args .n) 8) (length (now (s .args .s)) - s .args .at) = t .least2 .ensures ∙ ap (λ (k : ℕ). min k (length (now (s .args .s)) - s .args .at)) (w .least .ensures) in
+    let p : 256 ^ t .least2 .result ≤ 256 ^ min (s .args .n) 8 = pow-le-pow-right {n = 256} (omega arith) {i = t .least2 .result} {j = min (s .args .n) 8} (omega (arith, m)) in (
+      c .word-within .ensures .0 ∙ ap (λ (k : ℕ). wordAt k (now (s .args .s)) (s .args .at)) m ∙ word-there (min (s .args .n) 8) (now (s .args .s)) (s .args .at),
+      omega (arith, c .word-within .ensures .1, p),
+    )
+
+pub word-spec : {M : Type 1} → statement M
+word-spec =
+    tie.close
+    (tie.spec returns least-requires sub-least least-requires-2 word-within-requires returns-2)

@@ -1,0 +1,83 @@
+use Rattle.words.proofs.Bytes.{Bytes, Reading, reading-start, reading-next, reading-room, reading-end}
+use mathlib.Core.Path.{_≡_, refl, sym, ap, ap₂, _∙_, subst}
+use mathlib.Core.List.{List, [], _∷_, _++_}
+use Prim.Native.Nat.{ℕ, _+_, _-_, _*_, _^_, _≤_, _<_, min}
+use native.Mathlib.Omega.{arith}
+use lib.ListN.{length, take, drop, getD}
+use lib.Ieee.{Float, nan}
+use denote.Ref.{now}
+use borrow.Author.Needs.{needs}
+use Rattle.words.proofs.word_within.Statement.{statement}
+use Rattle.words.proofs.word_within.Tie as tie
+use Rattle.words.proofs.word_within.Reads as reads
+use Rattle.words.proofs.word_within.Lts as lts
+use Rattle.words.proofs.wide.Reads as wide-reads
+
+abbrev Inv-loop : tie.InvT-loop
+Inv-loop s at n x₀ i₀ x i = Reading s at n i x
+
+abbrev μ-loop : tie.MeasureT-loop
+μ-loop s at n x₀ i₀ x i = i
+
+bytes : (c : tie.After-wide Inv-loop μ-loop) → Bytes (c .before .before .before .before .before .args .s .now)
+bytes c k = c .before .shared-slice-known2 .given k .fits
+
+room : (c : tie.After-wide Inv-loop μ-loop) → c .before .before .before .loop .x * 256 + c .wide .result < 2 ^ 64
+room c = reading-room _ _ _ _ _ _ (bytes c) (c .before .before .before .before .before .pre .1) (c .before .before .loop-test .taken) (c .before .before .before .loop .inv) (c .wide .ensures) (c .before .before .before .before .before .pre .0)
+
+-- src/lib.rt:20:5
+loop-holds : tie.Need-loop-holds Inv-loop μ-loop
+loop-holds c = reading-start _ _ _
+
+-- src/lib.rt:21:9
+sub-i : tie.Need-sub-i Inv-loop μ-loop
+sub-i c = search needs
+
+-- src/lib.rt:22:24
+add-wide : tie.Need-add-wide Inv-loop μ-loop
+add-wide c = search needs
+
+-- src/lib.rt:22:22
+shared-slice-read-wide : tie.Need-shared-slice-read-wide Inv-loop μ-loop
+shared-slice-read-wide c = search needs
+
+-- src/lib.rt:22:13
+wide-requires : tie.Need-wide-requires Inv-loop μ-loop
+wide-requires c κs = search needs
+
+-- src/lib.rt:23:13
+mul-x : tie.Need-mul-x Inv-loop μ-loop
+mul-x c = omega (arith, room c)
+
+-- src/lib.rt:23:13
+add-x : tie.Need-add-x Inv-loop μ-loop
+add-x c = omega (arith, room c)
+
+-- src/lib.rt:20:5
+loop-less : tie.Need-loop-less Inv-loop μ-loop
+loop-less c = search needs
+
+-- src/lib.rt:20:5
+loop-again : tie.Need-loop-again Inv-loop μ-loop
+loop-again c = reading-next _ _ _ _ _ _ (bytes c) (c .before .before .before .before .before .pre .1) (c .before .before .loop-test .taken) (c .before .before .before .loop .inv) (c .wide .ensures)
+
+-- src/lib.rt:14:1
+returns : tie.Need-returns Inv-loop μ-loop
+returns c = reading-end _ _ _ _ _ (c .loop-test .left) (c .before .loop .inv)
+
+pub word-within-spec : {M : Type 1} → statement M
+word-within-spec =
+    tie.close
+    (tie.spec
+    Inv-loop
+    μ-loop
+    loop-holds
+    sub-i
+    add-wide
+    shared-slice-read-wide
+    wide-requires
+    mul-x
+    add-x
+    loop-less
+    loop-again
+    returns)

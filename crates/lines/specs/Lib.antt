@@ -1,0 +1,5 @@
+pub mod Digit
+pub mod Line
+pub mod Put
+pub mod Stream
+pub mod Feed

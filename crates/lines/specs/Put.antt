@@ -1,0 +1,34 @@
+-- Bytes put into a buffer, and bytes moved in it.
+use mathlib.Core.Path.{_≡_}
+use mathlib.Core.Bool.{Bool, true, false, cond}
+use mathlib.Core.List.{List, [], _∷_, _++_}
+use Prim.Native.Nat.{ℕ, _+_}
+use lib.Dec.{leb}
+use lib.ListN.{length, take, drop}
+use Rattle.answer.specs.declared.Answer.{Answer}
+use Rattle.lines.specs.Line.{lineOf, longest}
+
+-- the buffer d with xs at a place, the rest as it was
+unfoldable pub put : List ℕ → ℕ → List ℕ → List ℕ
+put d at xs = take at d ++ (xs ++ drop (at + length xs) d)
+
+-- xs was put at a place into the buffer d, which left it as e, and r is the place past it
+pub record Wrote (d : List ℕ) (at : ℕ) (xs e : List ℕ) (r : ℕ) : Type 0 where
+  pub bytes : e ≡ put d at xs
+  pub next : r ≡ at + length xs
+
+-- whether the buffer has n bytes at a place
+unfoldable pub roomFor : ℕ → List ℕ → ℕ → Bool
+roomFor n d at = leb (at + n) (length d)
+
+-- an answer's line at a place where a longest one has room; where it has none, the buffer as it was
+unfoldable pub lineInto : Answer → List ℕ → ℕ → List ℕ
+lineInto a d at = cond (roomFor longest d at) (put d at (lineOf a)) d
+
+-- the place past that line, or the place itself where nothing was written
+unfoldable pub lineEnd : Answer → List ℕ → ℕ → ℕ
+lineEnd a d at = cond (roomFor longest d at) (at + length (lineOf a)) at
+
+-- the n bytes at a place moved to the front, the rest as it was; where they are not all there, the buffer as it was
+unfoldable pub shifted : List ℕ → ℕ → ℕ → List ℕ
+shifted d from n = cond (roomFor n d from) (take n (drop from d) ++ drop n d) d

@@ -1,0 +1,82 @@
+use Prim.Native.Nat.{_≤_}
+use lib.ListN.{length}
+use native.Mathlib.Omega.{arith}
+use Rattle.lines.specs.Line.{noLine}
+use Rattle.lines.proofs.Puts.{then}
+use borrow.Author.Needs.{needs}
+use Rattle.lines.proofs.put_no.Statement.{statement}
+use Rattle.lines.proofs.put_no.Tie as tie
+use Rattle.lines.proofs.put_no.Reads as reads
+use Rattle.lines.proofs.put_no.Lts as lts
+use Rattle.lines.proofs.text.put_byte.Reads as put-byte-reads
+use Rattle.lines.proofs.text.put_bytes.Reads as put-bytes-reads
+use Rattle.lines.proofs.text.put_decimal.Reads as put-decimal-reads
+
+-- src/lib.rt:37:29
+slice-aggregate-put-bytes : tie.Need-slice-aggregate-put-bytes
+slice-aggregate-put-bytes c = search needs
+
+-- src/lib.rt:37:9
+put-bytes-requires : tie.Need-put-bytes-requires
+put-bytes-requires c κs = search needs
+
+-- src/lib.rt:38:9
+put-decimal-requires : tie.Need-put-decimal-requires
+put-decimal-requires c κs = search needs
+
+-- src/lib.rt:39:9
+put-byte-requires : tie.Need-put-byte-requires
+put-byte-requires c κs = search needs
+
+-- src/lib.rt:40:9
+put-decimal-requires-2 : tie.Need-put-decimal-requires-2
+put-decimal-requires-2 c κs = search needs
+
+-- src/lib.rt:41:9
+put-byte-requires-2 : tie.Need-put-byte-requires-2
+put-byte-requires-2 c κs = search needs
+
+-- src/lib.rt:42:9
+put-decimal-requires-3 : tie.Need-put-decimal-requires-3
+put-decimal-requires-3 c κs = search needs
+
+-- src/lib.rt:43:5
+put-byte-requires-3 : tie.Need-put-byte-requires-3
+put-byte-requires-3 c κs = search needs
+
+-- src/lib.rt:33:1
+same-length : tie.Need-same-length
+same-length c = search needs
+
+-- src/lib.rt:33:1
+returns : tie.Need-returns
+unfolding noLine
+returns c =
+    let w7 = c .before .before in
+    let w6 = w7 .before .before .before .before in
+    let w5 = w6 .before .before .before .before in
+    let w4 = w5 .before .before .before .before in
+    let w3 = w4 .before .before .before .before in
+    let w2 = w3 .before .before .before .before in
+    let w1 = w2 .before .before .before .before in
+    let st = w1 .before .before .before .before in
+    let h : st .args .at ≤ length (st .args .out .now) = omega (arith, st .pre) in
+    let number = then (w1 .put-bytes .ensures) h (w2 .put-decimal .ensures) in
+    let axis = then (then number h (w3 .put-byte .ensures)) h (w4 .put-decimal2 .ensures) in
+    let place = then (then axis h (w5 .put-byte2 .ensures)) h (w6 .put-decimal3 .ensures) in
+    then place h (w7 .put-byte3 .ensures)
+
+pub put-no-spec : {M : Type 1} → statement M
+put-no-spec =
+    tie.close
+    (tie.spec
+    slice-aggregate-put-bytes
+    put-bytes-requires
+    put-decimal-requires
+    put-byte-requires
+    put-decimal-requires-2
+    put-byte-requires-2
+    put-decimal-requires-3
+    put-byte-requires-3
+    same-length
+    returns)

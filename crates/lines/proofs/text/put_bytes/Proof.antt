@@ -1,0 +1,83 @@
+use mathlib.Core.Path.{_≡_, refl, sym, ap, _∙_}
+use Prim.Native.Nat.{ℕ, _+_, _-_, _≤_, _<_}
+use native.Mathlib.Nat.{add-zero}
+use native.Mathlib.Omega.{arith}
+use borrow.Author.Needs.{needs}
+use lib.ListN.{length, take, length-set}
+use lib.Seq.{take-all}
+use Rattle.lines.specs.Put.{Wrote}
+use Rattle.lines.proofs.Puts.{wrote-none, copy-step}
+use Rattle.lines.proofs.text.put_bytes.Statement.{statement}
+use Rattle.lines.proofs.text.put_bytes.Tie as tie
+use Rattle.lines.proofs.text.put_bytes.Reads as reads
+use Rattle.lines.proofs.text.put_bytes.Lts as lts
+
+abbrev Inv-loop : tie.InvT-loop
+Inv-loop src out₀ at i₀ out i = (i ≤ length src) × ((length out ≡ length out₀) × Wrote out₀ at (take i src) out (at + i))
+
+abbrev μ-loop : tie.MeasureT-loop
+μ-loop src out₀ at i₀ out i = length src - i
+
+-- src/text.rt:33:5
+loop-holds : tie.Need-loop-holds Inv-loop μ-loop
+loop-holds c = (omega arith, (refl, rw add-zero (wrote-none (c .args .out .now) (c .args .at))))
+
+-- src/text.rt:34:23
+shared-slice-read-out : tie.Need-shared-slice-read-out Inv-loop μ-loop
+shared-slice-read-out c = search needs
+
+-- src/text.rt:34:13
+add-out : tie.Need-add-out Inv-loop μ-loop
+add-out c = search needs
+
+-- src/text.rt:34:9
+slice-write-out : tie.Need-slice-write-out Inv-loop μ-loop
+slice-write-out c = search needs
+
+-- src/text.rt:35:9
+add-i : tie.Need-add-i Inv-loop μ-loop
+add-i c = search needs
+
+-- src/text.rt:33:5
+loop-less : tie.Need-loop-less Inv-loop μ-loop
+loop-less c = search needs
+
+-- src/text.rt:33:5
+loop-again : tie.Need-loop-again Inv-loop μ-loop
+loop-again c =
+    let l = c .before .before in
+    let st = l .before in
+    let lt = c .before .loop-test .taken in
+    (omega arith, (length-set (l .loop .out) (st .args .at + l .loop .i) _ ∙ l .loop .inv .1 .0, copy-step (st .args .src .now) (l .loop .i) lt (st .pre) (l .loop .inv .1 .1) refl))
+
+-- src/text.rt:37:5
+add-result : tie.Need-add-result Inv-loop μ-loop
+add-result c = search needs
+
+-- src/text.rt:28:1
+same-length : tie.Need-same-length Inv-loop μ-loop
+same-length c = search needs
+
+-- src/text.rt:28:1
+returns : tie.Need-returns Inv-loop μ-loop
+returns c =
+    let l = c .before in
+    let e : length (l .before .args .src .now) ≤ l .loop .i = c .loop-test .left in
+    rw (take-all (l .loop .i) (l .before .args .src .now) e) at (l .loop .inv .1 .1)
+
+pub put-bytes-spec : {M : Type 1} → statement M
+put-bytes-spec =
+    tie.close
+    (tie.spec
+    Inv-loop
+    μ-loop
+    loop-holds
+    shared-slice-read-out
+    add-out
+    slice-write-out
+    add-i
+    loop-less
+    loop-again
+    add-result
+    same-length
+    returns)

@@ -1,14 +1,13 @@
 -- The laws of digits.
 use mathlib.Core.Path.{_≡_, refl, sym, ap, ap₂, _∙_}
 use mathlib.Core.Bool.{Bool, true, false, cond}
-use mathlib.Core.Logic.{_⊎_, inl, inr}
 use mathlib.Core.List.{List, [], _∷_, _++_}
 use Prim.Native.Nat.{ℕ, zero, suc, _+_, _-_, _*_, _/_, _%_, _^_, _≤_, _<_}
 use native.Mathlib.Nat.{pow-suc}
 use native.Mathlib.Omega.{arith}
 use lib.Dec.{ltb}
 use lib.ListN.{length, set, length-append, length-set}
-use borrow.Author.Tests.{lt-ltb, le-ltb, ltb-true, ltb-false}
+use borrow.Author.Tests.{lt-ltb, le-ltb}
 use Rattle.lines.specs.Put.{put, Wrote}
 use Rattle.lines.specs.Digit.{glyphOf, digits, places, decimal}
 use Rattle.lines.proofs.Puts.{put-none, put-last}
@@ -78,50 +77,43 @@ pub places-more : (k n : ℕ) → 10 ≤ n → places (suc k) n ≡ suc (places 
 unfolding places
 places-more k n h = rw (le-ltb n 10 h)
 
-split : (a b : ℕ) → (a < b) ⊎ (b ≤ a)
-split a b = go (ltb a b) refl
-  where
-    go : (t : Bool) → ltb a b ≡ t → (a < b) ⊎ (b ≤ a)
-    go true e = inl (ltb-true a b e)
-    go false e = inr (ltb-false a b e)
-
 pub places-most : (k j n : ℕ) → n < 10 ^ suc j → places k n ≤ suc j
 unfolding places
 places-most zero j n h = omega arith
 places-most (suc k) zero n h = omega (arith, places-one (suc k) n (omega arith))
-places-most (suc k) (suc j) n h = go (split n 10) (places-most k j (n / 10) (omega (arith, pow-suc 10 (suc j))))
+places-most (suc k) (suc j) n h = go (ltb n 10) (places-most k j (n / 10) (omega (arith, pow-suc 10 (suc j))))
   where
-    go : (n < 10) ⊎ (10 ≤ n) → places k (n / 10) ≤ suc j → places (suc k) n ≤ suc (suc j)
-    go (inl l) tenth = omega (arith, places-one (suc k) n l)
-    go (inr l) tenth = omega (arith, places-more k n l)
+    go : (t : Bool) → places k (n / 10) ≤ suc j → cond t 1 (suc (places k (n / 10))) ≤ suc (suc j)
+    go true tenth = omega arith
+    go false tenth = omega arith
 
 -- on the way: k - 1 digits are counted, and those of `left` are to be counted
 pub record Counting (n left k : ℕ) : Type 0 where
   pub steps : ℕ
-  pub enough : left ≤ steps
-  pub right : k + places steps left ≡ suc (places n n)
+  pub enough : left < 10 ^ suc steps
+  pub right : k + places steps left ≡ suc (places 19 n)
 
-pub count-start : (n : ℕ) → Counting n n 1
-count-start n = record { steps = n; enough = omega arith; right = omega arith }
+pub count-start : (n : ℕ) → n < 10 ^ 20 → Counting n n 1
+count-start n h = record { steps = 19; enough = h; right = omega arith }
 
 pub count-step : {n left k : ℕ} → Counting n left k → 10 ≤ left → Counting n (left / 10) (k + 1)
 count-step {n} {left} {k} c h = go (c .steps) (c .enough) (c .right)
   where
-    go : (s : ℕ) → left ≤ s → k + places s left ≡ suc (places n n) → Counting n (left / 10) (k + 1)
+    go : (s : ℕ) → left < 10 ^ suc s → k + places s left ≡ suc (places 19 n) → Counting n (left / 10) (k + 1)
     go zero l e = absurd (omega arith)
-    go (suc s) l e = record { steps = s; enough = omega arith; right = omega (arith, e, places-more s left h) }
+    go (suc s) l e = record { steps = s; enough = omega (arith, pow-suc 10 (suc s)); right = omega (arith, e, places-more s left h) }
 
-pub count-end : {n left k : ℕ} → Counting n left k → left < 10 → k ≡ places n n
+pub count-end : {n left k : ℕ} → Counting n left k → left < 10 → k ≡ places 19 n
 count-end {n} {left} {k} c h = omega (arith, c .right, places-one (c .steps) left h)
 
 pub count-small : {n left k : ℕ} → Counting n left k → n < 10 ^ 20 → k ≤ 21
-count-small {n} {left} {k} c h = omega (arith, c .right, places-most n 19 n h)
+count-small {n} {left} {k} c h = omega (arith, c .right, places-most 19 19 n h)
 
 -- ---- in decimal
 
-pub decimal-length : (n : ℕ) → length (decimal n) ≡ places n n
+pub decimal-length : (n : ℕ) → length (decimal n) ≡ places 19 n
 unfolding decimal
-decimal-length n = digits-length 10 (places n n) n
+decimal-length n = digits-length 10 (places 19 n) n
 
 pub decimal-most : (j n : ℕ) → n < 10 ^ suc j → length (decimal n) ≤ suc j
-decimal-most j n h = omega (arith, decimal-length n, places-most n j n h)
+decimal-most j n h = omega (arith, decimal-length n, places-most 19 j n h)

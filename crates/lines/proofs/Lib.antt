@@ -2,3 +2,8 @@ pub mod Puts
 pub mod Digits
 pub mod Shifts
 pub mod Shows
+pub mod Blocks
+pub mod Runs
+pub mod Feeds
+pub mod Examples
+pub mod Unique

@@ -13,11 +13,11 @@ unfoldable pub digits : ℕ → ℕ → ℕ → List ℕ
 digits base zero n = []
 digits base (suc k) n = digits base k (n / base) ++ (glyphOf (n % base) ∷ [])
 
--- how many decimal digits n has: one below ten, else one more than a tenth of it has. The first argument bounds the recursion; n itself is enough.
+-- how many decimal digits n has, up to k + 1: one below ten, else one more than a tenth of it has
 unfoldable pub places : ℕ → ℕ → ℕ
 places zero n = 1
 places (suc k) n = cond (ltb n 10) 1 (suc (places k (n / 10)))
 
--- "in decimal", with no zeros in front
+-- "in decimal", with no zeros in front: a number of 64 bits has at most 20 digits
 unfoldable pub decimal : ℕ → List ℕ
-decimal n = digits 10 (places n n) n
+decimal n = digits 10 (places 19 n) n

@@ -50,7 +50,7 @@ pub(crate) fn put_digits(n: u64, base: u64, k: usize, out: &mut [u8], at: usize)
 }
 
 fn places_of(n: u64) -> usize
-    ensures { λ r. ⌜ r ≡ places n n ⌝ }
+    ensures { λ r. ⌜ r ≡ places 19 n ⌝ }
 {
     let mut left = n;
     let mut k: usize = 1;

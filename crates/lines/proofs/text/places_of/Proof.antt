@@ -15,7 +15,7 @@ abbrev μ-loop : tie.MeasureT-loop
 
 -- src/text.rt:57:5
 loop-holds : tie.Need-loop-holds Inv-loop μ-loop
-loop-holds c = count-start (c .args .n)
+loop-holds c = count-start (c .args .n) (omega arith)
 
 -- src/text.rt:59:9
 add-k : tie.Need-add-k Inv-loop μ-loop

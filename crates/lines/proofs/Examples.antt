@@ -1,7 +1,6 @@
 -- Lines by computation.
 use mathlib.Core.Path.{_≡_, refl}
-use mathlib.Core.List.{List, [], _∷_}
-use Prim.Native.Nat.{ℕ}
+use mathlib.Core.List.{[], _∷_}
 use lib.Ieee.{binary64, ofBits, toBits}
 use lib.ListN.{length}
 use Rattle.answer.specs.Answer.{refused, answered, good}

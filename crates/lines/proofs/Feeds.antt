@@ -1,11 +1,11 @@
 -- A block read after the bytes that are held.
 use mathlib.Core.Path.{_≡_, refl, sym, ap, _∙_}
-use mathlib.Core.List.{List, [], _∷_, _++_, append-assoc, append-nil}
+use mathlib.Core.List.{List, [], _++_, append-assoc, append-nil}
 use Prim.Native.Nat.{ℕ, _+_, _≤_}
 use native.Mathlib.Omega.{arith}
 use lib.ListN.{length, take, length-append}
 use lib.Seq.{length-take-le, take-append-add, take-append-le}
-use Rattle.lines.specs.Stream.{Rule, linesOf, Turned, Turning}
+use Rattle.lines.specs.Stream.{Rule, linesOf, Turning}
 use Rattle.lines.specs.Feed.{Filled, Stepped, Reached, Ended}
 
 pub filled : (b ys post : List ℕ) (held got : ℕ) → held ≤ length b → got ≤ length ys → Filled held b (take held b ++ (ys ++ post)) (held + got)

@@ -1,6 +1,6 @@
 -- The laws of bytes moved to the front.
 use mathlib.Core.Path.{_≡_, refl, sym, ap, ap₂, _∙_}
-use mathlib.Core.Bool.{Bool, true, false, cond}
+use mathlib.Core.Bool.{Bool, false, cond}
 use mathlib.Core.List.{List, _++_}
 use Prim.Native.Nat.{ℕ, _+_, _≤_, _<_}
 use native.Mathlib.Nat.{add-comm}
@@ -8,7 +8,7 @@ use native.Mathlib.Numerals.{add-one}
 use native.Mathlib.Omega.{arith}
 use lib.Dec.{leb}
 use lib.ListN.{length, take, drop, getD, set, length-append, length-take, length-drop, length-set, take-append-drop}
-use lib.Seq.{drop-drop, take-at, length-take-le, take-suc, take-suc-set, drop-set-lt, getD-drop}
+use lib.Seq.{drop-drop, take-at, take-suc, take-suc-set, drop-set-lt, getD-drop}
 use borrow.Author.Tests.{le-leb}
 use Rattle.lines.specs.Put.{roomFor, shifted}
 

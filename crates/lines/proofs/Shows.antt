@@ -1,19 +1,19 @@
 -- The laws of an answer's line.
-use mathlib.Core.Path.{_≡_, refl, sym, ap, ap₂, _∙_}
+use mathlib.Core.Path.{_≡_, refl}
 use mathlib.Core.Bool.{Bool, true, false, cond}
-use mathlib.Core.List.{List, [], _∷_, _++_}
-use Prim.Native.Nat.{ℕ, suc, _+_, _^_, _≤_, _<_}
+use mathlib.Core.List.{List}
+use Prim.Native.Nat.{ℕ, _+_, _^_, _≤_, _<_}
 use native.Mathlib.Omega.{arith}
 use lib.Dec.{leb}
-use lib.Ieee.{Float, binary64, toBits}
+use lib.Ieee.{Float}
 use lib.ListN.{length, length-append}
 use borrow.Author.Tests.{le-leb}
 use Rattle.answer.specs.declared.Answer.{Answer}
 use Rattle.answer.specs.Answer.{good}
 use Rattle.answer.proofs.Orders.{passes, fails}
-use Rattle.lines.specs.Digit.{digits, decimal}
+use Rattle.lines.specs.Digit.{decimal}
 use Rattle.lines.specs.Line.{okLine, noLine, lineOf, longest}
-use Rattle.lines.specs.Put.{put, Wrote, roomFor, lineInto, lineEnd}
+use Rattle.lines.specs.Put.{Wrote, roomFor, lineInto, lineEnd}
 use Rattle.lines.proofs.Digits.{digits-length, decimal-most}
 
 module _ (a : Answer) where

@@ -1,5 +1,5 @@
 -- An answer's line: "Each line begins with `ok ` or `no ` and ends in a line feed", in ASCII.
-use mathlib.Core.Bool.{Bool, true, false, cond}
+use mathlib.Core.Bool.{cond}
 use mathlib.Core.List.{List, [], _∷_, _++_}
 use Prim.Native.Nat.{ℕ}
 use lib.Ieee.{Float, binary64, toBits}

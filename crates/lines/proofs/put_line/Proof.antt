@@ -1,13 +1,11 @@
-use mathlib.Core.Path.{_≡_, refl, sym, ap, _∙_}
-use mathlib.Core.Bool.{Bool, true, false}
-use Prim.Native.Nat.{ℕ, _+_, _^_, _≤_, _<_}
+use mathlib.Core.Path.{_≡_, sym, ap, _∙_}
+use mathlib.Core.Bool.{true}
+use Prim.Native.Nat.{_+_, _≤_}
 use native.Mathlib.Omega.{arith}
 use lib.Dec.{leb}
 use lib.ListN.{length}
-use borrow.Author.Tests.{not-true, not-false, leb-true, leb-false}
-use Rattle.answer.proofs.Orders.{passes, fails}
+use borrow.Author.Tests.{not-true, not-false, leb-true}
 use Rattle.lines.specs.Line.{lineOf, longest}
-use Rattle.lines.specs.Put.{Wrote}
 use Rattle.lines.proofs.Shows.{line-ok, line-no, line-left, line-put, line-fits, no-length}
 use borrow.Author.Needs.{needs}
 use Rattle.lines.proofs.put_line.Statement.{statement}

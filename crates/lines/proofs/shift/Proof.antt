@@ -1,9 +1,8 @@
-use mathlib.Core.Path.{_≡_, refl, sym, _∙_}
+use mathlib.Core.Path.{sym, _∙_}
 use Prim.Native.Nat.{_+_, _-_, _≤_}
 use lib.ListN.{length}
-use native.Mathlib.Omega.{arith}
 use borrow.Author.Needs.{needs}
-use borrow.Author.Tests.{not-true, not-false, leb-true, leb-false}
+use borrow.Author.Tests.{not-true, not-false, leb-true}
 use Rattle.lines.proofs.Shifts.{Shifting, shift-start, shift-step, shift-end, shift-left}
 use Rattle.lines.proofs.shift.Statement.{statement}
 use Rattle.lines.proofs.shift.Tie as tie

@@ -1,4 +1,3 @@
-use Prim.Native.Nat.{ℕ, _+_, _-_, _≤_, _<_}
 use native.Mathlib.Omega.{arith}
 use borrow.Author.Needs.{needs}
 use Rattle.lines.proofs.Digits.{Counting, count-start, count-step, count-end, count-small}

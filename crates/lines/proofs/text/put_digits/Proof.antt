@@ -1,5 +1,4 @@
 use native.Mathlib.Nat.{mod-lt}
-use Prim.Native.Nat.{ℕ, _+_, _-_, _≤_, _<_}
 use native.Mathlib.Omega.{arith}
 use borrow.Author.Needs.{needs}
 use Rattle.lines.proofs.Digits.{Writing, write-start, write-step, write-end}

@@ -2,6 +2,8 @@
 use mathlib.Core.Path.{_≡_}
 use Rattle.answer.proofs.Outcome.{one-outcome}
 use Rattle.answer.specs.declared.Answer.{Answer}
+use Rattle.order.proofs.table_fault.Reads as table-fault
+use Rattle.order.proofs.inside_fault.Reads as inside-fault
 use Rattle.order.proofs.lookup_fault.Reads as lookup-fault
 use Rattle.order.proofs.step_fault.Reads as step-fault
 use Rattle.order.proofs.linear_uniform_fault.Reads as linear-uniform-fault
@@ -12,6 +14,12 @@ use Rattle.order.proofs.nearest_front.Reads as nearest-front
 use Rattle.order.proofs.step_front.Reads as step-front
 use Rattle.order.proofs.linear_front.Reads as linear-front
 use Rattle.order.proofs.linear_uniform_front.Reads as linear-uniform-front
+
+pub table-fault-unique : (κs : _) (a : _) (r s : Answer) (x y : _) → table-fault.Post κs a r x → table-fault.Post κs a s y → r ≡ s
+table-fault-unique κs a r s x y p q = one-outcome r s _ p q
+
+pub inside-fault-unique : (κs : _) (a : _) (r s : Answer) (x y : _) → inside-fault.Post κs a r x → inside-fault.Post κs a s y → r ≡ s
+inside-fault-unique κs a r s x y p q = one-outcome r s _ p q
 
 pub lookup-fault-unique : (κs : _) (a : _) (r s : Answer) (x y : _) → lookup-fault.Post κs a r x → lookup-fault.Post κs a s y → r ≡ s
 lookup-fault-unique κs a r s x y p q = one-outcome r s _ p q

@@ -22,7 +22,7 @@ fn lengths_fault(shape: Shape, nodes: usize, values: usize, point: usize) -> Ans
 }
 
 // 4, 5, 6; 7.
-fn table_fault(shape: Shape, nodes: &[f64], values: &[f64]) -> Answer
+pub fn table_fault(shape: Shape, nodes: &[f64], values: &[f64]) -> Answer
     ensures { λ r. ⌜ r ≡ (axesFault (countsOf shape) (now (nodes .entry)) or valuesFault (now (values .entry))) ⌝ }
 {
     let fault = table::axes_fault(shape, nodes);
@@ -33,7 +33,7 @@ fn table_fault(shape: Shape, nodes: &[f64], values: &[f64]) -> Answer
 }
 
 // 10; 11.
-fn inside_fault(shape: Shape, nodes: &[f64], point: &[f64]) -> Answer
+pub fn inside_fault(shape: Shape, nodes: &[f64], point: &[f64]) -> Answer
     ensures { λ r. ⌜ r ≡ (readingsFault (now (point .entry)) or rangesFault (countsOf shape) (now (nodes .entry)) (now (point .entry))) ⌝ }
 {
     let fault = table::readings_fault(point);

@@ -20,3 +20,4 @@ pub mod Located
 pub mod Alongs
 pub mod LinearDemands
 pub mod LinearLaw
+pub mod KindOrder

@@ -24,19 +24,11 @@ use Rattle.table.proofs.Grids.{frame-shape, frame-values, frame-axes, grid-of, 
 use Rattle.ninterp.specs.Utils.{stepIndex}
 use Rattle.uniform.specs.Uniform.{axesUniformFault}
 use Rattle.order.specs.Lookups.{lookupFault, stepFault, linearUniformFault}
-use Rattle.ninterp.specs.Tables.{nearestIndex, indices, picked, nearestRule, stepRule}
+use Rattle.ninterp.specs.Tables.{nearestIndex, indices, picked, nearestRule, stepRule, Judged}
 use Rattle.ninterp.specs.Picks.{pickIndex, pickRule}
+use Rattle.ninterp.specs.Kinds.{fourOf}
 
 -- ---- a judged table and reading
-pub record Judged (s : Shape) (nodes values readings : List Float) : Type 0 where
-  pub grid : Grid (countsOf s) nodes
-  pub four : s .axes ≤ 4
-  pub count : length (countsOf s) ≡ s .axes
-  pub stored : length values ≡ size (countsOf s)
-  pub read : length readings ≡ s .axes
-  pub finites : (a : ℕ) → a < s .axes → finite (getD readings a nan) ≡ true
-  pub inside : good (rangesFault (countsOf s) nodes readings) ≡ true
-
 module _ (s : Shape) (four : length (s .counts) ≡ 4) (nodes values readings : List Float) where
   abbrev frame : Answer
   frame = frameFault s (length nodes) (length values)
@@ -50,7 +42,7 @@ module _ (s : Shape) (four : length (s .counts) ≡ 4) (nodes values readings : 
   abbrev point-part : Answer
   point-part = readingsFault readings or rangesFault (countsOf s) nodes readings
 
-  judged : good frame ≡ true → good reading ≡ true → good nodes-part ≡ true → good point-part ≡ true → Judged s nodes values readings
+  pub judged : good frame ≡ true → good reading ≡ true → good nodes-part ≡ true → good point-part ≡ true → Judged s nodes values readings
   judged f r x p =
       let n : length readings ≡ s .axes = length-passed 2 (s .axes) (length readings) r in
       record {
@@ -60,7 +52,6 @@ module _ (s : Shape) (four : length (s .counts) ≡ 4) (nodes values readings : 
         stored = frame-values s four nodes values f;
         read = n;
         finites = λ a l. readings-finite readings (orders.first-passed (readingsFault readings) (rangesFault (countsOf s) nodes readings) p) a (omega arith);
-        inside = orders.second-passed (readingsFault readings) (rangesFault (countsOf s) nodes readings) p;
       }
 
   pub lookup-judged : good (lookupFault s nodes values readings) ≡ true → Judged s nodes values readings
@@ -144,23 +135,36 @@ pub is-nearest : (pick : ℕ) (xs : List Float) (p : Float) → 2 ≤ pick → p
 unfolding pickIndex
 is-nearest pick xs p h = simp (le-ltb pick 2 h)
 
-module _ (picks : List ℕ) (counts : List ℕ) (nodes readings : List Float) where
-  pub picks-nearest : ((a : ℕ) → a < length counts → 2 ≤ getD picks a 0) → indices (pickRule picks) (axesOf counts nodes) readings ≡ indices nearestRule (axesOf counts nodes) readings
-  unfolding indices
-  picks-nearest h =
-      tabulate-same (length (axesOf counts nodes)) (λ a. pickRule picks a (getD (axesOf counts nodes) a []) (getD readings a nan)) (λ a. nearestRule a (getD (axesOf counts nodes) a []) (getD readings a nan))
-      (λ a l. is-nearest (getD picks a 0) (getD (axesOf counts nodes) a []) (getD readings a nan) (h a (omega (arith, length-axes counts nodes))))
+-- one pick for all axes
+pub four-at : (x a : ℕ) → a < 4 → getD (fourOf x) a 0 ≡ x
+four-at x zero l = refl
+four-at x (suc zero) l = refl
+four-at x (suc (suc zero)) l = refl
+four-at x (suc (suc (suc zero))) l = refl
+four-at x (suc (suc (suc (suc a)))) l = absurd (omega arith)
 
-  pub picks-step : ((a : ℕ) → a < length counts → getD picks a 0 < 2) → indices (pickRule picks) (axesOf counts nodes) readings ≡ indices (stepRule picks) (axesOf counts nodes) readings
-  unfolding indices
-  picks-step h =
-      tabulate-same (length (axesOf counts nodes)) (λ a. pickRule picks a (getD (axesOf counts nodes) a []) (getD readings a nan)) (λ a. stepRule picks a (getD (axesOf counts nodes) a []) (getD readings a nan))
-      (λ a l. is-step (getD picks a 0) (getD (axesOf counts nodes) a []) (getD readings a nan) (h a (omega (arith, length-axes counts nodes))))
-
--- ---- the stored value there
-pub stored-at : (rule : ℕ → List Float → Float → ℕ) (picks : List ℕ) (counts : List ℕ) (nodes values readings : List Float) (at : ℕ)
-    → at ≡ place counts (indices (pickRule picks) (axesOf counts nodes) readings)
-    → indices (pickRule picks) (axesOf counts nodes) readings ≡ indices rule (axesOf counts nodes) readings
-    → getD values at nan ≡ picked rule counts nodes values readings
+-- ---- the value there
+pub stored-at : (rule : ℕ → List Float → Float → ℕ) (counts : List ℕ) (nodes values readings : List Float) (at : ℕ)
+    → at ≡ place counts (indices rule (axesOf counts nodes) readings) → getD values at nan ≡ picked rule counts nodes values readings
 unfolding picked table
-stored-at rule picks counts nodes values readings at e q = ap (λ (k : ℕ). getD values k nan) (e ∙ ap (place counts) q)
+stored-at rule counts nodes values readings at e = ap (λ (k : ℕ). getD values k nan) e
+
+module _ (picks : List ℕ) (counts : List ℕ) (nodes values readings : List Float) where
+  picked-same : (f g : ℕ → List Float → Float → ℕ) → ((a : ℕ) → a < length counts → f a (getD (axesOf counts nodes) a []) (getD readings a nan) ≡ g a (getD (axesOf counts nodes) a []) (getD readings a nan))
+      → picked f counts nodes values readings ≡ picked g counts nodes values readings
+  unfolding picked indices
+  picked-same f g h =
+      ap (table counts values)
+      (tabulate-same (length (axesOf counts nodes)) (λ a. f a (getD (axesOf counts nodes) a []) (getD readings a nan)) (λ a. g a (getD (axesOf counts nodes) a []) (getD readings a nan))
+      (λ a l. h a (omega (arith, length-axes counts nodes))))
+
+  pub picks-nearest : ((a : ℕ) → a < length counts → 2 ≤ getD picks a 0) → picked (pickRule picks) counts nodes values readings ≡ picked nearestRule counts nodes values readings
+  picks-nearest h = picked-same (pickRule picks) nearestRule (λ a l. is-nearest (getD picks a 0) (getD (axesOf counts nodes) a []) (getD readings a nan) (h a l))
+
+  pub picks-step : (directions : List ℕ) → ((a : ℕ) → a < length counts → (getD picks a 0 ≡ getD directions a 0) × (getD picks a 0 < 2))
+      → picked (pickRule picks) counts nodes values readings ≡ picked (stepRule directions) counts nodes values readings
+  picks-step directions h =
+      picked-same (pickRule picks) (stepRule directions)
+      (λ a l.
+      is-step (getD picks a 0) (getD (axesOf counts nodes) a []) (getD readings a nan) (h a l .1)
+      ∙ ap (λ (d : ℕ). stepIndex d (getD (axesOf counts nodes) a []) (getD readings a nan)) (h a l .0))

@@ -16,6 +16,7 @@ use Rattle.ninterp.proofs.interpolator.n.nearest.interpolate.Reads as n
 use Rattle.ninterp.proofs.interpolator.n.step.interpolate.Reads as step-lookup
 use Rattle.ninterp.proofs.interpolator.n.linear.interpolate.Reads as linear-lookup
 use Rattle.ninterp.proofs.interpolator.n.linear_uniform.interpolate.Reads as linear-uniform-lookup
+use Rattle.ninterp.proofs.records.record_answer.Reads as record-answer
 use Rattle.ninterp.proofs.slice.nearest.Reads as nearest-slice
 use Rattle.ninterp.proofs.slice.step.Reads as step-slice
 use Rattle.ninterp.proofs.slice.linear.Reads as linear-slice
@@ -45,6 +46,9 @@ linear-lookup-unique κs a r s x y p q = one-outcome r s _ p q
 
 pub linear-uniform-lookup-unique : (κs : _) (a : _) (r s : Answer) (x y : _) → linear-uniform-lookup.Post κs a r x → linear-uniform-lookup.Post κs a s y → r ≡ s
 linear-uniform-lookup-unique κs a r s x y p q = one-outcome r s _ p q
+
+pub record-answer-unique : (κs : _) (a : _) (r s : Answer) (x y : _) → record-answer.Post κs a r x → record-answer.Post κs a s y → r ≡ s
+record-answer-unique κs a r s x y p q = one-outcome r s _ p q
 
 pub nearest-slice-unique : (κs : _) (a : _) (r s : SliceAnswer) (x y : _) → nearest-slice.Post κs a r x → nearest-slice.Post κs a s y → r ≡ s
 nearest-slice-unique κs a r s x y p q = one-outcome r s _ (p .0) (q .0)

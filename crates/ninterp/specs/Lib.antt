@@ -7,3 +7,5 @@ pub mod Linears
 pub mod Locations
 pub mod Slices
 pub mod LinearSlices
+pub mod Records
+pub mod Kinds

@@ -1,13 +1,16 @@
 -- "The table rules", of the two that never compute a value, and what a lookup by them answers for every input.
-use mathlib.Core.Bool.{cond}
+use mathlib.Core.Path.{_≡_}
+use mathlib.Core.Bool.{true, cond}
 use mathlib.Core.List.{List, []}
-use Prim.Native.Nat.{ℕ, _+_}
+use Prim.Native.Nat.{ℕ, _+_, _≤_, _<_}
 use lib.ListN.{length, getD}
 use lib.Ieee.{Float, nan, binary64, lt, sub}
+use lib.Ieee.Scale.{finite}
 use Rattle.answer.specs.Answer.{answered, _or_}
 use Rattle.answer.specs.declared.Answer.{Answer}
 use Rattle.judge.specs.Check.{node}
-use Rattle.table.specs.Shape.{countsOf, axesOf, table, tabulate}
+use Rattle.table.specs.Shape.{countsOf, size, axesOf, table, tabulate}
+use Rattle.table.specs.Table.{Grid}
 use Rattle.table.specs.declared.Shape.{Shape}
 use Rattle.order.specs.Lookups.{lookupFault, stepFault}
 use Rattle.ninterp.specs.Utils.{lowerIndex, stepIndex}
@@ -39,3 +42,12 @@ nearestAnswer s nodes values readings = lookupFault s nodes values readings or a
 
 unfoldable pub stepAnswer : Shape → List Float → List Float → List Float → List ℕ → Answer
 stepAnswer s nodes values readings directions = stepFault s nodes values readings directions or answered (picked (stepRule directions) (countsOf s) nodes values readings)
+
+-- what follows of a table and a reading passing the checks before a lookup (`lookup-judged`)
+pub record Judged (s : Shape) (nodes values readings : List Float) : Type 0 where
+  pub grid : Grid (countsOf s) nodes
+  pub four : s .axes ≤ 4
+  pub count : length (countsOf s) ≡ s .axes
+  pub stored : length values ≡ size (countsOf s)
+  pub read : length readings ≡ s .axes
+  pub finites : (a : ℕ) → a < s .axes → finite (getD readings a nan) ≡ true

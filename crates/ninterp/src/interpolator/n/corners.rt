@@ -1,4 +1,4 @@
-// The corners of a reading: where they lie in the flat values, and what is stored there.
+// The corners of a reading: where they lie in the flat values, what is stored there, and what it comes to.
 ghost use mathlib.Core.Path.{_≡_};
 ghost use Prim.Native.Nat.{ℕ, _+_, _*_, _^_, _<_, _≤_};
 ghost use lib.ListN.{length, take, getD};
@@ -7,7 +7,10 @@ ghost use Rattle.table.specs.Shape.{countsOf, size, place, table};
 ghost use Rattle.blend.specs.Blend.{linear, computed};
 ghost use Rattle.blend.specs.Rust.{diffs};
 ghost use Rattle.ninterp.specs.Calls.{locationIndex};
-ghost use Rattle.ninterp.specs.Locations.{upperOf, Within, cornerPlace};
+ghost use Rattle.ninterp.specs.Tables.{Judged};
+ghost use Rattle.ninterp.specs.Linears.{interpolated};
+ghost use Rattle.ninterp.specs.Locations.{locationBy, upperOf, Within, cornerPlace};
+use crate::interpolator::n::locate;
 use answer::Answer;
 use blend::AxisLocation;
 use table::Shape;
@@ -89,7 +92,7 @@ fn gather(values: &[f64], places: [usize; 16], count: usize) -> [f64; 16]
 }
 
 // What the corners come to: the value, or 12.
-pub(crate) fn compute(shape: Shape, values: &[f64], locations: [AxisLocation; 4]) -> Answer
+fn compute(shape: Shape, values: &[f64], locations: [AxisLocation; 4]) -> Answer
     requires { ⌜ (shape .axes ≤ 4) × ((size (countsOf shape) ≤ 4096) × (Within (take (shape .axes) locations) (countsOf shape) × (length (now values) ≡ size (countsOf shape)))) ⌝ }
     ensures { λ r. ⌜ r ≡ computed (linear (take (shape .axes) locations) (table (countsOf shape) (now (values .entry)))) ⌝ }
 {
@@ -99,4 +102,19 @@ pub(crate) fn compute(shape: Shape, values: &[f64], locations: [AxisLocation; 4]
     let count = blend::corner_count(locations, axes);
     let vals = gather(values, places, count);
     blend::compute(vals, locations, axes)
+}
+
+// The same of a judged reading, by Linear's rule or by LinearUniform's.
+pub(crate) fn interpolated(
+    uniform: bool,
+    shape: Shape,
+    nodes: &[f64],
+    values: &[f64],
+    point: &[f64],
+) -> Answer
+    requires { ⌜ Judged shape (now nodes) (now values) (now point) ⌝ }
+    ensures { λ r. ⌜ r ≡ computed (interpolated (locationBy uniform) (countsOf shape) (now (nodes .entry)) (now (values .entry)) (now (point .entry))) ⌝ }
+{
+    let locations = locate::all(uniform, shape, nodes, point);
+    compute(shape, values, locations)
 }

@@ -30,6 +30,5 @@ pub fn interpolate(shape: Shape, nodes: &[f64], values: &[f64], point: &[f64]) -
         return fault;
     }
     let picks = [2u8; 4];
-    let at = pick::pick_place(shape, nodes, &picks, point);
-    answer::succeed(values[at])
+    pick::stored(shape, nodes, values, &picks, point)
 }

@@ -8,10 +8,12 @@ ghost use lib.Ieee.Scale.{finite};
 ghost use Rattle.judge.specs.Check.{Axis};
 ghost use Rattle.table.specs.Shape.{countsOf, size, axesOf, place};
 ghost use Rattle.table.specs.Table.{Grid};
-ghost use Rattle.ninterp.specs.Tables.{indices};
+ghost use Rattle.answer.specs.Answer.{answered};
+ghost use Rattle.ninterp.specs.Tables.{indices, picked, Judged};
 ghost use Rattle.ninterp.specs.Picks.{pickIndex, pickRule};
 use crate::interpolator::n::nearest;
 use crate::strategy::utils;
+use answer::Answer;
 use table::Shape;
 
 // The index on one axis.
@@ -27,7 +29,7 @@ pub(crate) fn pick_index(pick: u8, grid: &[f64], point: f64) -> usize
 }
 
 // The flat place of the index list.
-pub(crate) fn pick_place(shape: Shape, nodes: &[f64], picks: &[u8], point: &[f64]) -> usize
+fn pick_place(shape: Shape, nodes: &[f64], picks: &[u8], point: &[f64]) -> usize
     requires { ⌜ Grid (countsOf shape) (now nodes) × ((shape .axes ≤ 4) × ((shape .axes ≤ length (now picks)) × ((shape .axes ≤ length (now point)) × ((a : ℕ) → a < shape .axes → finite (getD (now point) a nan) ≡ true)))) ⌝ }
     ensures { λ r. ⌜ (r ≡ place (countsOf shape) (indices (pickRule (now (picks .entry))) (axesOf (countsOf shape) (now (nodes .entry))) (now (point .entry)))) × (r < size (countsOf shape)) ⌝ }
 {
@@ -45,4 +47,19 @@ pub(crate) fn pick_place(shape: Shape, nodes: &[f64], picks: &[u8], point: &[f64
         a += 1;
     }
     flat
+}
+
+// The value stored at the place that a judged reading picks.
+pub(crate) fn stored(
+    shape: Shape,
+    nodes: &[f64],
+    values: &[f64],
+    picks: &[u8],
+    point: &[f64],
+) -> Answer
+    requires { ⌜ Judged shape (now nodes) (now values) (now point) × (shape .axes ≤ length (now picks)) ⌝ }
+    ensures { λ r. ⌜ r ≡ answered (picked (pickRule (now (picks .entry))) (countsOf shape) (now (nodes .entry)) (now (values .entry)) (now (point .entry))) ⌝ }
+{
+    let at = pick_place(shape, nodes, picks, point);
+    answer::succeed(values[at])
 }

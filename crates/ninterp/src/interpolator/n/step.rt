@@ -18,6 +18,5 @@ pub fn interpolate(
     if fault.number != 0 {
         return fault;
     }
-    let at = pick::pick_place(shape, nodes, directions, point);
-    answer::succeed(values[at])
+    pick::stored(shape, nodes, values, directions, point)
 }

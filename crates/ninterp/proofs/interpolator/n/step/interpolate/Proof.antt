@@ -8,8 +8,8 @@ use Rattle.answer.proofs.Orders.{passes, or-stops, or-goes-on}
 use Rattle.table.specs.Shape.{countsOf}
 use Rattle.table.proofs.Shapes.{length-ids}
 use Rattle.order.specs.Lookups.{stepFault}
-use Rattle.ninterp.specs.Tables.{stepRule, stepAnswer}
-use Rattle.ninterp.proofs.Lookups.{Judged, step-judged, step-lent, step-directions, picks-step, stored-at}
+use Rattle.ninterp.specs.Tables.{stepAnswer, Judged}
+use Rattle.ninterp.proofs.Lookups.{step-judged, step-lent, step-directions, picks-step}
 use mathlib.Core.Bool.{true}
 use Rattle.answer.specs.Answer.{good}
 use borrow.Author.Needs.{needs}
@@ -39,28 +39,16 @@ returns : tie.Need-returns
 unfolding stepAnswer
 returns c = let f = c .before .before in or-stops _ _ (f .step-fault .ensures) _ (c .if1 .taken)
 
-pick-place-requires : tie.Need-pick-place-requires
-pick-place-requires c κs =
-    let j = known c in
-    (j .grid, (j .four, (omega (arith, lent c), (omega (arith, j .read), j .finites))))
-
-mul-succeed : tie.Need-mul-succeed
-mul-succeed c = omega (arith, c .pick-place .ensures .1, known (c .before) .stored)
-
-shared-slice-read-succeed : tie.Need-shared-slice-read-succeed
-shared-slice-read-succeed c = omega (arith, c .before .pick-place .ensures .1, known (c .before .before) .stored)
-
-succeed-requires : tie.Need-succeed-requires
-succeed-requires c κs = search needs
+stored-requires : tie.Need-stored-requires
+stored-requires c κs = (known c, omega (arith, lent c))
 
 returns-2 : tie.Need-returns-2
 unfolding stepAnswer
 returns-2 c =
-    let q = c .before .before in
-    let e = q .before in
-    let f = e .before .before in
+    let e = c .before in
     let s = start e in
-    or-goes-on _ _ (f .step-fault .ensures) _ _ (e .if1 .left) (c .succeed .ensures ∙ ap answered (stored-at (stepRule (now (s .args .directions))) (now (s .args .directions)) (countsOf (s .args .shape)) (now (s .args .nodes)) (now (s .args .values)) (now (s .args .point)) _ (q .pick-place .ensures .0) (picks-step (now (s .args .directions)) (countsOf (s .args .shape)) (now (s .args .nodes)) (now (s .args .point)) (λ a l. step-directions (s .args .shape) (four s) (now (s .args .nodes)) (now (s .args .values)) (now (s .args .point)) (now (s .args .directions)) (passed e) a (omega (arith, known e .count))))))
+    let ds = now (s .args .directions) in
+    or-goes-on _ _ (e .before .before .step-fault .ensures) _ _ (e .if1 .left) (c .stored .ensures ∙ ap answered (picks-step ds (countsOf (s .args .shape)) (now (s .args .nodes)) (now (s .args .values)) (now (s .args .point)) ds (λ a l. (refl, step-directions (s .args .shape) (four s) (now (s .args .nodes)) (now (s .args .values)) (now (s .args .point)) ds (passed e) a (omega (arith, known e .count))))))
 
 pub interpolate-spec : {M : Type 1} → statement M
 interpolate-spec =
@@ -68,8 +56,5 @@ interpolate-spec =
     (tie.spec
     step-fault-requires
     returns
-    pick-place-requires
-    mul-succeed
-    shared-slice-read-succeed
-    succeed-requires
+    stored-requires
     returns-2)

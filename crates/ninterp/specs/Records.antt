@@ -1,0 +1,39 @@
+-- "The program and one whole run": what a record is answered, for every table and every list of bytes.
+use mathlib.Core.Bool.{cond}
+use mathlib.Core.List.{List}
+use Prim.Native.Nat.{ℕ, _+_, _*_}
+use lib.Dec.{ltb, eqb}
+use lib.ListN.{length, getD}
+use lib.Ieee.{Float}
+use Rattle.answer.specs.Answer.{refused}
+use Rattle.answer.specs.declared.Answer.{Answer}
+use Rattle.words.specs.Words.{floatAt}
+use Rattle.table.specs.Shape.{tabulate}
+use Rattle.table.specs.declared.Shape.{Shape}
+use Rattle.ninterp.specs.Tables.{nearestAnswer, stepAnswer}
+use Rattle.ninterp.specs.Linears.{linearAnswer, linearUniformAnswer}
+
+-- "all lower", "all upper": one direction for each axis
+abbrev pub allOf : Shape → ℕ → List ℕ
+allOf s direction = tabulate (s .axes) (λ a. direction)
+
+-- "a kind byte (0 Linear, 1 LinearUniform, 2 Nearest, 3 Step all lower, 4 Step all upper)"; 9: "(program: unknown kind)", "(program: 0, 0)"
+unfoldable pub kindAnswer : ℕ → Shape → List Float → List Float → List Float → Answer
+kindAnswer kind s nodes values readings =
+    cond (eqb kind 0) (linearAnswer s nodes values readings)
+    (cond (eqb kind 1) (linearUniformAnswer s nodes values readings)
+    (cond (eqb kind 2) (nearestAnswer s nodes values readings)
+    (cond (eqb kind 3) (stepAnswer s nodes values readings (allOf s 0))
+    (cond (eqb kind 4) (stepAnswer s nodes values readings (allOf s 1)) (refused 9 0 0)))))
+
+-- "a kind byte .. and one f64 per axis"
+abbrev pub recordSize : Shape → ℕ
+recordSize s = 1 + 8 * s .axes
+
+unfoldable pub recordReadings : Shape → List ℕ → List Float
+recordReadings s rec = tabulate (s .axes) (λ a. floatAt rec (1 + 8 * a))
+
+-- "A short last record prints `no 3 0 2`"
+unfoldable pub recordAnswer : Shape → List Float → List Float → List ℕ → Answer
+recordAnswer s nodes values rec =
+    cond (ltb (length rec) (recordSize s)) (refused 3 0 2) (kindAnswer (getD rec 0 0) s nodes values (recordReadings s rec))

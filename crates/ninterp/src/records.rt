@@ -1,0 +1,145 @@
+// The program's records: a kind byte and one reading for each axis. What a table's own checks give is found once and lent to each record.
+ghost use mathlib.Core.Path.{_≡_};
+ghost use mathlib.Core.Bool.{true};
+ghost use Prim.Native.Nat.{ℕ, _+_, _*_, _≤_};
+ghost use lib.Dec.{leb, eqb};
+ghost use lib.ListN.{length, take, getD};
+ghost use Rattle.answer.specs.Answer.{good, when, _or_};
+ghost use Rattle.table.specs.Shape.{countsOf};
+ghost use Rattle.table.specs.Table.{readingsFault, rangesFault};
+ghost use Rattle.uniform.specs.Uniform.{axesUniformFault};
+ghost use Rattle.ninterp.specs.Tables.{Judged};
+ghost use Rattle.ninterp.specs.Records.{kindAnswer, recordSize, recordReadings, recordAnswer};
+ghost use Rattle.ninterp.specs.Kinds.{tableFault, kindFault, pickOf, kindFound};
+use crate::interpolator::n::corners;
+use crate::interpolator::n::pick;
+use answer::Answer;
+use table::Shape;
+
+// ---- what is judged
+
+// 1 to 7.
+fn table_fault(shape: Shape, nodes: &[f64], values: &[f64]) -> Answer
+    ensures { λ r. ⌜ r ≡ tableFault shape (now (nodes .entry)) (now (values .entry)) ⌝ }
+{
+    let fault = table::frame_fault(shape, nodes.len(), values.len());
+    if fault.number != 0 {
+        return fault;
+    }
+    order::table_fault(shape, nodes, values)
+}
+
+// 8, of LinearUniform alone.
+fn uniform_row(kind: u8, uniform: Answer) -> Answer
+    ensures { λ r. ⌜ r ≡ when (eqb kind 1) uniform ⌝ }
+{
+    if kind == 1 { uniform } else { answer::pass() }
+}
+
+// 9 of an unknown kind, 1 to 7 as they were found, 8.
+fn kind_fault(kind: u8, table: Answer, uniform: Answer) -> Answer
+    ensures { λ r. ⌜ r ≡ kindFault kind table uniform ⌝ }
+{
+    if kind > 4 {
+        return answer::refuse(9, 0, 0);
+    }
+    if table.number != 0 {
+        return table;
+    }
+    uniform_row(kind, uniform)
+}
+
+// ---- what is found
+
+fn pick_of(kind: u8) -> u8
+    requires { ⌜ 2 ≤ kind ⌝ }
+    ensures { λ r. ⌜ r ≡ pickOf kind ⌝ }
+{
+    if kind == 2 { 2 } else { kind - 3 }
+}
+
+// What a known kind comes to where nothing was refused before 12.
+fn found(kind: u8, shape: Shape, nodes: &[f64], values: &[f64], point: &[f64]) -> Answer
+    requires { ⌜ Judged shape (now nodes) (now values) (now point) ⌝ }
+    ensures { λ r. ⌜ r ≡ kindFound kind shape (now (nodes .entry)) (now (values .entry)) (now (point .entry)) ⌝ }
+{
+    if kind < 2 {
+        return corners::interpolated(kind == 1, shape, nodes, values, point);
+    }
+    let picks = [pick_of(kind); 4];
+    pick::stored(shape, nodes, values, &picks, point)
+}
+
+// 10; 11; and what is found.
+fn point_answer(kind: u8, shape: Shape, nodes: &[f64], values: &[f64], point: &[f64]) -> Answer
+    requires { ⌜ (good (tableFault shape (now nodes) (now values)) ≡ true) × (length (now point) ≡ shape .axes) ⌝ }
+    ensures { λ r. ⌜ r ≡ ((readingsFault (now (point .entry)) or rangesFault (countsOf shape) (now (nodes .entry)) (now (point .entry))) or kindFound kind shape (now (nodes .entry)) (now (values .entry)) (now (point .entry))) ⌝ }
+{
+    let fault = order::inside_fault(shape, nodes, point);
+    if fault.number != 0 {
+        return fault;
+    }
+    found(kind, shape, nodes, values, point)
+}
+
+// ---- a record
+
+// The readings of a record, one for each axis.
+fn readings_of(rec: &[u8], shape: Shape) -> [f64; 4]
+    requires { ⌜ shape .axes ≤ 4 ⌝ }
+    ensures { λ r. ⌜ take (shape .axes) r ≡ recordReadings shape (now (rec .entry)) ⌝ }
+{
+    let axes = shape.axes;
+    let mut found = [0.0f64; 4];
+    let mut a: usize = 0;
+    while a < axes {
+        let reading = words::float(rec, 1 + 8 * a);
+        found[a] = reading;
+        a += 1;
+    }
+    found
+}
+
+// A whole record of a table of which it is known what 1 to 7 and 8 give.
+fn whole_answer(
+    shape: Shape,
+    nodes: &[f64],
+    values: &[f64],
+    table: Answer,
+    uniform: Answer,
+    rec: &[u8],
+) -> Answer
+    requires { ⌜ (table ≡ tableFault shape (now nodes) (now values)) × ((uniform ≡ axesUniformFault (countsOf shape) (now nodes)) × (recordSize shape ≤ length (now rec))) ⌝ }
+    ensures { λ r. ⌜ r ≡ kindAnswer (getD (now (rec .entry)) 0 0) shape (now (nodes .entry)) (now (values .entry)) (recordReadings shape (now (rec .entry))) ⌝ }
+{
+    let kind = rec[0];
+    let fault = kind_fault(kind, table, uniform);
+    if fault.number != 0 {
+        return fault;
+    }
+    let axes = shape.axes;
+    let readings = readings_of(rec, shape);
+    point_answer(kind, shape, nodes, values, &readings[..axes])
+}
+
+// Whether so many bytes are a whole record.
+fn is_whole(shape: Shape, len: usize) -> bool
+    ensures { λ r. ⌜ r ≡ leb (recordSize shape) len ⌝ }
+{
+    if len == 0 {
+        return false;
+    }
+    shape.axes <= (len - 1) / 8
+}
+
+// What a record is answered, in a table that is judged for it alone.
+pub fn record_answer(shape: Shape, nodes: &[f64], values: &[f64], rec: &[u8]) -> Answer
+    ensures { λ r. ⌜ r ≡ recordAnswer shape (now (nodes .entry)) (now (values .entry)) (now (rec .entry)) ⌝ }
+{
+    if !is_whole(shape, rec.len()) {
+        return answer::refuse(3, 0, 2);
+    }
+    let table = table_fault(shape, nodes, values);
+    let uniform = uniform::axes_uniform_fault(shape, nodes);
+    whole_answer(shape, nodes, values, table, uniform, rec)
+}

@@ -21,3 +21,4 @@ pub mod Alongs
 pub mod LinearDemands
 pub mod LinearLaw
 pub mod KindOrder
+pub mod RecordLines

@@ -1,6 +1,7 @@
 -- Each contract of a public function, as it stands in the source (`Post`), allows one outcome.
-use mathlib.Core.Path.{_≡_}
+use mathlib.Core.Path.{_≡_, ap₂}
 use mathlib.Core.List.{List}
+use Prim.Native.Nat.{ℕ}
 use denote.Ref.{now}
 use lib.Ieee.{Float}
 use Rattle.answer.proofs.Outcome.{one-outcome}
@@ -17,11 +18,14 @@ use Rattle.ninterp.proofs.interpolator.n.step.interpolate.Reads as step
 use Rattle.ninterp.proofs.interpolator.n.linear.interpolate.Reads as linear-lookup
 use Rattle.ninterp.proofs.interpolator.n.linear_uniform.interpolate.Reads as linear-uniform-lookup
 use Rattle.ninterp.proofs.records.record_answer.Reads as record-answer
+use Rattle.ninterp.proofs.records.block.answer_block.Reads as answer-block
 use Rattle.ninterp.proofs.slice.nearest.Reads as nearest-slice
 use Rattle.ninterp.proofs.slice.step.Reads as step-slice
 use Rattle.ninterp.proofs.slice.linear.Reads as linear-slice
 use Rattle.ninterp.proofs.slice.linear_uniform.Reads as linear-uniform-slice
 use Rattle.ninterp.specs.declared.slice.SliceAnswer.{SliceAnswer}
+use Rattle.ninterp.specs.declared.records.block.Done.{Done}
+use Rattle.lines.proofs.Unique.{block-count, block-written, block-bytes}
 
 pub locate-lower-index-unique : (κs : _) (a : _) (r s : IndexAnswer) (x y : _) → locate-lower-index.Post κs a r x → locate-lower-index.Post κs a s y → r ≡ s
 locate-lower-index-unique κs a r s x y p q = one-outcome r s _ p q
@@ -50,6 +54,9 @@ linear-uniform-lookup-unique κs a r s x y p q = one-outcome r s _ p q
 pub record-answer-unique : (κs : _) (a : _) (r s : Answer) (x y : _) → record-answer.Post κs a r x → record-answer.Post κs a s y → r ≡ s
 record-answer-unique κs a r s x y p q = one-outcome r s _ p q
 
+pub answer-block-unique : (κs : _) (a : _) (r s : Done) (x y : _) → answer-block.Post κs a r x → answer-block.Post κs a s y → r ≡ s
+answer-block-unique κs a r s x y p q = ap₂ (λ (m n : ℕ). record { count = m; written = n }) (block-count p q) (block-written p q)
+
 pub nearest-slice-unique : (κs : _) (a : _) (r s : SliceAnswer) (x y : _) → nearest-slice.Post κs a r x → nearest-slice.Post κs a s y → r ≡ s
 nearest-slice-unique κs a r s x y p q = one-outcome r s _ (p .0) (q .0)
 
@@ -74,3 +81,6 @@ linear-slice-output κs a r s x y p q = one-outcome (now (x .1 .1 .1 .1 .1 .0)) 
 
 pub linear-uniform-slice-output : (κs : _) (a : _) (r s : SliceAnswer) (x y : _) → linear-uniform-slice.Post κs a r x → linear-uniform-slice.Post κs a s y → _≡_ {A = List Float} (now (x .1 .1 .1 .1 .1 .0)) (now (y .1 .1 .1 .1 .1 .0))
 linear-uniform-slice-output κs a r s x y p q = one-outcome (now (x .1 .1 .1 .1 .1 .0)) (now (y .1 .1 .1 .1 .1 .0)) _ (p .1) (q .1)
+
+pub answer-block-output : (κs : _) (a : _) (r s : Done) (x y : _) → answer-block.Post κs a r x → answer-block.Post κs a s y → _≡_ {A = List ℕ} (now (x .1 .1 .1 .1 .1 .0)) (now (y .1 .1 .1 .1 .1 .0))
+answer-block-output κs a r s x y p q = block-bytes p q

@@ -8,6 +8,8 @@ use lib.Ieee.{Float}
 use Rattle.answer.specs.Answer.{refused}
 use Rattle.answer.specs.declared.Answer.{Answer}
 use Rattle.words.specs.Words.{floatAt}
+use Rattle.lines.specs.Line.{lineOf, longest}
+use Rattle.lines.specs.Stream.{Rule}
 use Rattle.table.specs.Shape.{tabulate}
 use Rattle.table.specs.declared.Shape.{Shape}
 use Rattle.ninterp.specs.Tables.{nearestAnswer, stepAnswer}
@@ -37,3 +39,7 @@ recordReadings s rec = tabulate (s .axes) (λ a. floatAt rec (1 + 8 * a))
 unfoldable pub recordAnswer : Shape → List Float → List Float → List ℕ → Answer
 recordAnswer s nodes values rec =
     cond (ltb (length rec) (recordSize s)) (refused 3 0 2) (kindAnswer (getD rec 0 0) s nodes values (recordReadings s rec))
+
+-- what the program prints of the records of a table, by the laws of lines that come of records
+abbrev pub recordRule : Shape → List Float → List Float → Rule
+recordRule s nodes values = record { size = recordSize s; line = λ rec. lineOf (recordAnswer s nodes values rec); cut = lineOf (refused 3 0 2); longest = longest }

@@ -11,6 +11,9 @@ ghost use Rattle.uniform.specs.Uniform.{axesUniformFault};
 ghost use Rattle.ninterp.specs.Tables.{Judged};
 ghost use Rattle.ninterp.specs.Records.{kindAnswer, recordSize, recordReadings, recordAnswer};
 ghost use Rattle.ninterp.specs.Kinds.{tableFault, kindFault, pickOf, kindFound};
+
+pub mod block;
+
 use crate::interpolator::n::corners;
 use crate::interpolator::n::pick;
 use answer::Answer;
@@ -19,7 +22,7 @@ use table::Shape;
 // ---- what is judged
 
 // 1 to 7.
-fn table_fault(shape: Shape, nodes: &[f64], values: &[f64]) -> Answer
+pub(crate) fn table_fault(shape: Shape, nodes: &[f64], values: &[f64]) -> Answer
     ensures { λ r. ⌜ r ≡ tableFault shape (now (nodes .entry)) (now (values .entry)) ⌝ }
 {
     let fault = table::frame_fault(shape, nodes.len(), values.len());
@@ -101,7 +104,7 @@ fn readings_of(rec: &[u8], shape: Shape) -> [f64; 4]
 }
 
 // A whole record of a table of which it is known what 1 to 7 and 8 give.
-fn whole_answer(
+pub(crate) fn whole_answer(
     shape: Shape,
     nodes: &[f64],
     values: &[f64],
@@ -123,7 +126,7 @@ fn whole_answer(
 }
 
 // Whether so many bytes are a whole record.
-fn is_whole(shape: Shape, len: usize) -> bool
+pub(crate) fn is_whole(shape: Shape, len: usize) -> bool
     ensures { λ r. ⌜ r ≡ leb (recordSize shape) len ⌝ }
 {
     if len == 0 {

@@ -35,13 +35,25 @@ unfolding total
 total-few [] h = omega arith
 total-few (c ∷ cs) h = let x : c ≤ 64 = h 0 (omega arith) in omega (arith, x, total-few cs (λ a l. h (suc a) (omega arith)))
 
+-- its nodes are few
+module _ (s : Shape) (h : good (shapeFault s) ≡ true) where
+  pub total-small : total (countsOf s) ≤ 256
+  total-small =
+      let n : length (countsOf s) ≤ 4 = omega (arith, length-take (s .axes) (s .counts), shape-four s h) in
+      omega (arith, total-few (countsOf s) each, n)
+    where
+      each : (a : ℕ) → a < length (countsOf s) → getD (countsOf s) a 0 ≤ 64
+      each a l =
+          let m : a < s .axes = omega (arith, length-take (s .axes) (s .counts), l) in
+          omega (arith, getD-take (s .axes) (s .counts) a 0 m, shape-few s h a m)
+
 -- ---- floats
 pub length-floats : (img : List ℕ) (at n : ℕ) → length (floatsAt img at n) ≡ n
 unfolding floatsAt
 length-floats img at zero = refl
 length-floats img at (suc n) = ap suc (length-floats img (at + 8) n)
 
-sets-append : {A : Type 0} (a b l : List A) (i : ℕ) → sets l i (a ++ b) ≡ sets (sets l i a) (i + length a) b
+pub sets-append : {A : Type 0} (a b l : List A) (i : ℕ) → sets l i (a ++ b) ≡ sets (sets l i a) (i + length a) b
 sets-append [] b l i = ap (λ (k : ℕ). sets l k b) (sym (add-zero i))
 sets-append (x ∷ a) b l i =
     let e : suc i + length a ≡ i + suc (length a) = omega arith in
@@ -132,19 +144,6 @@ module _ (img : List ℕ) (h : good (shapeFault (shapeOf img)) ≡ true) where
       same : tabulate (axesField img) (λ i. countField img (0 + i)) ≡ tabulate (axesField img) (countField img)
       same = tabulate-same (axesField img) (λ i. countField img (0 + i)) (countField img) (λ i l. ap (countField img) (omega arith))
 
-  pub total-small : total (countsOf (shapeOf img)) ≤ 256
-  total-small =
-      let n : length (countsOf (shapeOf img)) ≤ 4 = length-few in
-      omega (arith, total-few (countsOf (shapeOf img)) each, n)
-    where
-      length-few : length (countsOf (shapeOf img)) ≤ 4
-      length-few = unfold shapeOf in (omega (arith, length-take (axesField img) (tabulate 4 (countField img)), axes-four))
-
-      each : (a : ℕ) → a < length (countsOf (shapeOf img)) → getD (countsOf (shapeOf img)) a 0 ≤ 64
-      each a l =
-          let m : a < shapeOf img .axes = omega (arith, length-take (shapeOf img .axes) (shapeOf img .counts), l) in
-          omega (arith, getD-take (shapeOf img .axes) (shapeOf img .counts) a 0 m, shape-few (shapeOf img) h a m)
-
   pub size-small : size (countsOf (shapeOf img)) ≤ 4096
   size-small = shape-size (shapeOf img) h
 
@@ -153,7 +152,7 @@ unfolding valuesIn
 values-size img = length-floats img _ (size (countsOf (shapeOf img)))
 
 -- ---- a list written from its front
-pub sets-front : (xs out : List Float) → length xs ≤ length out → sets out 0 xs ≡ xs ++ drop (length xs) out
+pub sets-front : {A : Type 0} (xs out : List A) → length xs ≤ length out → sets out 0 xs ≡ xs ++ drop (length xs) out
 sets-front xs out h = let e : 0 + length xs ≡ length xs = omega arith in sets-eq xs out 0 (omega (arith, h)) ∙ ap (λ (k : ℕ). xs ++ drop k out) e
 
 pub front-read : (xs out : List Float) (n : ℕ) → n ≡ length xs → length xs ≤ length out → take (n - 0) (drop 0 (sets out 0 xs)) ≡ xs

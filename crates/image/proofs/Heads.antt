@@ -19,7 +19,7 @@ use Rattle.table.proofs.Layouts.{getD-tabulate}
 use Rattle.words.specs.Words.{wordAt}
 use Rattle.image.specs.Image.{axesField, countField, shapeOf}
 use Rattle.image.specs.Load.{fieldFault, shortFault, axesRow, lengthRow, startFault, countRow, productRow, offsetRow, headFault}
-use Rattle.image.proofs.Rows.{count-used}
+use Rattle.image.proofs.Rows.{field-is, count-used, count-unused}
 
 pub shape-same : (img : List ℕ) (n a b c d : ℕ) → n ≡ axesField img → a ≡ countField img 0 → b ≡ countField img 1 → c ≡ countField img 2 → d ≡ countField img 3
     → _≡_ {A = Shape} (record { axes = n; counts = a ∷ b ∷ c ∷ d ∷ [] }) (shapeOf img)
@@ -66,3 +66,10 @@ head-shape img h =
     let c : good (firstOf (countRow img) 0 4) ≡ true = orders.first-passed (firstOf (countRow img) 0 4) _ h1 in
     let p : good (productRow (shapeOf img)) ≡ true = orders.first-passed (productRow (shapeOf img)) _ (orders.second-passed (firstOf (countRow img) 0 4) _ h1) in
     ap good (product-only img (start-axes img s) c) ∙ p
+
+-- its unused counts are zero
+pub unused-zero : (img : List ℕ) → good (headFault img) ≡ true → (a : ℕ) → a < 4 → axesField img ≤ a → countField img a ≡ 0
+unfolding headFault
+unused-zero img h a m l =
+    let c : good (firstOf (countRow img) 0 4) ≡ true = orders.first-passed (firstOf (countRow img) 0 4) _ (orders.second-passed (startFault img) _ h) in
+    field-is (8 + 2 * a) 0 (countField img a) (ap good (count-unused img a l) ∙ orders.all-passed (countRow img) 0 4 c a (omega arith) (omega (arith, m)))

@@ -12,7 +12,7 @@ use Rattle.answer.proofs.Orders as orders
 use Rattle.table.specs.Shape.{countsOf}
 use Rattle.table.specs.Table.{shapeFault, axesFault, valuesFault}
 use Rattle.image.specs.Image.{shapeOf, nodesIn, valuesIn}
-use Rattle.image.specs.Load.{headFault, areasFault, roomsFault, contentsFault, loadFault, loadedInto}
+use Rattle.image.specs.Load.{headFault, areasFault, roomsFault, contentsFault, loadFault, filledInto}
 use Rattle.image.proofs.Heads.{head-shape}
 
 -- every condition of the paper, in its order
@@ -48,13 +48,13 @@ module _ (img : List ℕ) (nodes values : ℕ) where
   pub loaded-shape : good (loadFault img nodes values) ≡ true → good (shapeFault (shapeOf img)) ≡ true
   loaded-shape h = head-shape img (load-means h .head)
 
--- a refusal leaves an output as it was; what lies beyond the table is never touched
-pub refused-keeps : (a : Answer) (xs out : List Float) → good a ≡ false → loadedInto a xs out ≡ out
-unfolding loadedInto given
+-- a refusal leaves an output as it was; what lies beyond what is written is never touched
+pub refused-keeps : {A : Type 0} (a : Answer) (xs out : List A) → good a ≡ false → filledInto a xs out ≡ out
+unfolding filledInto given
 refused-keeps a xs out h = ap (λ (t : Bool). cond t (xs ++ drop (length xs) out) out) h
 
-pub beyond-kept : (a : Answer) (xs out : List Float) → drop (length xs) (loadedInto a xs out) ≡ drop (length xs) out
-unfolding loadedInto given
+pub beyond-kept : {A : Type 0} (a : Answer) (xs out : List A) → drop (length xs) (filledInto a xs out) ≡ drop (length xs) out
+unfolding filledInto given
 beyond-kept a xs out = go (good a)
   where
     go : (t : Bool) → drop (length xs) (cond t (xs ++ drop (length xs) out) out) ≡ drop (length xs) out

@@ -16,7 +16,7 @@ use Rattle.table.specs.Shape.{countsOf, size, total}
 use Rattle.table.specs.Table.{shapeFault}
 use Rattle.table.specs.declared.Shape.{Shape}
 use Rattle.image.specs.Image.{shapeOf, nodesIn, valuesIn}
-use Rattle.image.specs.Load.{headFault, areasFault, roomRow, roomsFault, contentsFault, loadFault, noShape, loadAnswer, loadedInto}
+use Rattle.image.specs.Load.{headFault, areasFault, roomRow, roomsFault, contentsFault, loadFault, noShape, loadAnswer, filledInto}
 use Rattle.image.specs.declared.LoadAnswer.{LoadAnswer}
 use Rattle.image.proofs.Heads.{head-shape}
 use Rattle.image.proofs.Floats.{nodes-total, values-size, sets-front}
@@ -30,13 +30,19 @@ module _ (img : List ℕ) (nodes values : ℕ) (r : Answer) (e : r ≡ loadFault
   unfolding loadAnswer
   load-made h z q = ap₂ (λ (a : Answer) (s : Shape). record { answer = a; shape = s }) e (orders.given-kept r (loadFault img nodes values) e (shapeOf img) noShape z h q)
 
-  pub out-kept : (r .number ≡ 0 → ⊥) → (xs out : List Float) → out ≡ loadedInto (loadFault img nodes values) xs out
-  unfolding loadedInto
-  out-kept h xs out = orders.given-refused r (loadFault img nodes values) e (xs ++ drop (length xs) out) out h
+-- an output after a call, by its answer
+module _ {A : Type 0} (a r : Answer) (e : r ≡ a) (xs out : List A) where
+  pub out-kept : (r .number ≡ 0 → ⊥) → out ≡ filledInto a xs out
+  unfolding filledInto
+  out-kept h = orders.given-refused r a e (xs ++ drop (length xs) out) out h
 
-  pub out-filled : r .number ≡ 0 → (xs out after : List Float) → length xs ≤ length out → after ≡ sets out 0 xs → after ≡ loadedInto (loadFault img nodes values) xs out
-  unfolding loadedInto
-  out-filled h xs out after l q = orders.given-kept r (loadFault img nodes values) e (xs ++ drop (length xs) out) out after h (q ∙ sets-front xs out l)
+  pub out-filled : r .number ≡ 0 → (after : List A) → length xs ≤ length out → after ≡ sets out 0 xs → after ≡ filledInto a xs out
+  unfolding filledInto
+  out-filled h after l q = orders.given-kept r a e (xs ++ drop (length xs) out) out after h (q ∙ sets-front xs out l)
+
+pub room-there : (place wanted room : ℕ) → good (roomRow place wanted room) ≡ true → wanted ≤ room
+unfolding roomRow
+room-there place wanted room g = ltb-false room wanted (orders.row-good (ltb room wanted) 14 0 place g)
 
 -- ---- what is known where every check was passed
 module _ (img : List ℕ) (nodes values : ℕ) (h : good (loadFault img nodes values) ≡ true) where
@@ -50,10 +56,6 @@ module _ (img : List ℕ) (nodes values : ℕ) (h : good (loadFault img nodes va
   rooms-good : good (roomsFault (shapeOf img) nodes values) ≡ true
   unfolding loadFault
   rooms-good = orders.first-passed (roomsFault (shapeOf img) nodes values) _ (orders.second-passed (areasFault img) _ (orders.second-passed (headFault img) _ h))
-
-  room-there : (place wanted room : ℕ) → good (roomRow place wanted room) ≡ true → wanted ≤ room
-  unfolding roomRow
-  room-there place wanted room g = ltb-false room wanted (orders.row-good (ltb room wanted) 14 0 place g)
 
   pub nodes-room : total (countsOf (shapeOf img)) ≤ nodes
   unfolding roomsFault

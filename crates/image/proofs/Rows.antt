@@ -3,13 +3,13 @@ use mathlib.Core.Path.{_≡_, refl, sym, ap, ap₂, _∙_}
 use mathlib.Core.Bool.{Bool, true, false, not, _&&_, cond}
 use mathlib.Core.List.{List}
 use Prim.Native.Nat.{ℕ, _+_, _*_, _%_, _≤_, _<_}
-use borrow.Author.Tests.{eq-eqb, ne-eqb, lt-ltb, le-ltb, le-leb, lt-leb}
+use borrow.Author.Tests.{eqb-true, eq-eqb, ne-eqb, lt-ltb, le-ltb, le-leb, lt-leb}
 use lib.Dec.{eqb, leb, ltb}
 use lib.ListN.{length}
-use Rattle.answer.specs.Answer.{refused, fine}
-use Rattle.answer.proofs.Orders.{row-met, row-passed}
+use Rattle.answer.specs.Answer.{refused, fine, good}
+use Rattle.answer.proofs.Orders.{row-met, row-passed, row-good}
 use Rattle.judge.specs.Check.{countFault}
-use Rattle.judge.proofs.Rows.{and-false}
+use Rattle.judge.proofs.Rows.{and-false, not-false}
 use Rattle.image.specs.Image.{axesField, countField}
 use Rattle.image.specs.Load.{fieldFault, shortFault, axesRow, lengthRow, countRow, areaFault, roomRow}
 
@@ -21,6 +21,10 @@ module _ (place wanted x : ℕ) where
   pub field-right : x ≡ wanted → fine ≡ fieldFault place wanted x
   unfolding fieldFault
   field-right h = row-passed (not (eqb x wanted)) 12 0 place (ap not (eq-eqb x wanted h))
+
+  pub field-is : good (fieldFault place wanted x) ≡ true → x ≡ wanted
+  unfolding fieldFault
+  field-is h = eqb-true x wanted (not-false (eqb x wanted) (row-good (not (eqb x wanted)) 12 0 place h))
 
 pub short-wrong : (len : ℕ) → len < 40 → refused 13 0 0 ≡ shortFault len
 unfolding shortFault

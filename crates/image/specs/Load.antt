@@ -92,6 +92,6 @@ noShape = record { axes = 0; counts = 0 ∷ 0 ∷ 0 ∷ 0 ∷ [] }
 unfoldable pub loadAnswer : List ℕ → ℕ → ℕ → LoadAnswer
 loadAnswer img nodes values = record { answer = loadFault img nodes values; shape = given (loadFault img nodes values) (shapeOf img) noShape }
 
--- an output after loading: filled from its front, its rest as it was; on a refusal as it was
-unfoldable pub loadedInto : Answer → List Float → List Float → List Float
-loadedInto a xs out = given a (xs ++ drop (length xs) out) out
+-- an output after a call: filled from its front, its rest as it was; on a refusal as it was
+unfoldable pub filledInto : {A : Type 0} → Answer → List A → List A → List A
+filledInto a xs out = given a (xs ++ drop (length xs) out) out

@@ -2,7 +2,7 @@
 ghost use mathlib.Core.Path.{_≡_};
 ghost use lib.ListN.{length};
 ghost use Rattle.image.specs.Image.{nodesIn, valuesIn};
-ghost use Rattle.image.specs.Load.{loadFault, loadAnswer, loadedInto, noShape};
+ghost use Rattle.image.specs.Load.{loadFault, loadAnswer, filledInto, noShape};
 
 pub(crate) mod areas;
 pub(crate) mod contents;
@@ -47,7 +47,7 @@ fn load_fault(img: &[u8], nodes: usize, values: usize) -> Answer
 
 // Reads a table out of an image into two outputs, which may be longer.
 pub fn load(img: &[u8], nodes: &mut [f64], values: &mut [f64]) -> LoadAnswer
-    ensures { λ r. ⌜ (r ≡ loadAnswer (now (img .entry)) (length (now (nodes .entry))) (length (now (values .entry)))) × ((now (nodes .exit) ≡ loadedInto (loadFault (now (img .entry)) (length (now (nodes .entry))) (length (now (values .entry)))) (nodesIn (now (img .entry))) (now (nodes .entry))) × (now (values .exit) ≡ loadedInto (loadFault (now (img .entry)) (length (now (nodes .entry))) (length (now (values .entry)))) (valuesIn (now (img .entry))) (now (values .entry)))) ⌝ }
+    ensures { λ r. ⌜ (r ≡ loadAnswer (now (img .entry)) (length (now (nodes .entry))) (length (now (values .entry)))) × ((now (nodes .exit) ≡ filledInto (loadFault (now (img .entry)) (length (now (nodes .entry))) (length (now (values .entry)))) (nodesIn (now (img .entry))) (now (nodes .entry))) × (now (values .exit) ≡ filledInto (loadFault (now (img .entry)) (length (now (nodes .entry))) (length (now (values .entry)))) (valuesIn (now (img .entry))) (now (values .entry)))) ⌝ }
 {
     let answer = load_fault(img, nodes.len(), values.len());
     if answer.number != 0 {

@@ -42,7 +42,7 @@ returns c =
     let f = c .before .before .before in
     let s = start f in
     let no = c .before .if1 .taken in
-    (load-refused _ _ _ _ (f .load-fault .ensures) no _ (c .no-shape .ensures), (out-kept _ _ _ _ (f .load-fault .ensures) no _ (now (s .args .nodes)), out-kept _ _ _ _ (f .load-fault .ensures) no _ (now (s .args .values))))
+    (load-refused _ _ _ _ (f .load-fault .ensures) no _ (c .no-shape .ensures), (out-kept _ _ (f .load-fault .ensures) _ (now (s .args .nodes)) no, out-kept _ _ (f .load-fault .ensures) _ (now (s .args .values)) no))
 
 -- src/lib.rt:57:5
 read-nodes-requires : tie.Need-read-nodes-requires
@@ -75,8 +75,8 @@ returns-2 c =
     let yes = d .if1 .left in (
       load-made _ _ _ _ (f .load-fault .ensures) yes _ (c .shape-of .ensures),
       (
-        out-filled _ _ _ _ (f .load-fault .ensures) yes (nodesIn (now (s .args .img))) (now (s .args .nodes)) _ (nodes-fit _ _ _ (known d)) (m .read-nodes .ensures),
-        out-filled _ _ _ _ (f .load-fault .ensures) yes (valuesIn (now (s .args .img))) (now (s .args .values)) _ (values-fit _ _ _ (known d)) (w .read-values .ensures),
+        out-filled _ _ (f .load-fault .ensures) (nodesIn (now (s .args .img))) (now (s .args .nodes)) yes _ (nodes-fit _ _ _ (known d)) (m .read-nodes .ensures),
+        out-filled _ _ (f .load-fault .ensures) (valuesIn (now (s .args .img))) (now (s .args .values)) yes _ (values-fit _ _ _ (known d)) (w .read-values .ensures),
       ),
     )
 

@@ -1,0 +1,10 @@
+pub mod Puts
+pub mod Headers
+pub mod Images
+pub mod Writes
+pub mod Laws
+pub mod Back
+pub mod Made
+pub mod Trip
+pub mod Unique
+pub mod Examples

@@ -1,0 +1,301 @@
+-- "Writing and loading returns the table; loading and writing gives an image that loads the same." Assumes nothing.
+use mathlib.Core.Path.{_≡_, refl, sym, ap, ap₂, _∙_, subst}
+use mathlib.Core.Bool.{Bool, true, false, cond}
+use mathlib.Core.List.{List, [], _∷_, _++_}
+use Prim.Native.Nat.{ℕ, zero, suc, _+_, _-_, _*_, _%_, _≤_, _<_}
+use native.Mathlib.Omega.{arith}
+use borrow.Author.Tests.{ltb-true, ltb-false, le-ltb}
+use lib.Dec.{ltb}
+use lib.ListN.{length, take, drop, getD, length-take}
+use lib.Seq.{getD-take, take-at}
+use lib.Ieee.{Float, binary64}
+use lib.Ieee.Fits.{nan-fits}
+use Rattle.answer.specs.Answer.{fine, good, _or_, firstOf, given}
+use Rattle.answer.specs.declared.Answer.{Answer}
+use Rattle.answer.proofs.Orders as orders
+use Rattle.judge.specs.Check.{countFault}
+use Rattle.judge.proofs.Rows.{count-fine}
+use Rattle.table.specs.Shape.{countsOf, size, total, tabulate}
+use Rattle.table.specs.Table.{shapeFault, lengthFault, frameFault, axesFault, valueFault, valuesFault}
+use Rattle.table.specs.declared.Shape.{Shape}
+use Rattle.table.proofs.Layouts.{getD-tabulate, tabulate-same}
+use Rattle.table.proofs.Tables.{length-same, shape-some, shape-four, shape-enough, shape-few, shape-size}
+use Rattle.words.specs.Words.{wordAt}
+use Rattle.image.specs.Image.{axesField, countField, offsetField, valuesField, shapeOf, floatsAt, nodesFrom, nodesIn, valuesIn}
+use Rattle.image.specs.Load.{fieldFault, shortFault, axesRow, lengthRow, startFault, countRow, productRow, offsetRow, headFault, areaFault, areasFault, roomRow, roomsFault, contentsFault, loadFault, noShape, loadAnswer, filledInto}
+use Rattle.image.specs.declared.LoadAnswer.{LoadAnswer}
+use Rattle.image.proofs.Floats.{nodes-total, values-size}
+use Rattle.image.proofs.Heads.{unused-zero}
+use Rattle.image.proofs.Laws.{Loadable, load-means, loaded-shape}
+use Rattle.image.proofs.Rows.{field-right, short-right, axes-right, length-right, area-right, room-right, count-used, count-unused}
+use Rattle.writer.specs.Made.{axisAt, valuesAt, imageLength, countIn, offsetIn, imageOf}
+use Rattle.writer.specs.Write.{writeFault, writeAnswer, plain, written}
+use Rattle.writer.specs.declared.WriteAnswer.{WriteAnswer}
+use Rattle.writer.proofs.Headers.{first-at, next-at, axis-after, at-before, values-after, values-end, values-before, length-small, count-in}
+use Rattle.writer.proofs.Images.{length-image}
+use Rattle.writer.proofs.Writes.{written-shape, written-nodes, written-values, written-axes, written-stored, written-room, written-fits}
+use Rattle.writer.proofs.Back.{Held, floats-held, held-append}
+use Rattle.writer.proofs.Made as made
+
+passed : (a : Answer) → fine ≡ a → good a ≡ true
+passed a e = orders.passed-fine a e
+
+-- ---- the image of a judged table passes the checks of the header and of the areas
+module _ (s : Shape) (four : length (s .counts) ≡ 4) (h : good (shapeFault s) ≡ true) (nodes values : List Float) (en : length nodes ≡ total (countsOf s)) (ev : length values ≡ size (countsOf s)) where
+  abbrev img : List ℕ
+  img = imageOf s nodes values
+
+  long : length img ≡ imageLength s
+  long = length-image s nodes values en ev
+
+  forty : 40 ≤ imageLength s
+  forty = omega (arith, first-at s, at-before s 0, values-before s)
+
+  axes-is : axesField img ≡ s .axes
+  axes-is = made.axes-back s four h nodes values en ev
+
+  starts : good (startFault img) ≡ true
+  unfolding startFault
+  starts =
+      orders.both-passed (shortFault (length img)) _ (passed _ (short-right (length img) (omega (arith, long, forty))))
+      (orders.both-passed (fieldFault 0 1 (wordAt 1 img 0)) _ (passed _ (field-right 0 1 (wordAt 1 img 0) (made.heads s four h nodes values en ev .0)))
+      (orders.both-passed (axesRow (axesField img)) _ (passed _ (axes-right (axesField img) (omega (arith, axes-is, shape-some s h)) (omega (arith, axes-is, shape-four s h))))
+      (orders.both-passed (fieldFault 2 0 (wordAt 2 img 2)) _ (passed _ (field-right 2 0 (wordAt 2 img 2) (made.heads s four h nodes values en ev .1 .1 .0)))
+      (passed _ (length-right (wordAt 4 img 4) (length img) (stated ∙ sym long) (omega (arith, stated, forty)) (omega (arith, stated, length-small s h)))))))
+    where
+      stated : wordAt 4 img 4 ≡ imageLength s
+      stated = made.length-back s four h nodes values en ev
+
+  counts : good (firstOf (countRow img) 0 4) ≡ true
+  counts = ap good (orders.none-good (countRow img) 0 4 (λ a l m. each a (omega (arith, m)) (ltb a (s .axes)) (ltb-true a (s .axes)) (ltb-false a (s .axes)))) ∙ orders.good-fine
+    where
+      each : (a : ℕ) → a < 4 → (b : Bool) → (b ≡ true → a < s .axes) → (b ≡ false → s .axes ≤ a) → good (countRow img a) ≡ true
+      each a m true t f =
+          let l = t refl in
+          let c : countField img a ≡ getD (s .counts) a 0 = made.count-back s four h nodes values en ev a m ∙ made.count-some s four h nodes values en ev a ∙ getD-take (s .axes) (s .counts) a 0 l in
+          passed _ (count-fine a (countField img a) (omega (arith, c, shape-enough s h a l)) (omega (arith, c, shape-few s h a l)) ∙ count-used img a (omega (arith, axes-is, l)))
+      each a m false t f =
+          passed _ (field-right (8 + 2 * a) 0 (countField img a) (made.count-back s four h nodes values en ev a m ∙ made.count-none s four h nodes values en ev a (f refl)) ∙ count-unused img a (omega (arith, axes-is, f refl)))
+
+  same : countsOf (shapeOf img) ≡ countsOf s
+  same = made.counts-back s four h nodes values en ev
+
+  product : good (productRow (shapeOf img)) ≡ true
+  unfolding productRow
+  product = orders.good-when (ltb 4096 (size (countsOf (shapeOf img)))) _ (le-ltb 4096 (size (countsOf (shapeOf img))) (omega (arith, ap size same, shape-size s h)))
+
+  offsets : good (firstOf (offsetRow img) (axesField img) (4 - axesField img)) ≡ true
+  unfolding offsetRow
+  offsets = ap good (orders.none-good (offsetRow img) (axesField img) (4 - axesField img) each) ∙ orders.good-fine
+    where
+      each : (a : ℕ) → axesField img ≤ a → a < axesField img + (4 - axesField img) → good (offsetRow img a) ≡ true
+      each a l m =
+          let n : a < 4 = omega (arith, axes-is, shape-four s h, m) in
+          passed _ (field-right (16 + 4 * a) 0 (offsetField img a) (made.offset-back s four h nodes values en ev a n ∙ made.offset-none s four h nodes values en ev a (omega (arith, axes-is, l))))
+
+  pub made-head : good (headFault img) ≡ true
+  unfolding headFault
+  made-head =
+      orders.both-passed (startFault img) _ starts
+      (orders.both-passed (firstOf (countRow img) 0 4) _ counts
+      (orders.both-passed (productRow (shapeOf img)) _ product
+      (orders.both-passed (firstOf (offsetRow img) (axesField img) (4 - axesField img)) _ offsets
+      (passed _ (field-right 36 0 (wordAt 4 img 36) (made.end-back s four h nodes values en ev))))))
+
+  abbrev axis : ℕ → Answer
+  axis a = areaFault (length img) a (offsetField img a) (countField img a)
+
+  pub made-areas : good (areasFault img) ≡ true
+  unfolding areasFault
+  made-areas = orders.both-passed (firstOf axis 0 (axesField img)) _ (ap good (orders.none-good axis 0 (axesField img) each) ∙ orders.good-fine) stored
+    where
+      each : (a : ℕ) → 0 ≤ a → a < 0 + axesField img → good (axis a) ≡ true
+      each a k m =
+          let l : a < s .axes = omega (arith, axes-is, m) in
+          let o = made.used-back s four h nodes values en ev a l in
+          let c : countField img a ≡ getD (countsOf s) a 0 = made.count-back s four h nodes values en ev a (omega (arith, l, shape-four s h)) ∙ made.count-some s four h nodes values en ev a in
+          let up = next-at s a (getD (countsOf s) a 0) (axisAt s a) refl refl in
+          passed _ (area-right (length img) a (offsetField img a) (countField img a) (omega (arith, o, axis-after s a .0)) (ap (λ (j : ℕ). j % 8) o ∙ axis-after s a .1) (omega (arith, o, c, up, long, at-before s (suc a), values-before s)))
+
+      stored : good (areaFault (length img) (axesField img) (valuesField img) (size (countsOf (shapeOf img)))) ≡ true
+      stored =
+          let o = made.values-field s four h nodes values en ev in
+          let n = ap size same in
+          let v = subst (λ (k : ℕ). (40 ≤ k) × (k % 8 ≡ 0)) (values-after s h) (axis-after s 4) in
+          passed _ (area-right (length img) (axesField img) (valuesField img) (size (countsOf (shapeOf img))) (omega (arith, o, v .0)) (ap (λ (j : ℕ). j % 8) o ∙ v .1) (omega (arith, o, n, values-end s, long)))
+
+-- ---- writing, then loading
+
+-- an image whose header and areas pass answers by its shape, its nodes and its values alone
+judged : (img : List ℕ) (n v : ℕ) → good (headFault img) ≡ true → good (areasFault img) ≡ true
+    → loadFault img n v ≡ (roomsFault (shapeOf img) n v or axesFault (countsOf (shapeOf img)) (nodesIn img) or valuesFault (valuesIn img))
+unfolding loadFault contentsFault
+judged img n v g k = orders.or-good (headFault img) _ g ∙ orders.or-good (areasFault img) _ k
+
+stored-fine : (values : List Float) → good (valuesFault values) ≡ true → valuesFault values ≡ fine
+unfolding valuesFault
+stored-fine values g = orders.none-good (valueFault values) 0 (length values) (λ j l m. orders.all-passed (valueFault values) 0 (length values) g j l m)
+
+rooms-passed : (s : Shape) (n v : ℕ) → total (countsOf s) ≤ n → size (countsOf s) ≤ v → good (roomsFault s n v) ≡ true
+unfolding roomsFault
+rooms-passed s n v p q = orders.both-passed _ _ (passed _ (room-right 0 (total (countsOf s)) n p)) (passed _ (room-right 1 (size (countsOf s)) v q))
+
+rooms-fine : (s : Shape) (n v : ℕ) → good (roomsFault s n v) ≡ true → roomsFault s n v ≡ fine
+unfolding roomsFault roomRow
+rooms-fine s n v g =
+    orders.or-good (roomRow 0 (total (countsOf s)) n) (roomRow 1 (size (countsOf s)) v) (orders.first-passed (roomRow 0 (total (countsOf s)) n) _ g)
+    ∙ orders.when-false (ltb v (size (countsOf s))) _ (orders.row-good (ltb v (size (countsOf s))) 14 0 1 (orders.second-passed (roomRow 0 (total (countsOf s)) n) (roomRow 1 (size (countsOf s)) v) g))
+
+rooms-or : (s : Shape) (n v : ℕ) → (roomsFault s n v or fine) ≡ roomsFault s n v
+rooms-or s n v = go (good (roomsFault s n v)) refl
+  where
+    go : (b : Bool) → good (roomsFault s n v) ≡ b → (roomsFault s n v or fine) ≡ roomsFault s n v
+    go true e = orders.or-good (roomsFault s n v) fine e ∙ sym (rooms-fine s n v e)
+    go false e = orders.or-bad (roomsFault s n v) fine e
+
+-- a table that the writer accepts; its output had room for it
+module _ (s : Shape) (four : length (s .counts) ≡ 4) (nodes values : List Float) (held : Held nodes) (kept : Held values) (out : List ℕ) (g : good (writeFault s nodes values (length out)) ≡ true) where
+  h : good (shapeFault s) ≡ true
+  h = written-shape s nodes values (length out) four g
+
+  en : length nodes ≡ total (countsOf s)
+  en = written-nodes s nodes values (length out) four g
+
+  ev : length values ≡ size (countsOf s)
+  ev = written-values s nodes values (length out) four g
+
+  abbrev image : List ℕ
+  image = written s nodes values out
+
+  pub image-is : image ≡ imageOf s nodes values
+  unfolding writeAnswer filledInto
+  image-is =
+      ap₂ take (orders.given-good (writeFault s nodes values (length out)) (imageLength s) 0 g) (orders.given-good (writeFault s nodes values (length out)) (imageOf s nodes values ++ drop (length (imageOf s nodes values)) out) out g)
+      ∙ take-at (imageOf s nodes values) (drop (length (imageOf s nodes values)) out) (imageLength s) (length-image s nodes values en ev)
+
+  pub written-shape-back : shapeOf image ≡ plain s
+  written-shape-back = ap shapeOf image-is ∙ made.shape-back s four h nodes values en ev
+
+  pub written-nodes-back : nodesIn image ≡ nodes
+  written-nodes-back = ap nodesIn image-is ∙ made.nodes-back s four h nodes values en ev held
+
+  pub written-values-back : valuesIn image ≡ values
+  written-values-back = ap valuesIn image-is ∙ made.values-back s four h nodes values en ev kept
+
+  same-counts : countsOf (plain s) ≡ countsOf s
+  same-counts = count-in s h four
+
+  -- for every room: 15, or nothing is wrong
+  pub written-judged : (n v : ℕ) → loadFault image n v ≡ roomsFault (plain s) n v
+  written-judged n v =
+      ap (λ (l : List ℕ). loadFault l n v) image-is
+      ∙ judged (imageOf s nodes values) n v (made-head s four h nodes values en ev) (made-areas s four h nodes values en ev)
+      ∙ ap (λ (t : Shape). roomsFault t n v or axesFault (countsOf t) (nodesIn (imageOf s nodes values)) or valuesFault (valuesIn (imageOf s nodes values))) (made.shape-back s four h nodes values en ev)
+      ∙ ap (λ (t : Answer). roomsFault (plain s) n v or t) contents
+      ∙ right
+    where
+      contents : (axesFault (countsOf (plain s)) (nodesIn (imageOf s nodes values)) or valuesFault (valuesIn (imageOf s nodes values))) ≡ fine
+      contents =
+          ap₂ (λ (xs ys : List Float). axesFault (countsOf (plain s)) xs or valuesFault ys) (made.nodes-back s four h nodes values en ev held) (made.values-back s four h nodes values en ev kept)
+          ∙ ap (λ (cs : List ℕ). axesFault cs nodes or valuesFault values) same-counts
+          ∙ orders.or-good (axesFault (countsOf s) nodes) _ (written-axes s nodes values (length out) four g)
+          ∙ stored-fine values (written-stored s nodes values (length out) four g)
+
+      right : (roomsFault (plain s) n v or fine) ≡ roomsFault (plain s) n v
+      right = rooms-or (plain s) n v
+
+  -- "Writing and loading returns the table", whatever the two outputs hold beyond
+  module _ (ns vs : List Float) (ln : length nodes ≤ length ns) (lv : length values ≤ length vs) where
+    nothing : loadFault image (length ns) (length vs) ≡ fine
+    nothing =
+        written-judged (length ns) (length vs)
+        ∙ rooms-fine (plain s) (length ns) (length vs)
+        (rooms-passed (plain s) (length ns) (length vs) (omega (arith, ap total same-counts, en, ln)) (omega (arith, ap size same-counts, ev, lv)))
+
+    passes : good (loadFault image (length ns) (length vs)) ≡ true
+    passes = ap good nothing ∙ orders.good-fine
+
+    pub answer-back : loadAnswer image (length ns) (length vs) ≡ record { answer = fine; shape = plain s }
+    unfolding loadAnswer
+    answer-back =
+        ap₂ (λ (a : Answer) (t : Shape). record { answer = a; shape = t }) nothing
+        (orders.given-good (loadFault image (length ns) (length vs)) (shapeOf image) noShape passes ∙ written-shape-back)
+
+    filled : (xs ys zs : List Float) → xs ≡ ys → filledInto (loadFault image (length ns) (length vs)) xs zs ≡ ys ++ drop (length ys) zs
+    unfolding filledInto
+    filled xs ys zs e = orders.given-good (loadFault image (length ns) (length vs)) (xs ++ drop (length xs) zs) zs passes ∙ ap (λ (l : List Float). l ++ drop (length l) zs) e
+
+    pub nodes-returned : filledInto (loadFault image (length ns) (length vs)) (nodesIn image) ns ≡ nodes ++ drop (length nodes) ns
+    nodes-returned = filled (nodesIn image) nodes ns written-nodes-back
+
+    pub values-returned : filledInto (loadFault image (length ns) (length vs)) (valuesIn image) vs ≡ values ++ drop (length values) vs
+    values-returned = filled (valuesIn image) values vs written-values-back
+
+-- ---- loading, then writing
+module _ (img : List ℕ) (n v : ℕ) (g : good (loadFault img n v) ≡ true) where
+  l : Loadable img n v
+  l = load-means img n v g
+
+  s-good : good (shapeFault (shapeOf img)) ≡ true
+  s-good = loaded-shape img n v g
+
+  four : length (shapeOf img .counts) ≡ 4
+  unfolding shapeOf
+  four = refl
+
+  pub loaded-held : Held (nodesIn img)
+  unfolding nodesIn nodesFrom
+  loaded-held = from 0 (axesField img)
+    where
+      from : (a k : ℕ) → Held (nodesFrom img a k)
+      from a zero i = nan-fits binary64
+      from a (suc k) i = held-append (floatsAt img (offsetField img a) (countField img a)) (nodesFrom img (suc a) k) (floats-held img (offsetField img a) (countField img a)) (from (suc a) k) i
+
+  pub loaded-kept : Held (valuesIn img)
+  unfolding valuesIn
+  loaded-kept = floats-held img (valuesField img) (size (countsOf (shapeOf img)))
+
+  -- an image's unused counts are zero, so its shape is as an image has it
+  pub loaded-plain : plain (shapeOf img) ≡ shapeOf img
+  unfolding plain shapeOf
+  loaded-plain = ap (λ (cs : List ℕ). record { axes = axesField img; counts = cs }) (tabulate-same 4 (countIn (shapeOf img)) (countField img) (λ a m. each a m (ltb a (axesField img)) (ltb-true a (axesField img)) (ltb-false a (axesField img))))
+    where
+      each : (a : ℕ) → a < 4 → (b : Bool) → (b ≡ true → a < axesField img) → (b ≡ false → axesField img ≤ a) → countIn (shapeOf img) a ≡ countField img a
+      each a m true t f = made.count-some-of (shapeOf img) a ∙ getD-take (axesField img) (tabulate 4 (countField img)) a 0 (t refl) ∙ getD-tabulate 4 a (countField img) 0 m
+      each a m false t f = made.count-none-of (shapeOf img) a (f refl) ∙ sym (unused-zero img (l .head) a m (f refl))
+
+  module _ (out : List ℕ) (room : imageLength (shapeOf img) ≤ length out) where
+    pub loaded-writes : good (writeFault (shapeOf img) (nodesIn img) (valuesIn img) (length out)) ≡ true
+    unfolding writeFault frameFault
+    loaded-writes =
+        orders.both-passed (frameFault (shapeOf img) (length (nodesIn img)) (length (valuesIn img))) _
+        (orders.both-passed (shapeFault (shapeOf img)) _ s-good
+        (orders.both-passed (lengthFault 0 (total (countsOf (shapeOf img))) (length (nodesIn img))) _ (passed _ (length-same 0 (total (countsOf (shapeOf img))) (length (nodesIn img)) (nodes-total img s-good)))
+        (passed _ (length-same 1 (size (countsOf (shapeOf img))) (length (valuesIn img)) (values-size img)))))
+        (orders.both-passed (axesFault (countsOf (shapeOf img)) (nodesIn img)) _ (l .axes)
+        (orders.both-passed (valuesFault (valuesIn img)) _ (l .stored) (passed _ (room-right 2 (imageLength (shapeOf img)) (length out) room))))
+
+    abbrev again : List ℕ
+    again = written (shapeOf img) (nodesIn img) (valuesIn img) out
+
+    -- "loading and writing gives an image that loads the same": the same answer and shape for every room, the same nodes and values
+    pub again-nodes : nodesIn again ≡ nodesIn img
+    again-nodes = written-nodes-back (shapeOf img) four (nodesIn img) (valuesIn img) loaded-held loaded-kept out loaded-writes
+
+    pub again-values : valuesIn again ≡ valuesIn img
+    again-values = written-values-back (shapeOf img) four (nodesIn img) (valuesIn img) loaded-held loaded-kept out loaded-writes
+
+    again-fault : (n′ v′ : ℕ) → loadFault again n′ v′ ≡ loadFault img n′ v′
+    again-fault n′ v′ =
+        written-judged (shapeOf img) four (nodesIn img) (valuesIn img) loaded-held loaded-kept out loaded-writes n′ v′
+        ∙ ap (λ (t : Shape). roomsFault t n′ v′) loaded-plain
+        ∙ sym (judged img n′ v′ (l .head) (l .areas) ∙ ap (λ (t : Answer). roomsFault (shapeOf img) n′ v′ or t) contents ∙ rooms-or (shapeOf img) n′ v′)
+      where
+        contents : (axesFault (countsOf (shapeOf img)) (nodesIn img) or valuesFault (valuesIn img)) ≡ fine
+        contents = orders.or-good (axesFault (countsOf (shapeOf img)) (nodesIn img)) _ (l .axes) ∙ stored-fine (valuesIn img) (l .stored)
+
+    pub again-answer : (n′ v′ : ℕ) → loadAnswer again n′ v′ ≡ loadAnswer img n′ v′
+    unfolding loadAnswer
+    again-answer n′ v′ =
+        ap₂ (λ (a : Answer) (t : Shape). record { answer = a; shape = given a t noShape }) (again-fault n′ v′)
+        (written-shape-back (shapeOf img) four (nodesIn img) (valuesIn img) loaded-held loaded-kept out loaded-writes ∙ loaded-plain)

@@ -1,0 +1,25 @@
+use mathlib.Core.Bool.{Bool, cond}
+use borrow.Author.Tests.{lt-ltb, le-ltb}
+use mathlib.Core.Path.{_≡_, refl, sym, ap, ap₂, _∙_, subst}
+use mathlib.Core.List.{List, [], _∷_, _++_}
+use Prim.Native.Nat.{ℕ, _+_, _-_, _*_, _^_, _≤_, _<_, min}
+use native.Mathlib.Omega.{arith}
+use lib.ListN.{length, take, drop, getD}
+use lib.Ieee.{Float, nan}
+use denote.Ref.{now}
+use borrow.Author.Needs.{needs}
+use Rattle.writer.proofs.header.offset_in.Statement.{statement}
+use Rattle.writer.proofs.header.offset_in.Tie as tie
+use Rattle.writer.proofs.header.offset_in.Reads as reads
+use Rattle.writer.proofs.header.offset_in.Lts as lts
+
+-- src/header.rt:46:1
+returns : tie.Need-returns
+returns c = sym (ap (λ (b : Bool). cond b (c .before .before .args .at) 0) (lt-ltb _ _ (c .if1 .taken)))
+
+-- src/header.rt:46:1
+returns-2 : tie.Need-returns-2
+returns-2 c = sym (ap (λ (b : Bool). cond b (c .before .before .args .at) 0) (le-ltb _ _ (c .if1 .left)))
+
+pub offset-in-spec : {M : Type 1} → statement M
+offset-in-spec = tie.close (tie.spec returns returns-2)

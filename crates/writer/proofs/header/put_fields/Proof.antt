@@ -1,0 +1,125 @@
+use lib.Seq.{sets}
+use Rattle.writer.specs.Made.{fieldBytes}
+use Rattle.writer.specs.Fields.{sum, pairs}
+use Rattle.writer.proofs.Puts.{sum-more, fields-step, fields-end}
+use mathlib.Core.Path.{_≡_, refl, sym, ap, ap₂, _∙_, subst}
+use mathlib.Core.List.{List, [], _∷_, _++_}
+use Prim.Native.Nat.{ℕ, _+_, _-_, _*_, _^_, _≤_, _<_, min}
+use native.Mathlib.Omega.{arith}
+use lib.ListN.{length, take, drop, getD}
+use lib.Ieee.{Float, nan}
+use denote.Ref.{now}
+use borrow.Author.Needs.{needs}
+use Rattle.writer.proofs.header.put_fields.Statement.{statement}
+use Rattle.writer.proofs.header.put_fields.Tie as tie
+use Rattle.writer.proofs.header.put_fields.Reads as reads
+use Rattle.writer.proofs.header.put_fields.Lts as lts
+use Rattle.writer.proofs.bytes.put_word.Reads as put-word-reads
+
+abbrev Inv-loop : tie.InvT-loop
+Inv-loop out₀ widths fields at₀ k₀ out at k =
+    (k ≤ length widths) × ((length out ≡ length out₀) × ((at + sum (drop k widths) ≡ sum widths) × (sets out at (fieldBytes (pairs (drop k widths) (drop k fields))) ≡ sets out₀ 0 (fieldBytes (pairs widths fields)))))
+
+abbrev μ-loop : tie.MeasureT-loop
+μ-loop out₀ widths fields at₀ k₀ out at k = length widths - k
+
+abbrev start : tie.After-shared-slice-known4 Inv-loop μ-loop → tie.Start Inv-loop μ-loop
+start c = c .before .before .before .before .before .before .before
+
+room : (c : tie.After-shared-slice-known4 Inv-loop μ-loop) → c .before .before .before .loop .at + getD (start c .args .widths .now) (c .before .before .before .loop .k) 0 ≤ length (c .before .before .before .loop .out)
+room c =
+    let l = c .before .before .before in
+    let s = start c in
+    omega (arith, sum-more (s .args .widths .now) (s .args .fields .now) (l .loop .k) (c .before .before .loop-test .taken), l .loop .inv .1 .1 .0, l .loop .inv .1 .0, s .pre .1)
+
+-- src/header.rt:23:5
+loop-holds : tie.Need-loop-holds Inv-loop μ-loop
+loop-holds c = (omega arith, (refl, (omega arith, refl)))
+
+-- src/header.rt:24:21
+mul-width : tie.Need-mul-width Inv-loop μ-loop
+mul-width c = search needs
+
+-- src/header.rt:24:21
+shared-slice-read-width : tie.Need-shared-slice-read-width Inv-loop μ-loop
+shared-slice-read-width c = search needs
+
+-- src/header.rt:25:21
+mul-field : tie.Need-mul-field Inv-loop μ-loop
+mul-field c = search needs
+
+-- src/header.rt:25:21
+shared-slice-read-field : tie.Need-shared-slice-read-field Inv-loop μ-loop
+shared-slice-read-field c = search needs
+
+-- src/header.rt:26:9
+put-word-requires : tie.Need-put-word-requires Inv-loop μ-loop
+put-word-requires c κs = omega (arith, room (c .before))
+
+-- src/header.rt:27:14
+add-at : tie.Need-add-at Inv-loop μ-loop
+add-at c =
+    let f = c .before .before .before .before in
+    omega (arith, room f, start f .good .0 .0, f .before .before .before .loop .inv .1 .0)
+
+-- src/header.rt:28:9
+add-k : tie.Need-add-k Inv-loop μ-loop
+add-k c =
+    let f = c .before .before .before .before in
+    omega (arith, f .before .before .loop-test .taken, start f .good .1 .0 .0)
+
+-- src/header.rt:23:5
+loop-less : tie.Need-loop-less Inv-loop μ-loop
+loop-less c =
+    let f = c .before .before .before .before in
+    omega (arith, f .before .before .loop-test .taken)
+
+-- src/header.rt:23:5
+loop-again : tie.Need-loop-again Inv-loop μ-loop
+loop-again c =
+    let p = c .before .before in
+    let f = p .before .before in
+    let i = f .before .before in
+    let l = i .before in
+    let s = start f in
+    let m = sum-more (s .args .widths .now) (s .args .fields .now) (l .loop .k) (i .loop-test .taken) in (
+      omega (arith, i .loop-test .taken),
+      (
+        p .put-word .kept .0 ∙ l .loop .inv .1 .0,
+        (
+          omega (arith, m, l .loop .inv .1 .1 .0),
+          fields-step (s .args .widths .now) (s .args .fields .now) (l .loop .k) (l .loop .out) _ (l .loop .at) (i .loop-test .taken) (s .pre .0) (p .put-word .ensures)
+              ∙ l .loop .inv .1 .1 .1,
+        ),
+      ),
+    )
+
+-- src/header.rt:17:1
+same-length : tie.Need-same-length Inv-loop μ-loop
+same-length c = search needs
+
+-- src/header.rt:17:1
+returns : tie.Need-returns Inv-loop μ-loop
+returns c =
+    let l = c .before in
+    let s = l .before .before .before .before in
+    sym (fields-end (s .args .widths .now) (s .args .fields .now) (l .loop .k) (l .loop .out) (l .loop .at) (c .loop-test .left)) ∙ l .loop .inv .1 .1 .1
+
+pub put-fields-spec : {M : Type 1} → statement M
+put-fields-spec =
+    tie.close
+    (tie.spec
+    Inv-loop
+    μ-loop
+    loop-holds
+    mul-width
+    shared-slice-read-width
+    mul-field
+    shared-slice-read-field
+    put-word-requires
+    add-at
+    add-k
+    loop-less
+    loop-again
+    same-length
+    returns)

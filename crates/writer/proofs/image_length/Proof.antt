@@ -1,0 +1,55 @@
+use Rattle.table.specs.Shape.{countsOf, size, total}
+use Rattle.table.proofs.Tables.{shape-size}
+use Rattle.image.proofs.Floats.{holds-nodes, holds-values, total-small}
+use Rattle.writer.specs.Made.{imageLength, valuesAt}
+use mathlib.Core.Path.{_≡_, refl, sym, ap, ap₂, _∙_, subst}
+use mathlib.Core.List.{List, [], _∷_, _++_}
+use Prim.Native.Nat.{ℕ, _+_, _-_, _*_, _^_, _≤_, _<_, min}
+use native.Mathlib.Omega.{arith}
+use lib.ListN.{length, take, drop, getD}
+use lib.Ieee.{Float, nan}
+use denote.Ref.{now}
+use borrow.Author.Needs.{needs}
+use Rattle.writer.proofs.image_length.Statement.{statement}
+use Rattle.writer.proofs.image_length.Tie as tie
+use Rattle.writer.proofs.image_length.Reads as reads
+use Rattle.writer.proofs.image_length.Lts as lts
+use Rattle.table.proofs.sizes.Reads as sizes-reads
+
+nodes : (c : tie.After-sizes) → c .sizes .result .nodes ≡ total (countsOf (c .before .args .shape))
+nodes c = holds-nodes _ (c .before .pre) _ (c .sizes .ensures)
+
+values : (c : tie.After-sizes) → c .sizes .result .values ≡ size (countsOf (c .before .args .shape))
+values c = holds-values _ (c .before .pre) _ (c .sizes .ensures)
+
+small : (c : tie.After-sizes) → (c .sizes .result .nodes ≤ 256) × (c .sizes .result .values ≤ 4096)
+small c = (omega (arith, nodes c, total-small _ (c .before .pre)), omega (arith, values c, shape-size _ (c .before .pre)))
+
+-- src/lib.rt:30:9
+sizes-requires : tie.Need-sizes-requires
+sizes-requires c κs = search needs
+
+-- src/lib.rt:31:10
+mul-result : tie.Need-mul-result
+mul-result c = omega (arith, small (c .before) .0)
+
+-- src/lib.rt:31:5
+add-result : tie.Need-add-result
+add-result c = omega (arith, small (c .before) .0)
+
+-- src/lib.rt:31:27
+mul-result-2 : tie.Need-mul-result-2
+mul-result-2 c = omega (arith, small (c .before .before) .1)
+
+-- src/lib.rt:31:5
+add-result-2 : tie.Need-add-result-2
+add-result-2 c = omega (arith, small (c .before .before) .0, small (c .before .before) .1)
+
+-- src/lib.rt:26:1
+returns : tie.Need-returns
+unfolding imageLength valuesAt
+returns c = omega (arith, nodes (c .before .before), values (c .before .before))
+
+pub image-length-spec : {M : Type 1} → statement M
+image-length-spec =
+    tie.close (tie.spec sizes-requires mul-result add-result mul-result-2 add-result-2 returns)

@@ -2,7 +2,8 @@
 use mathlib.Core.Path.{_≡_, refl, sym, ap, _∙_}
 use mathlib.Core.Bool.{Bool, true, false, cond}
 use mathlib.Core.List.{List, _++_}
-use Prim.Native.Nat.{ℕ}
+use Prim.Native.Nat.{ℕ, _≤_}
+use native.Mathlib.Omega.{arith}
 use lib.ListN.{length, drop}
 use lib.Seq.{drop-at}
 use lib.Ieee.{Float}
@@ -11,8 +12,10 @@ use Rattle.answer.specs.declared.Answer.{Answer}
 use Rattle.answer.proofs.Orders as orders
 use Rattle.table.specs.Shape.{countsOf}
 use Rattle.table.specs.Table.{shapeFault, axesFault, valuesFault}
+use Rattle.table.specs.declared.Shape.{Shape}
+use Rattle.table.proofs.Tables.{shape-four}
 use Rattle.image.specs.Image.{shapeOf, nodesIn, valuesIn}
-use Rattle.image.specs.Load.{headFault, areasFault, roomsFault, contentsFault, loadFault, filledInto}
+use Rattle.image.specs.Load.{headFault, areasFault, roomsFault, contentsFault, loadFault, noShape, loadAnswer, filledInto}
 use Rattle.image.proofs.Heads.{head-shape}
 
 -- every condition of the paper, in its order
@@ -47,6 +50,15 @@ module _ (img : List ℕ) (nodes values : ℕ) where
   -- a loaded table's shape is a good one
   pub loaded-shape : good (loadFault img nodes values) ≡ true → good (shapeFault (shapeOf img)) ≡ true
   loaded-shape h = head-shape img (load-means h .head)
+
+-- loaded or not, the shape that is given has at most four axes
+pub given-four : (img : List ℕ) (nodes values : ℕ) → loadAnswer img nodes values .shape .axes ≤ 4
+unfolding loadAnswer
+given-four img nodes values = go (good (loadFault img nodes values)) refl
+  where
+    go : (b : Bool) → good (loadFault img nodes values) ≡ b → given (loadFault img nodes values) (shapeOf img) noShape .axes ≤ 4
+    go true e = omega (arith, ap (λ (s : Shape). s .axes) (orders.given-good (loadFault img nodes values) (shapeOf img) noShape e), shape-four (shapeOf img) (loaded-shape img nodes values e))
+    go false e = omega (arith, ap (λ (s : Shape). s .axes) (orders.given-bad (loadFault img nodes values) (shapeOf img) noShape e))
 
 -- a refusal leaves an output as it was; what lies beyond what is written is never touched
 pub refused-keeps : {A : Type 0} (a : Answer) (xs out : List A) → good a ≡ false → filledInto a xs out ≡ out

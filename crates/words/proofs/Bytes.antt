@@ -54,7 +54,7 @@ word-past n s at h = ap (λ (l : List ℕ). ofBytes (take n l)) (drop-of-length-
     nothing (suc k) = refl
 
 -- bytes that are not there are not looked at
-take-there : (n : ℕ) (l : List ℕ) → take (min n (length l)) l ≡ take n l
+pub take-there : (n : ℕ) (l : List ℕ) → take (min n (length l)) l ≡ take n l
 take-there n l = go (eq-or-lt-of-le small)
   where
     small : min n (length l) ≤ n

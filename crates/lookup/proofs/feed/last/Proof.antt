@@ -1,0 +1,35 @@
+use Rattle.records.proofs.Ends.{end-told}
+use Rattle.lines.proofs.Feeds.{reached-end}
+use Rattle.ninterp.specs.Records.{recordRule}
+use mathlib.Core.Path.{_≡_, refl, sym, ap, ap₂, _∙_, subst}
+use mathlib.Core.List.{List, [], _∷_, _++_}
+use Prim.Native.Nat.{ℕ, _+_, _-_, _*_, _^_, _≤_, _<_, min}
+use native.Mathlib.Omega.{arith}
+use lib.ListN.{length, take, drop, getD}
+use lib.Ieee.{Float, nan}
+use denote.Ref.{now}
+use borrow.Author.Needs.{needs}
+use Rattle.lookup.proofs.feed.last.Statement.{statement}
+use Rattle.lookup.proofs.feed.last.Tie as tie
+use Rattle.lookup.proofs.feed.last.Reads as reads
+use Rattle.lookup.proofs.feed.last.Lts as lts
+use Rattle.records.proofs.finish.Reads as finish-reads
+
+-- src/feed.rt:74:5
+finish-requires : tie.Need-finish-requires
+finish-requires c κs = search needs
+
+-- src/feed.rt:60:1
+same-length : tie.Need-same-length
+same-length c = search needs
+
+-- src/feed.rt:60:1
+returns : tie.Need-returns
+returns c =
+    let w = c .before .before in
+    let s = w .before .before .before .before .before .before in
+    let t = end-told (recordRule (s .args .shape) (now (s .args .nodes)) (now (s .args .values))) refl (s .args .held) (s .args .left) (now (s .args .buf)) (now (s .args .out)) (s .pre .0 .0) (s .pre .0 .1 .0) (s .pre .0 .1 .1) _ _ (w .finish .ensures .0) (w .finish .ensures .1) in
+    (reached-end (s .pre .1) (t .0), t .1)
+
+pub last-spec : {M : Type 1} → statement M
+last-spec = tie.close (tie.spec finish-requires same-length returns)

@@ -1,0 +1,52 @@
+use lib.Seq.{length-take-le}
+use mathlib.Core.Path.{_≡_, refl, sym, ap, ap₂, _∙_, subst}
+use mathlib.Core.List.{List, [], _∷_, _++_}
+use Prim.Native.Nat.{ℕ, _+_, _-_, _*_, _^_, _≤_, _<_, min}
+use native.Mathlib.Omega.{arith}
+use lib.ListN.{length, take, drop, getD}
+use lib.Ieee.{Float, nan}
+use denote.Ref.{now}
+use borrow.Author.Needs.{needs}
+use Rattle.lookup.proofs.put_refusal.Statement.{statement}
+use Rattle.lookup.proofs.put_refusal.Tie as tie
+use Rattle.lookup.proofs.put_refusal.Reads as reads
+use Rattle.lookup.proofs.put_refusal.Lts as lts
+use Rattle.io.proofs.write_all.Reads as write-all-reads
+use Rattle.lines.proofs.put_line.Reads as put-line-reads
+
+-- src/main.rt:48:9
+put-line-requires : tie.Need-put-line-requires
+put-line-requires c κs = search needs
+
+-- src/main.rt:49:22
+slice-reshare-prefix-write-all : tie.Need-slice-reshare-prefix-write-all
+slice-reshare-prefix-write-all c = search needs
+
+-- src/main.rt:49:22
+slice-aggregate-write-all : tie.Need-slice-aggregate-write-all
+slice-aggregate-write-all c =
+    let w = c .before .before .before in
+    sym (length-take-le _ _ (omega (arith, w .put-line .ensures .1, w .put-line .kept .1 .0, w .before .before .before .pre)))
+
+-- src/main.rt:49:5
+write-all-requires : tie.Need-write-all-requires
+write-all-requires c κs = search needs
+
+-- src/main.rt:45:1
+same-length : tie.Need-same-length
+same-length c = search needs
+
+-- src/main.rt:45:1
+returns : tie.Need-returns
+returns c = search needs
+
+pub put-refusal-spec : {M : Type 1} → statement M
+put-refusal-spec =
+    tie.close
+    (tie.spec
+    put-line-requires
+    slice-reshare-prefix-write-all
+    slice-aggregate-write-all
+    write-all-requires
+    same-length
+    returns)

@@ -1,0 +1,60 @@
+use lib.ListN.{length-drop}
+use lib.Seq.{length-take-le}
+use Rattle.lines.proofs.Feeds.{filled}
+use mathlib.Core.Path.{_≡_, refl, sym, ap, ap₂, _∙_, subst}
+use mathlib.Core.List.{List, [], _∷_, _++_}
+use Prim.Native.Nat.{ℕ, _+_, _-_, _*_, _^_, _≤_, _<_, min}
+use native.Mathlib.Omega.{arith}
+use lib.ListN.{length, take, drop, getD}
+use lib.Ieee.{Float, nan}
+use denote.Ref.{now}
+use borrow.Author.Needs.{needs}
+use Rattle.lookup.proofs.read_rest.Statement.{statement}
+use Rattle.lookup.proofs.read_rest.Tie as tie
+use Rattle.lookup.proofs.read_rest.Reads as reads
+use Rattle.lookup.proofs.read_rest.Lts as lts
+use Rattle.io.proofs.read_full.Reads as read-full-reads
+
+-- src/main.rt:26:33
+sub-read-full : tie.Need-sub-read-full
+sub-read-full c = search needs
+
+-- src/main.rt:26:33
+part-read-full-start : tie.Need-part-read-full-start
+part-read-full-start c = search needs
+
+-- src/main.rt:26:33
+part-read-full-end : tie.Need-part-read-full-end
+part-read-full-end c = search needs
+
+-- src/main.rt:26:9
+read-full-requires : tie.Need-read-full-requires
+read-full-requires c κs = search needs
+
+-- src/main.rt:27:5
+add-result : tie.Need-add-result
+add-result c = search needs
+
+-- src/main.rt:22:1
+same-length : tie.Need-same-length
+same-length c = search needs
+
+-- src/main.rt:22:1
+returns : tie.Need-returns
+returns c =
+    let w = c .before .before in
+    let st = w .before .before .before in
+    let part : length (take (st .args .size - 40) (drop 40 (now (st .args .img)))) ≡ st .args .size - 40 = length-take-le (st .args .size - 40) (drop 40 (now (st .args .img))) (omega (arith, length-drop 40 (now (st .args .img)), st .pre .1)) in
+    (filled (st .args .img .now) (w .read-full .last .1 .0) _ 40 (w .read-full .result) (omega (arith, st .pre)) (w .read-full .ensures .0), omega (arith, w .read-full .ensures .0, w .read-full .kept .1 .0, part, st .pre .0))
+
+pub read-rest-spec : {M : Type 1} → statement M
+read-rest-spec =
+    tie.close
+    (tie.spec
+    sub-read-full
+    part-read-full-start
+    part-read-full-end
+    read-full-requires
+    add-result
+    same-length
+    returns)

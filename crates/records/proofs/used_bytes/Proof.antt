@@ -1,0 +1,41 @@
+use native.Mathlib.Nat.{zero-mul}
+use Rattle.ninterp.specs.Records.{recordSize}
+use Rattle.records.proofs.Turning.{one-of}
+use mathlib.Core.Path.{_≡_, refl, sym, ap, ap₂, _∙_, subst}
+use mathlib.Core.List.{List, [], _∷_, _++_}
+use Prim.Native.Nat.{ℕ, _+_, _-_, _*_, _^_, _≤_, _<_, min}
+use native.Mathlib.Omega.{arith}
+use lib.ListN.{length, take, drop, getD}
+use lib.Ieee.{Float, nan}
+use denote.Ref.{now}
+use borrow.Author.Needs.{needs}
+use Rattle.records.proofs.used_bytes.Statement.{statement}
+use Rattle.records.proofs.used_bytes.Tie as tie
+use Rattle.records.proofs.used_bytes.Reads as reads
+use Rattle.records.proofs.used_bytes.Lts as lts
+
+one : (d : tie.Else1) → recordSize (d .before .args .shape) ≤ d .before .args .have
+one d = let s = d .before in one-of (s .args .count) (recordSize (s .args .shape)) (s .args .have) (d .if1 .left) (s .pre)
+
+-- src/lib.rt:38:9
+returns : tie.Need-returns
+returns c = sym (ap (λ (n : ℕ). n * recordSize (c .before .args .shape)) (c .if1 .taken) ∙ zero-mul (recordSize (c .before .args .shape)))
+
+-- src/lib.rt:40:18
+mul-result : tie.Need-mul-result
+mul-result c = let d = c .before in omega (arith, one d, d .before .fits .have)
+
+-- src/lib.rt:40:14
+add-result : tie.Need-add-result
+add-result c = let d = c .before in omega (arith, one d, d .before .fits .have)
+
+-- src/lib.rt:40:5
+mul-result-2 : tie.Need-mul-result-2
+mul-result-2 c = let d = c .before in omega (arith, d .before .pre, d .before .fits .have)
+
+-- src/lib.rt:33:1
+returns-2 : tie.Need-returns-2
+returns-2 c = search needs
+
+pub used-bytes-spec : {M : Type 1} → statement M
+used-bytes-spec = tie.close (tie.spec returns mul-result add-result mul-result-2 returns-2)

@@ -6,6 +6,7 @@
 //! that can still be reached, `first` is the one at all zeros. Nothing is computed with
 //! an element.
 
+use crate::per_axis::PerAxis;
 use crate::views::ArrayView1;
 use core::marker::PhantomData;
 use core::ops::Index;
@@ -61,14 +62,23 @@ impl<T> Index<usize> for Array1<T> {
 }
 
 pub struct ArrayD<T> {
-    shape: Vec<usize>,
+    shape: PerAxis<usize>,
+    strides: PerAxis<usize>,
     values: Vec<T>,
 }
 
 impl<T> ArrayD<T> {
     pub fn from_shape_vec(shape: Vec<usize>, values: Vec<T>) -> Self {
         assert_eq!(shape.iter().product::<usize>(), values.len());
-        ArrayD { shape, values }
+        let mut strides = vec![1; shape.len()];
+        for d in (1..shape.len()).rev() {
+            strides[d - 1] = strides[d] * shape[d];
+        }
+        ArrayD {
+            shape: shape.into_iter().collect(),
+            strides: strides.into_iter().collect(),
+            values,
+        }
     }
 
     pub fn ndim(&self) -> usize {
@@ -76,21 +86,17 @@ impl<T> ArrayD<T> {
     }
 
     pub fn view(&self) -> ArrayViewD<'_, T> {
-        let mut strides = vec![1; self.ndim()];
-        for d in (1..self.ndim()).rev() {
-            strides[d - 1] = strides[d] * self.shape[d];
-        }
         ArrayViewD {
-            shape: self.shape.clone(),
-            strides,
+            shape: self.shape,
+            strides: self.strides,
             values: &self.values,
         }
     }
 }
 
 pub struct ArrayViewD<'a, T> {
-    shape: Vec<usize>,
-    strides: Vec<usize>,
+    shape: PerAxis<usize>,
+    strides: PerAxis<usize>,
     values: &'a [T],
 }
 
@@ -125,9 +131,10 @@ impl<T> Index<&[usize]> for ArrayViewD<'_, T> {
     fn index(&self, indexes: &[usize]) -> &T {
         assert_eq!(indexes.len(), self.ndim());
         let mut place = 0;
-        for (d, &index) in indexes.iter().enumerate() {
-            assert!(index < self.shape[d]);
-            place += index * self.strides[d];
+        let each = indexes.iter().zip(self.shape.iter());
+        for ((&index, &count), &stride) in each.zip(self.strides.iter()) {
+            assert!(index < count);
+            place += index * stride;
         }
         &self.values[place]
     }

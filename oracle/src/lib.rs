@@ -1,10 +1,11 @@
 //! Stands where ninterp's `lib.rs` stands: brings into scope what its files expect.
 //! `strategy::utils` and `interpolator::n::strategies` are the Rust itself; everything
-//! else here is a stand-in.
+//! else here is a stand-in or serves one.
 
 pub mod arrays;
 pub mod error;
 pub mod interpolator;
+pub mod per_axis;
 pub mod strategy;
 pub mod views;
 

@@ -18,7 +18,7 @@ pub fn data(table: &Table) -> Data {
     let axes = table.grid().into_iter();
     Data {
         grid: axes.map(|nodes| Array1::from(nodes.to_vec())).collect(),
-        values: ArrayD::from_shape_vec(table.shape(), table.values.clone()),
+        values: ArrayD::from_shape_vec(table.shape().to_vec(), table.values.clone()),
     }
 }
 

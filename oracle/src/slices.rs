@@ -82,7 +82,7 @@ fn sliced(table: &Table, slice: &Slice) -> Result<Vec<f64>, Refusal> {
 
 /// How many axes are left, and their counts.
 fn shape_without(table: &Table, axis: usize) -> [usize; 5] {
-    let mut left = table.shape();
+    let mut left = table.shape().to_vec();
     left.remove(axis);
     let mut shape = [left.len(), 0, 0, 0, 0];
     shape[1..=left.len()].copy_from_slice(&left);

@@ -1,5 +1,7 @@
 //! A table as it is lent: nothing about it is known to fit.
 
+use ninterp::per_axis::PerAxis;
+
 #[derive(Clone, Default)]
 pub struct Table {
     pub axes: u8,
@@ -13,15 +15,15 @@ pub struct Table {
 
 impl Table {
     /// The counts of the axes; of a table with 1 to 4 axes.
-    pub fn shape(&self) -> Vec<usize> {
+    pub fn shape(&self) -> PerAxis<usize> {
         let counts = &self.counts[..self.axes as usize];
         counts.iter().map(|&count| count as usize).collect()
     }
 
     /// The nodes of each axis; of a table whose nodes are as many as its counts say.
-    pub fn grid(&self) -> Vec<&[f64]> {
+    pub fn grid(&self) -> PerAxis<&[f64]> {
         let mut rest = self.nodes.as_slice();
-        let mut grid = Vec::new();
+        let mut grid = PerAxis::default();
         for count in self.shape() {
             let (axis, others) = rest.split_at(count);
             grid.push(axis);

@@ -112,7 +112,14 @@ fn contents(table: &Table, rule: &Rule) -> Result<(), Refusal> {
     on_each_axis(rule.directions(), refusals::direction)
 }
 
+/// All of them at once; the place is looked for only where there is one.
 fn values(values: &[f64]) -> Result<(), Refusal> {
+    if values
+        .iter()
+        .fold(true, |good, value| good & value.is_finite())
+    {
+        return Ok(());
+    }
     match values.iter().position(|value| !value.is_finite()) {
         Some(place) => refuse(7, 0, place),
         None => Ok(()),
@@ -121,12 +128,11 @@ fn values(values: &[f64]) -> Result<(), Refusal> {
 
 /// 8 at the default tolerance, of the first gap that differs from the first one by more.
 fn uniform(nodes: &[f64]) -> Result<(), Refusal> {
-    let gaps: Vec<f64> = nodes.windows(2).map(|pair| pair[1] - pair[0]).collect();
-    let tolerance = gaps[0] * (1.0 / (1u64 << 42) as f64);
-    match gaps
-        .iter()
-        .position(|gap| (gap - gaps[0]).abs() > tolerance)
-    {
+    let gap = |pair: &[f64]| pair[1] - pair[0];
+    let first = gap(nodes);
+    let tolerance = first * (1.0 / (1u64 << 42) as f64);
+    let off = |pair: &[f64]| (gap(pair) - first).abs() > tolerance;
+    match nodes.windows(2).position(off) {
         Some(interval) => refusals::not_uniform(interval),
         None => Ok(()),
     }

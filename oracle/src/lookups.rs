@@ -23,7 +23,7 @@ pub fn data(table: &Table) -> Data {
 }
 
 /// 0 is lower, every other byte is upper.
-fn step(directions: &[u8]) -> Step {
+pub fn step(directions: &[u8]) -> Step {
     let named = |&byte: &u8| match byte {
         0 => StepDirection::Lower,
         _ => StepDirection::Upper,
@@ -68,7 +68,22 @@ pub fn confirmed(table: &Table, no: Refusal) -> Refusal {
 
 pub fn looked_up(table: &Table, rule: &Rule, readings: &[f64]) -> Result<f64, Refusal> {
     table_refusals::lookup(table, rule, readings).map_err(|no| confirmed(table, no))?;
-    let value = ask(rule, &data(table), readings);
+    computed(&data(table), rule, readings)
+}
+
+/// The same, with the table's data made beforehand.
+pub fn looked_up_in(
+    table: &Table,
+    data: &Data,
+    rule: &Rule,
+    readings: &[f64],
+) -> Result<f64, Refusal> {
+    table_refusals::lookup(table, rule, readings).map_err(|no| confirmed(table, no))?;
+    computed(data, rule, readings)
+}
+
+fn computed(data: &Data, rule: &Rule, readings: &[f64]) -> Result<f64, Refusal> {
+    let value = ask(rule, data, readings);
     refusals::result(value, 0)?;
     Ok(value)
 }

@@ -1,11 +1,12 @@
-//! `oracle make` writes the list, `oracle answer` answers a list, `oracle count` counts
-//! the calls of a list by kind, `oracle check` tries the strategies on cases worked by hand.
+//! The commands of the oracle; README.md says what each is for.
 
 mod answers;
 mod calls;
 mod header;
+mod image;
 mod lookups;
 mod make;
+mod program;
 mod refusals;
 mod rules;
 mod self_check;
@@ -18,12 +19,19 @@ use calls::{Call, NAMES};
 use std::io::{self, Read, Write};
 use std::process::ExitCode;
 
-fn lent_list() -> Result<Vec<Call>, String> {
+const USAGE: &str = "usage: oracle make | answer | count | check
+       oracle records";
+
+fn input() -> Result<Vec<u8>, String> {
     let mut bytes = Vec::new();
-    io::stdin()
-        .read_to_end(&mut bytes)
-        .map_err(|e| e.to_string())?;
-    calls::read_list(&bytes)
+    match io::stdin().read_to_end(&mut bytes) {
+        Ok(_) => Ok(bytes),
+        Err(error) => Err(error.to_string()),
+    }
+}
+
+fn lent_list() -> Result<Vec<Call>, String> {
+    calls::read_list(&input()?)
 }
 
 fn count_by_kind(calls: &[Call]) -> String {
@@ -39,28 +47,32 @@ fn count_by_kind(calls: &[Call]) -> String {
     text + &format!("{answered:6} calls in all, axes and tables apart\n")
 }
 
-fn run(command: Option<&str>) -> Result<Vec<u8>, String> {
-    match command {
-        Some("make") => Ok(make::list()),
-        Some("answer") => Ok(answers::answer_list(&lent_list()?).into_bytes()),
-        Some("count") => Ok(count_by_kind(&lent_list()?).into_bytes()),
-        Some("check") => self_check::run().map(|()| Vec::new()),
-        _ => Err("usage: oracle make | answer | count | check".into()),
-    }
+/// What is printed, and whether all that was compared is equal.
+fn run(words: &[&str]) -> Result<(bool, Vec<u8>), String> {
+    let text = match words {
+        ["make"] => make::list(),
+        ["answer"] => answers::answer_list(&lent_list()?).into(),
+        ["count"] => count_by_kind(&lent_list()?).into(),
+        ["check"] => self_check::run().map(|()| Vec::new())?,
+        ["records"] => program::lines(&input()?).into(),
+        _ => return Err(USAGE.into()),
+    };
+    Ok((true, text))
 }
 
+/// 0, or 1 where something compared differs, or 2 where it could not be done.
 fn main() -> ExitCode {
-    let command = std::env::args().nth(1);
-    let written = run(command.as_deref()).and_then(|bytes| {
-        io::stdout()
-            .write_all(&bytes)
-            .map_err(|error| error.to_string())
+    let args: Vec<String> = std::env::args().skip(1).collect();
+    let words: Vec<&str> = args.iter().map(String::as_str).collect();
+    let done = run(&words).and_then(|(equal, text)| {
+        let written = io::stdout().write_all(&text);
+        written.map(|()| equal).map_err(|error| error.to_string())
     });
-    match written {
-        Ok(()) => ExitCode::SUCCESS,
+    match done {
+        Ok(equal) => ExitCode::from(!equal as u8),
         Err(message) => {
             eprintln!("oracle: {message}");
-            ExitCode::FAILURE
+            ExitCode::from(2)
         }
     }
 }

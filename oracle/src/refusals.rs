@@ -2,10 +2,21 @@
 //! axis primitives; those of tables are in `table_refusals`. Written from that document
 //! alone; nothing here calls the Rust.
 
+#[derive(Clone, Copy)]
 pub struct Refusal {
     pub number: u8,
     pub axis: u8,
     pub place: usize,
+}
+
+impl Refusal {
+    /// The same of another axis.
+    pub fn on_axis(self, axis: usize) -> Refusal {
+        Refusal {
+            axis: axis as u8,
+            ..self
+        }
+    }
 }
 
 /// The primitives know one axis, so every refusal names axis 0.

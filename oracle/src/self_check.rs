@@ -1,7 +1,8 @@
-//! Tries the two linears and the slices on cases worked by hand, and whether a lookup in
-//! a slice is a lookup in the whole table.
+//! Tries the two linears, the slices and the whole run of document 01 on cases worked by
+//! hand, and whether a lookup in a slice is a lookup in the whole table.
 
 use crate::lookups::{ask, data, not_uniform};
+use crate::program;
 use crate::rules::Rule;
 use crate::slices;
 use crate::table::Table;
@@ -168,7 +169,28 @@ fn every_corner() -> Result<(), String> {
     Ok(())
 }
 
+/// Document 01's input, field by field, and its output.
+fn whole_run() -> Result<(), String> {
+    let mut input = vec![1, 1, 0, 0, 72, 0, 0, 0];
+    input.extend([2, 0, 0, 0, 0, 0, 0, 0]);
+    input.extend([40, 0, 0, 0, 0, 0, 0, 0, 0, 0, 0, 0, 0, 0, 0, 0]);
+    input.extend([56, 0, 0, 0, 0, 0, 0, 0]);
+    for number in [0.0f64, 2.0, 10.0, 20.0] {
+        input.extend(number.to_le_bytes());
+    }
+    for (kind, reading) in [(0, 0.5f64), (2, 1.0), (0, 3.0)] {
+        input.push(kind);
+        input.extend(reading.to_le_bytes());
+    }
+    let lines = program::lines(&input);
+    match lines.as_str() {
+        "ok 4029000000000000\nok 4034000000000000\nno 11 0 1\n" => Ok(()),
+        _ => Err(format!("the whole run: {lines:?}")),
+    }
+}
+
 pub fn run() -> Result<(), String> {
+    whole_run()?;
     linear()?;
     linear_uniform()?;
     slices_by_hand()?;

@@ -13,6 +13,11 @@ pub fn lookup(table: &Table, rule: &Rule, readings: &[f64]) -> Result<(), Refusa
     counts(&table.shape())?;
     lengths(table, Some(readings), rule)?;
     contents(table, rule)?;
+    readings_of(table, readings)
+}
+
+/// 10, then 11. Of a table that passed 1 to 7, and one reading for each axis.
+pub fn readings_of(table: &Table, readings: &[f64]) -> Result<(), Refusal> {
     on_each_axis(readings, refusals::reading)?;
     for (axis, nodes) in table.grid().into_iter().enumerate() {
         inside(nodes, axis, readings[axis])?;
@@ -28,7 +33,7 @@ pub fn slice(table: &Table, slice: &Slice) -> Result<(), Refusal> {
     lengths(table, None, &slice.rule)?;
     removable(table, axis, &slice.rule)?;
     contents(table, &slice.rule)?;
-    refusals::reading(slice.reading).or_else(|no| refuse(no.number, axis, no.place))?;
+    refusals::reading(slice.reading).map_err(|no| no.on_axis(axis))?;
     inside(table.grid()[axis], axis, slice.reading)?;
     let wanted = table.values.len() / table.shape()[axis];
     room(slice.room as usize, wanted)
@@ -48,12 +53,12 @@ fn on_each_axis<T: Copy>(
     check: impl Fn(T) -> Result<(), Refusal>,
 ) -> Result<(), Refusal> {
     for (axis, &one) in lent.iter().enumerate() {
-        check(one).or_else(|no| refuse(no.number, axis, no.place))?;
+        check(one).map_err(|no| no.on_axis(axis))?;
     }
     Ok(())
 }
 
-fn axes(axes: u8) -> Result<(), Refusal> {
+pub fn axes(axes: u8) -> Result<(), Refusal> {
     if (1..=4).contains(&axes) {
         Ok(())
     } else {
@@ -64,6 +69,10 @@ fn axes(axes: u8) -> Result<(), Refusal> {
 /// All the counts, then their product.
 fn counts(shape: &[usize]) -> Result<(), Refusal> {
     on_each_axis(shape, refusals::count)?;
+    product(shape)
+}
+
+pub fn product(shape: &[usize]) -> Result<(), Refusal> {
     if shape.iter().product::<usize>() <= 4096 {
         Ok(())
     } else {
@@ -102,12 +111,17 @@ fn removable(table: &Table, axis: usize, rule: &Rule) -> Result<(), Refusal> {
     }
 }
 
+/// 4, 5, 6; 7. Of a table that passed 1, 2, 3.
+pub fn nodes_and_values(table: &Table) -> Result<(), Refusal> {
+    on_each_axis(&table.grid(), refusals::nodes)?;
+    values(&table.values)
+}
+
 /// 4, 5, 6; 7; 8; 9.
 fn contents(table: &Table, rule: &Rule) -> Result<(), Refusal> {
-    on_each_axis(&table.grid(), refusals::nodes)?;
-    values(&table.values)?;
+    nodes_and_values(table)?;
     if let Rule::LinearUniform = rule {
-        on_each_axis(&table.grid(), uniform)?;
+        uniform_axes(table)?;
     }
     on_each_axis(rule.directions(), refusals::direction)
 }
@@ -126,8 +140,13 @@ fn values(values: &[f64]) -> Result<(), Refusal> {
     }
 }
 
+/// 8 for LinearUniform, of all axes.
+pub fn uniform_axes(table: &Table) -> Result<(), Refusal> {
+    on_each_axis(&table.grid(), uniform)
+}
+
 /// 8 at the default tolerance, of the first gap that differs from the first one by more.
-fn uniform(nodes: &[f64]) -> Result<(), Refusal> {
+pub fn uniform(nodes: &[f64]) -> Result<(), Refusal> {
     let gap = |pair: &[f64]| pair[1] - pair[0];
     let first = gap(nodes);
     let tolerance = first * (1.0 / (1u64 << 42) as f64);

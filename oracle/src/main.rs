@@ -9,6 +9,7 @@ mod make;
 mod program;
 mod refusals;
 mod rules;
+mod runs;
 mod self_check;
 mod slices;
 mod table;
@@ -20,7 +21,8 @@ use std::io::{self, Read, Write};
 use std::process::ExitCode;
 
 const USAGE: &str = "usage: oracle make | answer | count | check
-       oracle records";
+       oracle records
+       oracle runs make | answer | count";
 
 fn input() -> Result<Vec<u8>, String> {
     let mut bytes = Vec::new();
@@ -55,6 +57,9 @@ fn run(words: &[&str]) -> Result<(bool, Vec<u8>), String> {
         ["count"] => count_by_kind(&lent_list()?).into(),
         ["check"] => self_check::run().map(|()| Vec::new())?,
         ["records"] => program::lines(&input()?).into(),
+        ["runs", "make"] => runs::joined(&make::runs::all()),
+        ["runs", "answer"] => runs::answer(&runs::split(&input()?)?).into(),
+        ["runs", "count"] => format!("{}\n", runs::split(&input()?)?.len()).into(),
         _ => return Err(USAGE.into()),
     };
     Ok((true, text))

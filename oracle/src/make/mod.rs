@@ -1,10 +1,12 @@
-//! The maker of the fixed list. It depends on nothing but this source: no clock, no
-//! randomness of the machine, no function whose rounding the platform may choose.
+//! The makers of the fixed list, of the fixed whole runs, and of runs drawn from a number.
+//! They depend on nothing but this source: no clock, no randomness of the machine, no
+//! function whose rounding the platform may choose.
 
 mod axes;
 mod bench;
 mod blended;
 mod directions;
+mod images;
 mod linear_bench;
 mod linear_tables;
 mod list;
@@ -20,6 +22,7 @@ mod refused_contents;
 mod refused_lookups;
 mod refused_shapes;
 mod refused_slices;
+pub mod runs;
 mod sliced;
 mod table_bench;
 mod tables;

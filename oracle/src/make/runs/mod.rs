@@ -1,0 +1,54 @@
+//! The fixed whole runs, each an image and records together, that `crates/whole` runs.
+
+mod answered;
+mod contents;
+mod cut;
+mod damaged;
+mod headers;
+mod large;
+mod layouts;
+mod lengths;
+mod records;
+
+use super::images::put_record;
+use super::numbers::Seed;
+use crate::image::write::write;
+use crate::table::Table;
+
+type Run = Vec<u8>;
+
+/// No run has more bytes than this.
+const LONGEST: usize = 40_000;
+
+/// As the writer places the table, then records.
+fn run(table: &Table, records: &[(u8, &[f64])]) -> Run {
+    let mut run = write(table);
+    for (kind, readings) in records {
+        put_record(*kind, readings, &mut run);
+    }
+    run
+}
+
+/// A record of each kind, 0 to 5, at one point.
+fn each_kind(point: &[f64], run: &mut Run) {
+    for kind in 0..6 {
+        put_record(kind, point, run);
+    }
+}
+
+pub fn all() -> Vec<Run> {
+    let mut seed = Seed::new();
+    let runs = [
+        cut::runs(),
+        headers::runs(),
+        lengths::runs(),
+        contents::runs(),
+        layouts::runs(&mut seed),
+        records::runs(),
+        answered::runs(&mut seed),
+        large::runs(&mut seed),
+    ]
+    .concat();
+    assert!(runs.iter().all(|run| run.len() <= LONGEST));
+    runs
+}

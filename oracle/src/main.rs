@@ -2,6 +2,8 @@
 
 mod answers;
 mod calls;
+mod compare;
+mod describe;
 mod header;
 mod image;
 mod lookups;
@@ -17,11 +19,17 @@ mod table_calls;
 mod table_refusals;
 
 use calls::{Call, NAMES};
+use make::awkward::Runs;
+use std::fs;
 use std::io::{self, Read, Write};
+use std::path::Path;
 use std::process::ExitCode;
 
 const USAGE: &str = "usage: oracle make | answer | count | check
        oracle records
+       oracle generate SEED COUNT FOLDER
+       oracle limit FOLDER
+       oracle compare FOLDER
        oracle runs make | answer | count";
 
 fn input() -> Result<Vec<u8>, String> {
@@ -49,6 +57,19 @@ fn count_by_kind(calls: &[Call]) -> String {
     text + &format!("{answered:6} calls in all, axes and tables apart\n")
 }
 
+fn number<T: std::str::FromStr>(word: &str) -> Result<T, String> {
+    word.parse().map_err(|_| format!("not a number: {word}"))
+}
+
+/// Each run in a file of its own, named by its number.
+fn write_runs(folder: &str, runs: impl Iterator<Item = Vec<u8>>) -> Result<(), String> {
+    for (place, run) in runs.enumerate() {
+        let file = Path::new(folder).join(format!("{place:06}"));
+        fs::write(file, run).map_err(|error| error.to_string())?;
+    }
+    Ok(())
+}
+
 /// What is printed, and whether all that was compared is equal.
 fn run(words: &[&str]) -> Result<(bool, Vec<u8>), String> {
     let text = match words {
@@ -57,6 +78,18 @@ fn run(words: &[&str]) -> Result<(bool, Vec<u8>), String> {
         ["count"] => count_by_kind(&lent_list()?).into(),
         ["check"] => self_check::run().map(|()| Vec::new())?,
         ["records"] => program::lines(&input()?).into(),
+        ["generate", seed, count, folder] => {
+            write_runs(folder, Runs::new(number(seed)?, number(count)?))?;
+            Vec::new()
+        }
+        ["limit", folder] => {
+            write_runs(folder, make::limit::runs().into_iter())?;
+            Vec::new()
+        }
+        ["compare", folder] => {
+            let verdict = compare::folder(Path::new(folder))?;
+            return Ok((verdict.equal, verdict.text.into()));
+        }
         ["runs", "make"] => runs::joined(&make::runs::all()),
         ["runs", "answer"] => runs::answer(&runs::split(&input()?)?).into(),
         ["runs", "count"] => format!("{}\n", runs::split(&input()?)?.len()).into(),

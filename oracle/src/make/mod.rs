@@ -2,11 +2,13 @@
 //! They depend on nothing but this source: no clock, no randomness of the machine, no
 //! function whose rounding the platform may choose.
 
+pub mod awkward;
 mod axes;
 mod bench;
 mod blended;
 mod directions;
 mod images;
+pub mod limit;
 mod linear_bench;
 mod linear_tables;
 mod list;

@@ -48,6 +48,15 @@ impl Seed {
         Seed(0x9e37_79b9_7f4a_7c15)
     }
 
+    /// By a number of the caller's, its bits mixed as splitmix64 mixes them; xorshift
+    /// must not start at zero.
+    pub fn of(number: u64) -> Seed {
+        let word = number.wrapping_add(0x9e37_79b9_7f4a_7c15);
+        let word = (word ^ word >> 30).wrapping_mul(0xbf58_476d_1ce4_e5b9);
+        let word = (word ^ word >> 27).wrapping_mul(0x94d0_49bb_1331_11eb);
+        Seed((word ^ word >> 31).max(1))
+    }
+
     pub fn word(&mut self) -> u64 {
         self.0 ^= self.0 << 13;
         self.0 ^= self.0 >> 7;

@@ -4,6 +4,7 @@ mod answers;
 mod calls;
 mod compare;
 mod describe;
+mod fast;
 mod header;
 mod image;
 mod lookups;
@@ -30,7 +31,10 @@ const USAGE: &str = "usage: oracle make | answer | count | check
        oracle generate SEED COUNT FOLDER
        oracle limit FOLDER
        oracle compare FOLDER
-       oracle runs make | answer | count";
+       oracle runs make | answer | count
+       oracle fast lookup | judged
+       oracle timed records KIND COUNTS RECORDS
+       oracle timed calls | refused KIND COUNTS CALLS";
 
 fn input() -> Result<Vec<u8>, String> {
     let mut bytes = Vec::new();
@@ -93,9 +97,38 @@ fn run(words: &[&str]) -> Result<(bool, Vec<u8>), String> {
         ["runs", "make"] => runs::joined(&make::runs::all()),
         ["runs", "answer"] => runs::answer(&runs::split(&input()?)?).into(),
         ["runs", "count"] => format!("{}\n", runs::split(&input()?)?.len()).into(),
+        ["fast", program] => {
+            fast(program)?;
+            Vec::new()
+        }
+        ["timed", what, kind, counts, many] => timed(what, number(kind)?, counts, number(many)?)?,
         _ => return Err(USAGE.into()),
     };
     Ok((true, text))
+}
+
+fn fast(program: &str) -> Result<(), String> {
+    let (input, output) = (io::stdin().lock(), io::stdout().lock());
+    let done = match program {
+        "lookup" => fast::lookup(input, output),
+        "judged" => fast::judged(input, output),
+        _ => return Err(USAGE.into()),
+    };
+    done.map_err(|error| error.to_string())
+}
+
+/// Counts are written `16x16x16`.
+fn timed(what: &str, kind: u8, counts: &str, many: usize) -> Result<Vec<u8>, String> {
+    let counts = counts
+        .split('x')
+        .map(number)
+        .collect::<Result<Vec<_>, _>>()?;
+    match what {
+        "records" => Ok(make::timed::records(kind, &counts, many)),
+        "calls" => Ok(make::timed::calls(kind, &counts, many, false)),
+        "refused" => Ok(make::timed::calls(kind, &counts, many, true)),
+        _ => Err(USAGE.into()),
+    }
 }
 
 /// 0, or 1 where something compared differs, or 2 where it could not be done.

@@ -28,6 +28,7 @@ pub mod runs;
 mod sliced;
 mod table_bench;
 mod tables;
+pub mod timed;
 mod uniform_check;
 mod uniform_index;
 mod values;

@@ -4,14 +4,14 @@ use mathlib.Core.Bool.{Bool, true, false, not, _&&_}
 use mathlib.Core.List.{List, [], _∷_}
 use Prim.Native.Nat.{ℕ, _+_, _-_, _*_, _≤_, _<_}
 use native.Mathlib.Omega.{arith}
-use borrow.Author.Tests.{leb-true}
-use lib.Dec.{leb}
+use borrow.Author.Tests.{leb-true, eqb-true}
+use lib.Dec.{leb, eqb}
 use lib.ListN.{length, getD}
 use Rattle.answer.specs.Answer.{refused, fine, good, when, _or_, firstOf}
 use Rattle.answer.specs.declared.Answer.{Answer}
 use Rattle.answer.proofs.Orders as orders
 use Rattle.judge.specs.Check.{countFault}
-use Rattle.judge.proofs.Rows.{not-false, and-right}
+use Rattle.judge.proofs.Rows.{not-false, and-left, and-right}
 use Rattle.table.specs.Shape.{countsOf, size, tabulate}
 use Rattle.table.specs.Table.{shapeFault}
 use Rattle.table.specs.declared.Shape.{Shape}
@@ -73,3 +73,29 @@ unfolding headFault
 unused-zero img h a m l =
     let c : good (firstOf (countRow img) 0 4) ≡ true = orders.first-passed (firstOf (countRow img) 0 4) _ (orders.second-passed (startFault img) _ h) in
     field-is (8 + 2 * a) 0 (countField img a) (ap good (count-unused img a l) ∙ orders.all-passed (countRow img) 0 4 c a (omega arith) (omega (arith, m)))
+
+-- it is as long as it states, and no longer than an image may be
+module _ (img : List ℕ) (h : good (headFault img) ≡ true) where
+  starts : good (startFault img) ≡ true
+  unfolding headFault
+  starts = orders.first-passed (startFault img) _ h
+
+  row : eqb (wordAt 4 img 4) (length img) && (leb 40 (wordAt 4 img 4) && leb (wordAt 4 img 4) 36864) ≡ true
+  unfolding startFault lengthRow
+  row =
+      let h1 = orders.second-passed (shortFault (length img)) _ starts in
+      let h2 = orders.second-passed (fieldFault 0 1 (wordAt 1 img 0)) _ h1 in
+      let h3 = orders.second-passed (axesRow (axesField img)) _ h2 in
+      let h4 = orders.second-passed (fieldFault 2 0 (wordAt 2 img 2)) (lengthRow (wordAt 4 img 4) (length img)) h3 in
+      not-false (eqb (wordAt 4 img 4) (length img) && (leb 40 (wordAt 4 img 4) && leb (wordAt 4 img 4) 36864))
+      (orders.row-good (not (eqb (wordAt 4 img 4) (length img) && (leb 40 (wordAt 4 img 4) && leb (wordAt 4 img 4) 36864))) 12 0 4 h4)
+
+  pub stated-length : (wordAt 4 img 4 ≡ length img) × ((40 ≤ wordAt 4 img 4) × (wordAt 4 img 4 ≤ 36864))
+  stated-length =
+      let both = and-right (eqb (wordAt 4 img 4) (length img)) (leb 40 (wordAt 4 img 4) && leb (wordAt 4 img 4) 36864) row in (
+        eqb-true (wordAt 4 img 4) (length img) (and-left (eqb (wordAt 4 img 4) (length img)) (leb 40 (wordAt 4 img 4) && leb (wordAt 4 img 4) 36864) row),
+        (
+          leb-true 40 (wordAt 4 img 4) (and-left (leb 40 (wordAt 4 img 4)) (leb (wordAt 4 img 4) 36864) both),
+          leb-true (wordAt 4 img 4) 36864 (and-right (leb 40 (wordAt 4 img 4)) (leb (wordAt 4 img 4) 36864) both),
+        ),
+      )

@@ -109,7 +109,7 @@ pub read-short : (input : List ℕ) → length input ≤ 40 → imageIn input �
 read-short input h = take-all (imageSize input) input (omega (arith, h, size-least input))
 
 -- the stated length is looked for in the first 40 bytes alone
-pub head-enough : (head more : List ℕ) → length head ≡ 40 → imageSize (head ++ more) ≡ imageSize head
+pub head-enough : (head more : List ℕ) → 40 ≤ length head → imageSize (head ++ more) ≡ imageSize head
 unfolding imageSize wordAt
 head-enough head more h = ap (λ (l : List ℕ). cond (leb 40 (ofBytes l) && leb (ofBytes l) 36864) (ofBytes l) 40) same
   where
@@ -117,7 +117,7 @@ head-enough head more h = ap (λ (l : List ℕ). cond (leb 40 (ofBytes l) && leb
     same = ap (take 4) (drop-append-le 4 head more (omega (arith, h))) ∙ take-append-le 4 (drop 4 head) more (omega (arith, h, length-drop 4 head))
 
 pub read-whole : (head more : List ℕ) → length head ≡ 40 → 40 + length more ≤ imageSize head → imageIn (head ++ more) ≡ head ++ more
-read-whole head more h k = take-all (imageSize (head ++ more)) (head ++ more) (omega (arith, h, k, head-enough head more h, length-append head more))
+read-whole head more h k = take-all (imageSize (head ++ more)) (head ++ more) (omega (arith, h, k, head-enough head more (omega (arith, h)), length-append head more))
 
 -- the size that was worked out, whatever of
 pub size-within : (input : List ℕ) (size : ℕ) → size ≡ imageSize input → (40 ≤ size) × (size ≤ 36864)

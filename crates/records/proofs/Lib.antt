@@ -1,2 +1,4 @@
 pub mod Turning
 pub mod Ends
+pub mod Laws
+pub mod Unique

@@ -1,0 +1,44 @@
+-- One whole run: what is printed of an image and the bytes after it. Assumes nothing.
+use mathlib.Core.Path.{_≡_, refl, sym, ap, ap₂, _∙_}
+use mathlib.Core.Bool.{Bool, true, false, cond}
+use mathlib.Core.List.{List, _++_}
+use Prim.Native.Nat.{ℕ, _+_, _≤_, _<_}
+use native.Mathlib.Omega.{arith}
+use lib.ListN.{length, take, drop}
+use lib.Seq.{take-at, drop-at}
+use Rattle.answer.specs.Answer.{good}
+use Rattle.lines.specs.Line.{lineOf}
+use Rattle.lines.specs.Stream.{linesOf}
+use Rattle.words.specs.Words.{wordAt}
+use Rattle.image.specs.Image.{shapeOf, nodesIn, valuesIn}
+use Rattle.image.specs.Load.{headFault, loadFault}
+use Rattle.image.proofs.Heads.{stated-length}
+use Rattle.image.proofs.Laws.{Loadable, load-means}
+use Rattle.ninterp.specs.Records.{recordRule}
+use Rattle.records.specs.Run.{imageSize, imageIn, runOf}
+use Rattle.records.proofs.Ends.{head-enough, size-stated}
+
+-- an image that loads is as long as it states, so what follows it is records
+module _ (img more : List ℕ) (g : good (loadFault img 256 4096) ≡ true) where
+  head : good (headFault img) ≡ true
+  head = load-means img 256 4096 g .head
+
+  stated : (wordAt 4 img 4 ≡ length img) × ((40 ≤ wordAt 4 img 4) × (wordAt 4 img 4 ≤ 36864))
+  stated = stated-length img head
+
+  size : imageSize (img ++ more) ≡ length img
+  size = head-enough img more (omega (arith, stated)) ∙ sym (size-stated img (wordAt 4 img 4) refl (stated .1 .0) (stated .1 .1)) ∙ stated .0
+
+  image : imageIn (img ++ more) ≡ img
+  image = ap (λ (n : ℕ). take n (img ++ more)) size ∙ take-at img more (length img) refl
+
+  pub run-loaded : runOf (img ++ more) ≡ linesOf (recordRule (shapeOf img) (nodesIn img) (valuesIn img)) 1000000 more
+  unfolding runOf
+  run-loaded =
+      ap₂ (λ (i r : List ℕ). cond (good (loadFault i 256 4096)) (linesOf (recordRule (shapeOf i) (nodesIn i) (valuesIn i)) 1000000 r) (lineOf (loadFault i 256 4096))) image (ap (λ (n : ℕ). drop n (img ++ more)) size ∙ drop-at img more (length img) refl)
+      ∙ ap (λ (b : Bool). cond b (linesOf (recordRule (shapeOf img) (nodesIn img) (valuesIn img)) 1000000 more) (lineOf (loadFault img 256 4096))) g
+
+-- what was read of an image that is refused is one line, whatever follows it
+pub run-refused : (input : List ℕ) → good (loadFault (imageIn input) 256 4096) ≡ false → runOf input ≡ lineOf (loadFault (imageIn input) 256 4096)
+unfolding runOf
+run-refused input h = ap (λ (b : Bool). cond b (linesOf (recordRule (shapeOf (imageIn input)) (nodesIn (imageIn input)) (valuesIn (imageIn input))) 1000000 (drop (imageSize input) input)) (lineOf (loadFault (imageIn input) 256 4096))) h

@@ -22,3 +22,4 @@ pub mod LinearDemands
 pub mod LinearLaw
 pub mod KindOrder
 pub mod RecordLines
+pub mod Cells

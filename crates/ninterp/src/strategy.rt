@@ -1,2 +1,3 @@
 // What the interpolation strategies are made of.
+pub(crate) mod cell;
 pub mod utils;

@@ -9,6 +9,7 @@ ghost use lib.Ieee.Scale.{finite};
 ghost use Rattle.judge.specs.Check.{Axis};
 ghost use Rattle.ninterp.specs.Utils.{lowerIndex, exactNode, axisLocation, lowerStep, upperStep, stepIndex};
 ghost use Rattle.ninterp.specs.Calls.{locationFraction, axisReadingFault, directedFault, lowerFault, exactFault, locateLowerIndex, exactIndex, locateAxis, locateStepIndex};
+use crate::strategy::cell;
 use answer::Answer;
 use answer::IndexAnswer;
 use blend::AxisLocation;
@@ -33,7 +34,7 @@ pub struct AxisAnswer {
 // ---- on a good axis
 
 // The lower node of the cell that a reading lies in; of the first or the last cell for a reading outside.
-pub(crate) fn lower_index(grid: &[f64], point: f64) -> usize
+fn lower_index(grid: &[f64], point: f64) -> usize
     requires { ⌜ Axis (now grid) × (finite point ≡ true) ⌝ }
     ensures { λ r. ⌜ (r ≡ lowerIndex (now (grid .entry)) point) × (r + 1 < length (now (grid .entry))) ⌝ }
 {
@@ -79,7 +80,7 @@ pub(crate) fn axis_location(grid: &[f64], point: f64) -> AxisLocation
     requires { ⌜ Axis (now grid) × (finite point ≡ true) ⌝ }
     ensures { λ r. ⌜ r ≡ axisLocation (now (grid .entry)) point ⌝ }
 {
-    let lower = lower_index(grid, point);
+    let lower = cell::cell_index(grid, point);
     match exact_node(grid, lower, point) {
         MaybeIndex::Some(node) => AxisLocation::Exact(node),
         MaybeIndex::None => {
@@ -105,7 +106,7 @@ fn lower_step(grid: &[f64], point: f64) -> usize
     ensures { λ r. ⌜ r ≡ lowerStep (now (grid .entry)) point ⌝ }
 {
     let n = grid.len();
-    let lower = lower_index(grid, point);
+    let lower = cell::cell_index(grid, point);
     if point == grid[n - 1] {
         n - 1
     } else if point == grid[lower + 1] {
@@ -123,7 +124,7 @@ fn upper_step(grid: &[f64], point: f64) -> usize
     if point == grid[0] {
         0
     } else {
-        lower_index(grid, point) + 1
+        cell::cell_index(grid, point) + 1
     }
 }
 

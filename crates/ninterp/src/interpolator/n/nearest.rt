@@ -5,7 +5,7 @@ ghost use lib.Ieee.Scale.{finite};
 ghost use Rattle.judge.specs.Check.{Axis};
 ghost use Rattle.ninterp.specs.Tables.{nearestIndex, nearestAnswer};
 use crate::interpolator::n::pick;
-use crate::strategy::utils;
+use crate::strategy::cell;
 use answer::Answer;
 use table::Shape;
 
@@ -14,7 +14,7 @@ pub(crate) fn nearest_index(grid: &[f64], point: f64) -> usize
     requires { ⌜ Axis (now grid) × (finite point ≡ true) ⌝ }
     ensures { λ r. ⌜ r ≡ nearestIndex (now (grid .entry)) point ⌝ }
 {
-    let lower = utils::lower_index(grid, point);
+    let lower = cell::cell_index(grid, point);
     if point - grid[lower] < grid[lower + 1] - point {
         lower
     } else {

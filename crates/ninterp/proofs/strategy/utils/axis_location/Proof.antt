@@ -6,8 +6,8 @@ use borrow.Author.Needs.{needs}
 use Rattle.ninterp.proofs.strategy.utils.axis_location.Statement.{statement}
 use Rattle.ninterp.proofs.strategy.utils.axis_location.Tie as tie
 
-lower-index-requires : tie.Need-lower-index-requires
-lower-index-requires c κs = search needs
+cell-index-requires : tie.Need-cell-index-requires
+cell-index-requires c κs = search needs
 
 exact-node-requires : tie.Need-exact-node-requires
 exact-node-requires c κs = search needs
@@ -42,20 +42,20 @@ shared-slice-read-frac-3 c = search needs
 returns : tie.Need-returns
 returns c =
     let m = c .before .before .before in
-    location-exact _ _ _ (m .before .lower-index .ensures .0) _ (m .exact-node .ensures) _ (c .before .node .given .1)
+    location-exact _ _ _ (m .before .cell-index .ensures .0) _ (m .exact-node .ensures) _ (c .before .node .given .1)
 
 returns-2 : tie.Need-returns-2
 unfolding fraction gap
 returns-2 c =
     let t = c .before .before .before in
     let m = t .before .before in
-    location-between _ _ _ (m .before .lower-index .ensures .0) _ (m .exact-node .ensures) (t .enum-told .given .1)
+    location-between _ _ _ (m .before .cell-index .ensures .0) _ (m .exact-node .ensures) (t .enum-told .given .1)
 
 pub axis-location-spec : {M : Type 1} → statement M
 axis-location-spec =
     tie.close
     (tie.spec
-    lower-index-requires
+    cell-index-requires
     exact-node-requires
     enum-known-node
     enum-told

@@ -3,8 +3,8 @@ use borrow.Author.Needs.{needs}
 use Rattle.ninterp.proofs.strategy.utils.lower_step.Statement.{statement}
 use Rattle.ninterp.proofs.strategy.utils.lower_step.Tie as tie
 
-lower-index-requires : tie.Need-lower-index-requires
-lower-index-requires c κs = search needs
+cell-index-requires : tie.Need-cell-index-requires
+cell-index-requires c κs = search needs
 
 sub-if1 : tie.Need-sub-if1
 sub-if1 c = search needs
@@ -38,20 +38,20 @@ returns-2 c =
     let o = c .before .before in
     let f = o .before .before in
     let s = f .before .before in
-    on-upper _ _ (s .pre .0) (s .pre .1) _ (f .lower-index .ensures .0) (o .if1 .left) (c .if2 .taken)
+    on-upper _ _ (s .pre .0) (s .pre .1) _ (f .cell-index .ensures .0) (o .if1 .left) (c .if2 .taken)
 
 returns-3 : tie.Need-returns-3
 returns-3 c =
     let o = c .before .before in
     let f = o .before .before in
     let s = f .before .before in
-    on-lower _ _ (s .pre .0) (s .pre .1) _ (f .lower-index .ensures .0) (o .if1 .left) (c .if2 .left)
+    on-lower _ _ (s .pre .0) (s .pre .1) _ (f .cell-index .ensures .0) (o .if1 .left) (c .if2 .left)
 
 pub lower-step-spec : {M : Type 1} → statement M
 lower-step-spec =
     tie.close
     (tie.spec
-    lower-index-requires
+    cell-index-requires
     sub-if1
     mul-if1
     shared-slice-read-if1

@@ -3,8 +3,8 @@ use borrow.Author.Needs.{needs}
 use Rattle.ninterp.proofs.interpolator.n.nearest.nearest_index.Statement.{statement}
 use Rattle.ninterp.proofs.interpolator.n.nearest.nearest_index.Tie as tie
 
-lower-index-requires : tie.Need-lower-index-requires
-lower-index-requires c κs = search needs
+cell-index-requires : tie.Need-cell-index-requires
+cell-index-requires c κs = search needs
 
 mul-if1 : tie.Need-mul-if1
 mul-if1 c = search needs
@@ -25,16 +25,16 @@ add-result : tie.Need-add-result
 add-result c = search needs
 
 returns : tie.Need-returns
-returns c = nearest-lower _ _ _ (c .before .before .before .lower-index .ensures .0) (c .if1 .taken)
+returns c = nearest-lower _ _ _ (c .before .before .before .cell-index .ensures .0) (c .if1 .taken)
 
 returns-2 : tie.Need-returns-2
-returns-2 c = nearest-upper _ _ _ (c .before .before .before .lower-index .ensures .0) (c .if1 .left)
+returns-2 c = nearest-upper _ _ _ (c .before .before .before .cell-index .ensures .0) (c .if1 .left)
 
 pub nearest-index-spec : {M : Type 1} → statement M
 nearest-index-spec =
     tie.close
     (tie.spec
-    lower-index-requires
+    cell-index-requires
     mul-if1
     shared-slice-read-if1
     add-if1

@@ -1,0 +1,44 @@
+use mathlib.Core.Path.{sym}
+use Prim.Native.Nat.{_≤_}
+use native.Mathlib.Omega.{arith}
+use lib.ListN.{length}
+use lib.Seq.{length-take-le}
+use denote.Ref.{now}
+use borrow.Author.Needs.{needs}
+use Rattle.whole.proofs.Fits.{end-fits}
+use Rattle.whole.proofs.blocks.end.Statement.{statement}
+use Rattle.whole.proofs.blocks.end.Tie as tie
+
+fits : (w : tie.After-finish) → w .finish .result ≤ length (w .finish .last .1 .1 .0)
+fits w =
+    let s = w .before .before .before in
+    omega (arith, w .finish .ensures .0, w .finish .kept .1 .1 .0, end-fits (s .args .held) (s .args .left) (now (s .args .out)))
+
+finish-requires : tie.Need-finish-requires
+finish-requires c κs = search needs
+
+slice-reshare-prefix-write-all : tie.Need-slice-reshare-prefix-write-all
+slice-reshare-prefix-write-all c = fits (c .before .before)
+
+slice-aggregate-write-all : tie.Need-slice-aggregate-write-all
+slice-aggregate-write-all c = sym (length-take-le _ _ (fits (c .before .before .before)))
+
+write-all-requires : tie.Need-write-all-requires
+write-all-requires c κs = search needs
+
+same-length : tie.Need-same-length
+same-length c = search needs
+
+returns : tie.Need-returns
+returns c = search needs
+
+pub end-spec : {M : Type 1} → statement M
+end-spec =
+    tie.close
+    (tie.spec
+    finish-requires
+    slice-reshare-prefix-write-all
+    slice-aggregate-write-all
+    write-all-requires
+    same-length
+    returns)

@@ -18,14 +18,15 @@ pub record Stepped (p : Rule) (held left : ℕ) (b c : List ℕ) (h l : ℕ) : T
   pub turned : Turned p left (take held b ++ block) printed l (take h c)
   pub within : h ≤ length c
 
--- Some bytes were read and some printed so far, `rest` is held and `left` records may still come. Whatever bytes come next, what was
--- printed and what is printed of the rest and them is what is printed of all that is read.
+-- For some bytes read and some printed so far, `rest` is held and `left` records may still come: whatever bytes come next, what was
+-- printed and what is printed of the rest and them is what is printed of all that is read. Which bytes those are is not said: `read` and
+-- `write` leave no trace that a contract could name.
 pub record Reached (p : Rule) (limit left : ℕ) (rest : List ℕ) : Type 0 where
   pub read : List ℕ
   pub printed : List ℕ
   pub right : (more : List ℕ) → linesOf p limit (read ++ more) ≡ printed ++ linesOf p left (rest ++ more)
 
--- some bytes were read and some printed, and with xs, the last, that is what is printed of all that was read
+-- for some bytes read and some printed: with xs, the last, that is what is printed of all that was read
 pub record Ended (p : Rule) (limit : ℕ) (xs : List ℕ) : Type 0 where
   pub read : List ℕ
   pub printed : List ℕ

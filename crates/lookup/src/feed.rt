@@ -23,11 +23,6 @@ fn fill(buf: &mut [u8], held: usize) -> usize
     held + got
 }
 
-// A buffer that was not filled is the input's last.
-fn go_on(ok: bool, full: bool, left: usize, whole: bool) -> bool {
-    ok && left > 0 && (full || whole)
-}
-
 // Reads on after the bytes that are held, answers the whole records, and prints.
 fn step(
     shape: Shape,
@@ -51,7 +46,7 @@ fn step(
     Next {
         held: rest,
         left: turn.left,
-        go: go_on(ok, full, turn.left, rest >= size),
+        go: records::goes_on(ok, full, turn.left, rest >= size),
         failed: !ok,
     }
 }
@@ -99,6 +94,7 @@ pub(crate) fn answer_all(shape: Shape, nodes: &[f64], values: &[f64])
     requires { ⌜ shape .axes ≤ 4 ⌝ }
 {
     let size = 1 + 8 * shape.axes;
+    // The lines of a full buffer have room: of 9-byte records it has 3,640, each with 20 bytes at most but for a refusal.
     let mut space = [0u8; 32768];
     let mut lines = [0u8; 81920];
     let buf: &mut [u8] = &mut space;
@@ -107,6 +103,7 @@ pub(crate) fn answer_all(shape: Shape, nodes: &[f64], values: &[f64])
     let mut left: usize = 1000000;
     let mut go = true;
     let mut failed = false;
+    // More turns than there can be bytes, so that the loop is seen to end.
     let mut turns = u64::MAX;
     while turns > 0 && go {
         let n = step(shape, nodes, values, size, buf, out, held, left);

@@ -63,7 +63,7 @@ fn load_image(img: &mut [u8], nodes: &mut [f64], values: &mut [f64]) -> LoadAnsw
     image::load(&img[..size], nodes, values)
 }
 
-// Answers the records that follow, from the nodes and the values at the front of two outputs.
+// Answers the records that follow, by the nodes and the values at the front of what the loader filled.
 fn answer_records(shape: Shape, nodes: &[f64], values: &[f64])
     requires { ⌜ shape .axes ≤ 4 ⌝ }
 {

@@ -125,7 +125,7 @@ pub(crate) fn whole_answer(
     point_answer(kind, shape, nodes, values, &readings[..axes])
 }
 
-// Whether so many bytes are a whole record.
+// Whether so many bytes hold a whole record.
 pub(crate) fn is_whole(shape: Shape, len: usize) -> bool
     ensures { λ r. ⌜ r ≡ leb (recordSize shape) len ⌝ }
 {

@@ -19,7 +19,7 @@ use Rattle.lines.proofs.Puts.{wrote-take, wrote-length}
 use Rattle.lines.proofs.Runs.{cut-off, cut-none, cut-some}
 use Rattle.lines.proofs.Shows.{line-wrote, line-fits}
 use Rattle.words.specs.Words.{ofBytes, wordAt}
-use Rattle.records.specs.Run.{imageSize, imageIn, endless, endInto, endSize}
+use Rattle.records.specs.Run.{imageSize, imageIn, nothingMore, endInto, endSize, goesOn}
 
 module _ (input : List ℕ) (w : ℕ) (e : w ≡ wordAt 4 input 4) where
   sized : (b : Bool) → (leb 40 w && leb w 36864) ≡ b → cond b w 40 ≡ imageSize input
@@ -54,16 +54,16 @@ size-most input = go (leb 40 (wordAt 4 input 4)) (leb (wordAt 4 input 4) 36864) 
     go false b h = omega arith
 
 module _ (rest left : ℕ) (out : List ℕ) where
-  told : (b : Bool) → endless rest left ≡ b → (cond b 0 (lineEnd (refused 3 0 2) out 0) ≡ endSize rest left out) × (cond b out (lineInto (refused 3 0 2) out 0) ≡ endInto rest left out)
+  told : (b : Bool) → nothingMore rest left ≡ b → (cond b 0 (lineEnd (refused 3 0 2) out 0) ≡ endSize rest left out) × (cond b out (lineInto (refused 3 0 2) out 0) ≡ endInto rest left out)
   unfolding endSize endInto
   told b q = (ap (λ (t : Bool). cond t 0 (lineEnd (refused 3 0 2) out 0)) (sym q), ap (λ (t : Bool). cond t out (lineInto (refused 3 0 2) out 0)) (sym q))
 
   pub no-record-left : left ≡ 0 → (0 ≡ endSize rest left out) × (out ≡ endInto rest left out)
-  unfolding endless
+  unfolding nothingMore
   no-record-left h = told true (ap (λ (t : Bool). t || eqb rest 0) (eq-eqb left 0 h))
 
   pub no-byte-left : rest ≡ 0 → (0 ≡ endSize rest left out) × (out ≡ endInto rest left out)
-  unfolding endless
+  unfolding nothingMore
   no-byte-left h = told true (ap (λ (t : Bool). eqb left 0 || t) (eq-eqb rest 0 h) ∙ or-true (eqb left 0))
     where
       or-true : (t : Bool) → (t || true) ≡ true
@@ -72,7 +72,7 @@ module _ (rest left : ℕ) (out : List ℕ) where
 
   pub cut-short : (left ≡ 0 → ⊥) → (rest ≡ 0 → ⊥) → (r : ℕ) (after : List ℕ) → r ≡ lineEnd (refused 3 0 2) out 0 → after ≡ lineInto (refused 3 0 2) out 0
       → (r ≡ endSize rest left out) × (after ≡ endInto rest left out)
-  unfolding endless
+  unfolding nothingMore
   cut-short h k r after p q =
       let t = told false (ap₂ _||_ (ne-eqb left 0 h) (ne-eqb rest 0 k)) in
       (p ∙ t .0, q ∙ t .1)
@@ -131,3 +131,18 @@ image-read img after size r l e f k =
     let h : length (take 40 img) ≡ 40 = length-take-le 40 img l in
     let n : 40 + length (f .block) ≡ r = omega (arith, h, sym (ap length (f .bytes)) ∙ length-take-le r after (f .within), length-append (take 40 img) (f .block)) in
     ap imageIn (f .bytes) ∙ read-whole (take 40 img) (f .block) h (omega (arith, n, k, e)) ∙ sym (f .bytes)
+
+-- ---- whether the program reads on
+module _ (ok full : Bool) (left : ℕ) (whole : Bool) where
+  pub output-failed : ok ≡ false → false ≡ goesOn ok full left whole
+  unfolding goesOn
+  output-failed h = sym (ap (λ (b : Bool). cond b (cond (eqb left 0) false (full || whole)) false) h)
+
+  module _ (h : ok ≡ true) where
+    pub limit-reached : left ≡ 0 → false ≡ goesOn ok full left whole
+    unfolding goesOn
+    limit-reached z = sym (ap₂ (λ (b c : Bool). cond b (cond c false (full || whole)) false) h (eq-eqb left 0 z))
+
+    pub more-to-come : (left ≡ 0 → ⊥) → (full || whole) ≡ goesOn ok full left whole
+    unfolding goesOn
+    more-to-come z = sym (ap₂ (λ (b c : Bool). cond b (cond c false (full || whole)) false) h (ne-eqb left 0 z))

@@ -1,5 +1,5 @@
 -- "The program and one whole run": what the program prints of its input.
-use mathlib.Core.Bool.{Bool, _&&_, _||_, cond}
+use mathlib.Core.Bool.{Bool, false, _&&_, _||_, cond}
 use mathlib.Core.List.{List}
 use Prim.Native.Nat.{ℕ}
 use lib.Dec.{leb, eqb}
@@ -28,12 +28,16 @@ runOf input =
     (linesOf (recordRule (shapeOf (imageIn input)) (nodesIn (imageIn input)) (valuesIn (imageIn input))) 1000000 (drop (imageSize input) input))
     (lineOf (loadFault (imageIn input) 256 4096))
 
--- "A short last record prints `no 3 0 2` and nothing more.": no bytes are no record, and after the last record that is answered nothing comes
-unfoldable pub endless : ℕ → ℕ → Bool
-endless rest left = eqb left 0 || eqb rest 0
+-- "A short last record prints `no 3 0 2` and nothing more.": no bytes are no record, and once the last record of the limit is answered nothing is printed
+unfoldable pub nothingMore : ℕ → ℕ → Bool
+nothingMore rest left = eqb left 0 || eqb rest 0
 
 unfoldable pub endInto : ℕ → ℕ → List ℕ → List ℕ
-endInto rest left out = cond (endless rest left) out (lineInto (refused 3 0 2) out 0)
+endInto rest left out = cond (nothingMore rest left) out (lineInto (refused 3 0 2) out 0)
 
 unfoldable pub endSize : ℕ → ℕ → List ℕ → ℕ
-endSize rest left out = cond (endless rest left) 0 (lineEnd (refused 3 0 2) out 0)
+endSize rest left out = cond (nothingMore rest left) 0 (lineEnd (refused 3 0 2) out 0)
+
+-- whether the program reads on: its output stands, records may still come, and the buffer was filled or holds a whole record still
+unfoldable pub goesOn : Bool → Bool → ℕ → Bool → Bool
+goesOn ok full left whole = cond ok (cond (eqb left 0) false (full || whole)) false

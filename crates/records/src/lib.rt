@@ -2,7 +2,7 @@
 ghost use mathlib.Core.Path.{_≡_};
 ghost use Prim.Native.Nat.{ℕ, _*_, _≤_};
 ghost use Rattle.ninterp.specs.Records.{recordSize, recordRule};
-ghost use Rattle.records.specs.Run.{imageSize, endSize, endInto};
+ghost use Rattle.records.specs.Run.{imageSize, goesOn, endSize, endInto};
 ghost use Rattle.records.specs.Turns.{TurnOf};
 use table::Shape;
 
@@ -70,6 +70,22 @@ pub fn take_turn(
         held,
         left: most - count,
     }
+}
+
+// Whether to read on.
+pub fn goes_on(ok: bool, full: bool, left: usize, whole: bool) -> bool
+    ensures { λ r. ⌜ r ≡ goesOn ok full left whole ⌝ }
+{
+    if !ok {
+        return false;
+    }
+    if left == 0 {
+        return false;
+    }
+    if full {
+        return true;
+    }
+    whole
 }
 
 // ---- the input's end

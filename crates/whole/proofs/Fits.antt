@@ -11,11 +11,11 @@ use Rattle.answer.specs.Answer.{refused}
 use Rattle.lines.specs.Line.{lineOf, longest}
 use Rattle.lines.specs.Put.{lineEnd, roomFor}
 use Rattle.lines.proofs.Shows.{line-fits}
-use Rattle.records.specs.Run.{endless, endSize}
+use Rattle.records.specs.Run.{nothingMore, endSize}
 
 pub end-fits : (rest left : ℕ) (out : List ℕ) → endSize rest left out ≤ length out
 unfolding endSize lineEnd roomFor refused
-end-fits rest left out = go (endless rest left) (leb (0 + longest) (length out)) (leb-true (0 + longest) (length out))
+end-fits rest left out = go (nothingMore rest left) (leb (0 + longest) (length out)) (leb-true (0 + longest) (length out))
   where
     go : (t u : Bool) → (u ≡ true → 0 + longest ≤ length out) → cond t 0 (cond u (0 + length (lineOf (refused 3 0 2))) 0) ≤ length out
     go true u h = omega arith

@@ -1,4 +1,4 @@
--- The header's fields as the code has them: their widths, and a list of numbers beside it.
+-- The header's fields as the code has them: their widths, and a list of numbers beside them.
 use mathlib.Core.List.{List, [], _∷_}
 use Prim.Native.Nat.{ℕ, _+_}
 

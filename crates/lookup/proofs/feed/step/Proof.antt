@@ -17,7 +17,7 @@ use Rattle.lookup.proofs.feed.step.Reads as reads
 use Rattle.lookup.proofs.feed.step.Lts as lts
 use Rattle.io.proofs.write_all.Reads as write-all-reads
 use Rattle.lookup.proofs.feed.fill.Reads as fill-reads
-use Rattle.lookup.proofs.feed.go_on.Reads as go-on-reads
+use Rattle.records.proofs.goes_on.Reads as goes-on-reads
 use Rattle.records.proofs.take_turn.Reads as take-turn-reads
 
 abbrev start : tie.After-take-turn → tie.Start
@@ -50,8 +50,8 @@ write-all-requires : tie.Need-write-all-requires
 write-all-requires c κs = search needs
 
 -- src/feed.rt:54:13
-go-on-requires : tie.Need-go-on-requires
-go-on-requires c κs = search needs
+goes-on-requires : tie.Need-goes-on-requires
+goes-on-requires c κs = search needs
 
 -- src/feed.rt:32:1
 same-length : tie.Need-same-length
@@ -76,7 +76,7 @@ step-spec =
     slice-reshare-prefix-write-all
     slice-aggregate-write-all
     write-all-requires
-    go-on-requires
+    goes-on-requires
     same-length
     same-length-2
     returns)

@@ -23,30 +23,27 @@ pub fn blend(a: f64, b: f64, f: f64) -> f64
 // ---- the corners of a reading
 
 // One pass: each of the first `half` values blended with the one `half` places on.
-fn pass_over(vals: [f64; 16], half: usize, f: f64) -> [f64; 16]
-    requires { ⌜ half ≤ 8 ⌝ }
-    ensures { λ r. ⌜ r ≡ passedOver f half vals ⌝ }
+fn pass_over(vals: &mut [f64], half: usize, f: f64)
+    requires { ⌜ half + half ≤ length (now vals) ⌝ }
+    ensures { λ _. ⌜ now (vals .exit) ≡ passedOver f half (now (vals .entry)) ⌝ }
 {
-    let mut v = vals;
     let mut i: usize = 0;
     while i < half {
         let j = i + half;
-        let b = blend(v[i], v[j], f);
-        v[i] = b;
+        vals[i] = blend(vals[i], vals[j], f);
         i += 1;
     }
-    v
 }
 
 // The corners after one axis, of which `half` are left: an exact axis has fixed them already.
-fn merge(location: AxisLocation, vals: [f64; 16], half: usize) -> [f64; 16]
-    requires { ⌜ grown location half ≤ 16 ⌝ }
-    ensures { λ r. ⌜ r ≡ merged location half vals ⌝ }
+fn merge(location: AxisLocation, vals: &mut [f64], half: usize)
+    requires { ⌜ grown location half ≤ length (now vals) ⌝ }
+    ensures { λ _. ⌜ now (vals .exit) ≡ merged location half (now (vals .entry)) ⌝ }
 {
     let AxisLocation::Between { lower: _, frac } = location else {
-        return vals;
+        return;
     };
-    pass_over(vals, half, frac)
+    pass_over(vals, half, frac);
 }
 
 // How many corners one axis leaves.
@@ -102,13 +99,14 @@ pub fn fold(vals: [f64; 16], locations: [AxisLocation; 4], n: usize) -> f64
     ensures { λ r. ⌜ r ≡ butterfly (diffs (take n locations)) vals ⌝ }
 {
     let axes = four_at_most(n);
-    let mut v = vals;
     let mut half = corner_count(locations, axes);
+    let mut space = vals;
+    let v: &mut [f64] = &mut space;
     let mut d: usize = 0;
     while d < axes {
         let location = locations[d];
         half = half_of(location, half);
-        v = merge(location, v, half);
+        merge(location, v, half);
         d += 1;
     }
     v[0]

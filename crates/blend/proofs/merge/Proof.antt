@@ -6,26 +6,31 @@ use Rattle.blend.proofs.merge.Reads as reads
 use Rattle.blend.proofs.merge.Lts as lts
 use Rattle.blend.proofs.pass_over.Reads as pass-over-reads
 
--- src/lib.rt:46:43
+-- src/lib.rt:43:43
 enum-known-location : tie.Need-enum-known-location
 enum-known-location c = search needs
 
--- src/lib.rt:47:9
+-- src/lib.rt:44:9
 enum-told : tie.Need-enum-told
 enum-told c = search needs
 
--- src/lib.rt:47:9
+-- src/lib.rt:44:9
 returns : tie.Need-returns
 returns c = search needs
 
--- src/lib.rt:49:5
+-- src/lib.rt:46:5
 pass-over-requires : tie.Need-pass-over-requires
-pass-over-requires c κs = omega (arith, rw (c .before .location .given .1) at (c .before .before .before .pre))
+pass-over-requires c κs = let l = c .before .before in omega (arith, rw (l .location .given .1) at (l .before .before .before .pre))
 
--- src/lib.rt:42:1
+-- src/lib.rt:39:1
+same-length : tie.Need-same-length
+same-length c = search needs
+
+-- src/lib.rt:39:1
 returns-2 : tie.Need-returns-2
-returns-2 c = simp (c .before .before .location .given .1) (c .pass-over .ensures)
+returns-2 c = let p = c .before .before in simp (p .before .before .before .location .given .1) (p .pass-over .ensures)
 
 pub merge-spec : {M : Type 1} → statement M
 merge-spec =
-    tie.close (tie.spec enum-known-location enum-told returns pass-over-requires returns-2)
+    tie.close
+    (tie.spec enum-known-location enum-told returns pass-over-requires same-length returns-2)

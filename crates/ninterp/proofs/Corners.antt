@@ -158,11 +158,11 @@ put-step xs i x z h l p e k b = ⊎-elim below same (less-or-same k i b)
 
 -- the places of one axis more, so far
 pub record Spreaded (v₀ : List ℕ) (count low high i : ℕ) (v : List ℕ) : Type 0 where
-  pub long : length v ≡ 16
+  pub long : length v ≡ length v₀
   pub done : (k : ℕ) → k < i → (getD v k 0 ≡ getD v₀ k 0 + low) × (getD v (k + count) 0 ≡ getD v₀ k 0 + high)
   pub rest : (k : ℕ) → i ≤ k → k < count → getD v k 0 ≡ getD v₀ k 0
 
-module _ (v₀ v : List ℕ) (count low high i at : ℕ) (few : count ≤ 8) (l : i < count) (z : Spreaded v₀ count low high i v) (e : at ≡ getD v i 0) where
+module _ (v₀ v : List ℕ) (count low high i at : ℕ) (few : count + count ≤ length v₀) (l : i < count) (z : Spreaded v₀ count low high i v) (e : at ≡ getD v i 0) where
   abbrev upper : List ℕ
   upper = set v (i + count) (at + high)
 
@@ -175,7 +175,7 @@ module _ (v₀ v : List ℕ) (count low high i at : ℕ) (few : count ≤ 8) (l 
   here : at ≡ getD v₀ i 0
   here = e ∙ z .rest i (omega arith) l
 
-  long-upper : length upper ≡ 16
+  long-upper : length upper ≡ length v₀
   long-upper = length-set v (i + count) (at + high) ∙ z .long
 
   at-low : getD last i 0 ≡ getD v₀ i 0 + low

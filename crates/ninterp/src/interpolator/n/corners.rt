@@ -37,21 +37,19 @@ fn upper_node(location: AxisLocation) -> usize
 }
 
 // The places with one axis more: the first `count` on its lower node, as many more on its upper one.
-fn spread(places: [usize; 16], count: usize, low: usize, high: usize) -> [usize; 16]
-    requires { ⌜ (count ≤ 8) × ((low ≤ 4096) × (high ≤ 4096)) ⌝ }
-    requires { ⌜ ((i : ℕ) → i < count → getD places i 0 ≤ 4096) ⌝ }
-    ensures { λ r. ⌜ ((i : ℕ) → i < count → (getD r i 0 ≡ getD places i 0 + low) × (getD r (i + count) 0 ≡ getD places i 0 + high)) ⌝ }
+fn spread(places: &mut [usize], count: usize, low: usize, high: usize)
+    requires { ⌜ (count + count ≤ length (now places)) × ((low ≤ 4096) × (high ≤ 4096)) ⌝ }
+    requires { ⌜ ((i : ℕ) → i < count → getD (now places) i 0 ≤ 4096) ⌝ }
+    ensures { λ _. ⌜ ((i : ℕ) → i < count → (getD (now (places .exit)) i 0 ≡ getD (now (places .entry)) i 0 + low) × (getD (now (places .exit)) (i + count) 0 ≡ getD (now (places .entry)) i 0 + high)) ⌝ }
 {
-    let mut v = places;
     let mut i: usize = 0;
     while i < count {
-        let at = v[i];
+        let at = places[i];
         let j = i + count;
-        v[j] = at + high;
-        v[i] = at + low;
+        places[j] = at + high;
+        places[i] = at + low;
         i += 1;
     }
-    v
 }
 
 // The flat place of each corner, by its number: from the last axis on, so that the first one's lower half comes first.
@@ -59,7 +57,8 @@ fn corner_places(counts: [usize; 4], locations: [AxisLocation; 4], n: usize) -> 
     requires { ⌜ (n ≤ 4) × ((size (take n counts) ≤ 4096) × Within (take n locations) (take n counts)) ⌝ }
     ensures { λ r. ⌜ ((i : ℕ) → i < 2 ^ length (diffs (take n locations)) → getD r i 0 ≡ cornerPlace (take n counts) (take n locations) i) ⌝ }
 {
-    let mut places = [0usize; 16];
+    let mut space = [0usize; 16];
+    let places: &mut [usize] = &mut space;
     let mut count: usize = 1;
     let mut stride: usize = 1;
     let mut d = n;
@@ -68,12 +67,11 @@ fn corner_places(counts: [usize; 4], locations: [AxisLocation; 4], n: usize) -> 
         let location = locations[d];
         let low = lower_node(location) * stride;
         let high = upper_node(location) * stride;
-        let next = spread(places, count, low, high);
-        places = next;
+        spread(places, count, low, high);
         count = blend::grow(location, count);
         stride = counts[d] * stride;
     }
-    places
+    space
 }
 
 // The values at so many places.

@@ -95,13 +95,12 @@ pub fn corner_count(locations: [AxisLocation; 4], n: usize) -> usize
 }
 
 // The corners' values blended, axis after axis, the first one first.
-pub fn fold(vals: [f64; 16], locations: [AxisLocation; 4], n: usize) -> f64
+pub fn fold(mut vals: [f64; 16], locations: [AxisLocation; 4], n: usize) -> f64
     ensures { λ r. ⌜ r ≡ butterfly (diffs (take n locations)) vals ⌝ }
 {
     let axes = four_at_most(n);
     let mut half = corner_count(locations, axes);
-    let mut space = vals;
-    let v: &mut [f64] = &mut space;
+    let v: &mut [f64] = &mut vals;
     let mut d: usize = 0;
     while d < axes {
         let location = locations[d];

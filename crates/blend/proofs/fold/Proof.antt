@@ -100,7 +100,7 @@ returns c =
     let s = a .before in
     let m = a .four-at-most .result in
     fold-done (s .args .t2) m (l .loop .d) (e .loop-test .left) (l .loop .inv .1)
-    ∙ ap (λ (ls : List AxisLocation). butterfly (diffs ls) (s .args .vals)) (counts-least (s .args .t2) m (s .args .n) (s .good .1 .0 .1 .0 .1) (a .four-at-most .ensures))
+    ∙ ap (λ (ls : List AxisLocation). butterfly (diffs ls) (s .args .t1)) (counts-least (s .args .t2) m (s .args .n) (s .good .1 .0 .1 .0 .1) (a .four-at-most .ensures))
 
 pub fold-spec : {M : Type 1} → statement M
 fold-spec =

@@ -52,13 +52,17 @@ fn spread(places: &mut [usize], count: usize, low: usize, high: usize)
     }
 }
 
-// The flat place of each corner, by its number: from the last axis on, so that the first one's lower half comes first.
-fn corner_places(counts: [usize; 4], locations: [AxisLocation; 4], n: usize) -> [usize; 16]
+// The flat place of each corner, by its number, and how many there are: from the last axis on, so that the first one's lower half comes first.
+fn corner_places(
+    counts: [usize; 4],
+    locations: [AxisLocation; 4],
+    n: usize,
+    places: &mut [usize],
+) -> usize
     requires { ⌜ (n ≤ 4) × ((size (take n counts) ≤ 4096) × Within (take n locations) (take n counts)) ⌝ }
-    ensures { λ r. ⌜ ((i : ℕ) → i < 2 ^ length (diffs (take n locations)) → getD r i 0 ≡ cornerPlace (take n counts) (take n locations) i) ⌝ }
+    requires { ⌜ (length (now places) ≡ 16) × (getD (now places) 0 0 ≡ 0) ⌝ }
+    ensures { λ r. ⌜ (r ≡ 2 ^ length (diffs (take n locations))) × ((i : ℕ) → i < 2 ^ length (diffs (take n locations)) → getD (now (places .exit)) i 0 ≡ cornerPlace (take n counts) (take n locations) i) ⌝ }
 {
-    let mut space = [0usize; 16];
-    let places: &mut [usize] = &mut space;
     let mut count: usize = 1;
     let mut stride: usize = 1;
     let mut d = n;
@@ -71,13 +75,13 @@ fn corner_places(counts: [usize; 4], locations: [AxisLocation; 4], n: usize) -> 
         count = blend::grow(location, count);
         stride = counts[d] * stride;
     }
-    space
+    count
 }
 
 // The values at so many places.
-fn gather(values: &[f64], places: [usize; 16], count: usize) -> [f64; 16]
-    requires { ⌜ (count ≤ 16) × ((i : ℕ) → i < count → getD places i 0 < length (now values)) ⌝ }
-    ensures { λ r. ⌜ ((i : ℕ) → i < count → getD r i nan ≡ getD (now (values .entry)) (getD places i 0) nan) ⌝ }
+fn gather(values: &[f64], places: &[usize], count: usize) -> [f64; 16]
+    requires { ⌜ ((count ≤ 16) × (count ≤ length (now places))) × ((i : ℕ) → i < count → getD (now places) i 0 < length (now values)) ⌝ }
+    ensures { λ r. ⌜ ((i : ℕ) → i < count → getD r i nan ≡ getD (now (values .entry)) (getD (now (places .entry)) i 0) nan) ⌝ }
 {
     let mut vals = [0.0f64; 16];
     let mut i: usize = 0;
@@ -96,9 +100,11 @@ fn compute(shape: Shape, values: &[f64], locations: [AxisLocation; 4]) -> Answer
 {
     let axes = shape.axes;
     let counts = shape.counts;
-    let places = corner_places(counts, locations, axes);
-    let count = blend::corner_count(locations, axes);
-    let vals = gather(values, places, count);
+    let mut space = [0usize; 16];
+    let places: &mut [usize] = &mut space;
+    let count = corner_places(counts, locations, axes, places);
+    let corners: &[usize] = places;
+    let vals = gather(values, corners, count);
     blend::compute(vals, locations, axes)
 }
 

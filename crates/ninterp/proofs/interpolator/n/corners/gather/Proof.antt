@@ -1,12 +1,10 @@
-use lib.ListN.{length-set}
-use Rattle.ninterp.proofs.Corners.{put-step}
-use mathlib.Core.Path.{_≡_, refl, sym, ap, ap₂, _∙_, subst}
-use mathlib.Core.List.{List, [], _∷_, _++_}
-use Prim.Native.Nat.{ℕ, _+_, _-_, _*_, _^_, _≤_, _<_, min}
+use mathlib.Core.Path.{_≡_, refl, _∙_}
+use Prim.Native.Nat.{ℕ, _-_, _≤_, _<_}
 use native.Mathlib.Omega.{arith}
-use lib.ListN.{length, take, drop, getD}
-use lib.Ieee.{Float, nan}
+use lib.ListN.{length, getD, length-set}
+use lib.Ieee.{nan}
 use denote.Ref.{now}
+use Rattle.ninterp.proofs.Corners.{put-step}
 use borrow.Author.Needs.{needs}
 use Rattle.ninterp.proofs.interpolator.n.corners.gather.Statement.{statement}
 use Rattle.ninterp.proofs.interpolator.n.corners.gather.Tie as tie
@@ -14,55 +12,56 @@ use Rattle.ninterp.proofs.interpolator.n.corners.gather.Reads as reads
 use Rattle.ninterp.proofs.interpolator.n.corners.gather.Lts as lts
 
 abbrev Inv-loop : tie.InvT-loop
-Inv-loop values count places vals₀ i₀ vals i = (i ≤ count) × ((length vals ≡ 16) × ((k : ℕ) → k < i → getD vals k nan ≡ getD values (getD places k 0) nan))
+Inv-loop values places count vals₀ i₀ vals i = (i ≤ count) × ((length vals ≡ 16) × ((k : ℕ) → k < i → getD vals k nan ≡ getD values (getD places k 0) nan))
 
 abbrev μ-loop : tie.MeasureT-loop
-μ-loop values count places vals₀ i₀ vals i = count - i
+μ-loop values places count vals₀ i₀ vals i = count - i
 
--- src/interpolator/n/corners.rt:82:5
+-- src/interpolator/n/corners.rt:88:5
 loop-holds : tie.Need-loop-holds Inv-loop μ-loop
 loop-holds c = (omega arith, (refl, λ k b. absurd (omega arith)))
 
--- src/interpolator/n/corners.rt:83:18
+-- src/interpolator/n/corners.rt:89:18
 mul-at : tie.Need-mul-at Inv-loop μ-loop
 mul-at c = search needs
 
--- src/interpolator/n/corners.rt:83:18
-array-read-at : tie.Need-array-read-at Inv-loop μ-loop
-array-read-at c = search needs
+-- src/interpolator/n/corners.rt:89:18
+shared-slice-read-at : tie.Need-shared-slice-read-at Inv-loop μ-loop
+shared-slice-read-at c = search needs
 
--- src/interpolator/n/corners.rt:84:19
+-- src/interpolator/n/corners.rt:90:19
 mul-vals : tie.Need-mul-vals Inv-loop μ-loop
-mul-vals c = let l = c .before in omega (arith, l .before .pre .1 (l .loop .i) (c .loop-test .taken))
+mul-vals c = let w = c .before in let l = w .before in omega (arith, l .before .pre .1 (l .loop .i) (w .loop-test .taken))
 
--- src/interpolator/n/corners.rt:84:19
+-- src/interpolator/n/corners.rt:90:19
 shared-slice-read-vals : tie.Need-shared-slice-read-vals Inv-loop μ-loop
-shared-slice-read-vals c = let w = c .before in let l = w .before in l .before .pre .1 (l .loop .i) (w .loop-test .taken)
+shared-slice-read-vals c = let w = c .before .before in let l = w .before in l .before .pre .1 (l .loop .i) (w .loop-test .taken)
 
--- src/interpolator/n/corners.rt:84:9
+-- src/interpolator/n/corners.rt:90:9
 mul-vals-2 : tie.Need-mul-vals-2 Inv-loop μ-loop
 mul-vals-2 c = search needs
 
--- src/interpolator/n/corners.rt:84:9
+-- src/interpolator/n/corners.rt:90:9
 array-write-vals : tie.Need-array-write-vals Inv-loop μ-loop
 array-write-vals c = search needs
 
--- src/interpolator/n/corners.rt:85:9
+-- src/interpolator/n/corners.rt:91:9
 add-i : tie.Need-add-i Inv-loop μ-loop
 add-i c = search needs
 
--- src/interpolator/n/corners.rt:82:5
+-- src/interpolator/n/corners.rt:88:5
 loop-less : tie.Need-loop-less Inv-loop μ-loop
 loop-less c = search needs
 
--- src/interpolator/n/corners.rt:82:5
+-- src/interpolator/n/corners.rt:88:5
 loop-again : tie.Need-loop-again Inv-loop μ-loop
 loop-again c =
-    let w = c .before in
+    let w = c .before .before in
     let l = w .before in
-    (omega (arith, w .loop-test .taken), (length-set (l .loop .vals) (l .loop .i) _ ∙ l .loop .inv .1 .0, put-step (l .loop .vals) (l .loop .i) _ nan (λ k. getD (now (l .before .args .values)) (getD (l .before .args .t2) k 0) nan) (omega (arith, l .loop .inv .1 .0, l .before .pre .0, w .loop-test .taken)) (l .loop .inv .1 .1) refl))
+    let s = l .before in
+    (omega (arith, w .loop-test .taken), (length-set (l .loop .vals) (l .loop .i) _ ∙ l .loop .inv .1 .0, put-step (l .loop .vals) (l .loop .i) _ nan (λ k. getD (now (s .args .values)) (getD (now (s .args .places)) k 0) nan) (omega (arith, l .loop .inv .1 .0, s .pre .0 .0, w .loop-test .taken)) (l .loop .inv .1 .1) refl))
 
--- src/interpolator/n/corners.rt:76:1
+-- src/interpolator/n/corners.rt:82:1
 returns : tie.Need-returns Inv-loop μ-loop
 returns c = λ k b. let l = c .before in l .loop .inv .1 .1 k (omega (arith, c .loop-test .left, b))
 
@@ -74,7 +73,7 @@ gather-spec =
     μ-loop
     loop-holds
     mul-at
-    array-read-at
+    shared-slice-read-at
     mul-vals
     shared-slice-read-vals
     mul-vals-2

@@ -68,9 +68,26 @@ pub word-there : (n : ℕ) (s : List ℕ) (at : ℕ) → wordAt (min n (length s
 unfolding wordAt
 word-there n s at = ap (λ (k : ℕ). ofBytes (take (min n k) (drop at s))) (sym (length-drop at s)) ∙ ap ofBytes (take-there n (drop at s))
 
-word-more : (n : ℕ) (s : List ℕ) (at : ℕ) → at < length s → wordAt (suc n) s at ≡ getD s at 0 + 256 * wordAt n s (suc at)
+-- one byte more, and four more in a straight line
+word-more : (n : ℕ) (s : List ℕ) (at next : ℕ) → at < length s → next ≡ suc at → wordAt (suc n) s at ≡ getD s at 0 + 256 * wordAt n s next
 unfolding wordAt ofBytes
-word-more n s at h = ap (λ (l : List ℕ). ofBytes (take (suc n) l)) (drop-cons s at 0 h)
+word-more n s at next h e =
+    ap (λ (l : List ℕ). ofBytes (take (suc n) l)) (drop-cons s at 0 h)
+    ∙ ap (λ (k : ℕ). getD s at 0 + 256 * wordAt n s k) (sym e)
+
+abbrev pub fourAt : List ℕ → ℕ → ℕ
+fourAt s at = getD s at 0 + 256 * (getD s (at + 1) 0 + 256 * (getD s (at + 2) 0 + 256 * getD s (at + 3) 0))
+
+four-more : (n : ℕ) (s : List ℕ) (at : ℕ) → at + 4 ≤ length s → wordAt (suc (suc (suc (suc n)))) s at ≡ fourAt s at + 256 ^ 4 * wordAt n s (at + 4)
+four-more n s at h =
+    let a = word-more (suc (suc (suc n))) s at (at + 1) (omega arith) (omega arith) in
+    let b = word-more (suc (suc n)) s (at + 1) (at + 2) (omega arith) (omega arith) in
+    let c = word-more (suc n) s (at + 2) (at + 3) (omega arith) (omega arith) in
+    let d = word-more n s (at + 3) (at + 4) (omega arith) (omega arith) in
+    omega arith
+
+pub word-eight : (s : List ℕ) (at x y : ℕ) → at + 8 ≤ length s → x ≡ fourAt s at → y ≡ fourAt s (at + 4) → x + 256 ^ 4 * y ≡ wordAt 8 s at
+word-eight s at x y h p q = omega (arith, four-more 4 s at (omega arith), four-more 0 s (at + 4) (omega arith), word-none s (at + 4 + 4))
 
 -- ---- reading a word, the highest byte first: i bytes are left
 pub record Reading (s : List ℕ) (at n i x : ℕ) : Type 0 where
@@ -84,30 +101,23 @@ module _ (s : List ℕ) (at n : ℕ) where
       let none : n - n ≡ 0 = omega arith in
       record { left = omega arith; is = sym (ap (λ (k : ℕ). wordAt k s (at + n)) none ∙ word-none s (at + n)); below = power-above (n - n) }
 
-  module _ (i x b : ℕ) (bytes : Bytes s) (room : at + n ≤ length s) (some : 0 < i) (r : Reading s at n i x) (e : b ≡ getD s (at + (i - 1)) 0) where
+  module _ (i x b : ℕ) (byte : b < 256) (room : at + n ≤ length s) (some : 0 < i) (r : Reading s at n i x) (e : b ≡ getD s (at + (i - 1)) 0) where
     more : n - (i - 1) ≡ suc (n - i)
     more = omega (arith, r .left)
-
-    byte : b < 256
-    byte = omega (arith, bytes (at + (i - 1)))
-
-    next : suc (at + (i - 1)) ≡ at + i
-    next = omega arith
 
     pub reading-next : Reading s at n (i - 1) (x * 256 + b)
     reading-next = record {
       left = omega (arith, r .left);
       is =
-          let w = word-more (n - i) s (at + (i - 1)) (omega (arith, r .left)) in
-          let v : wordAt (n - i) s (suc (at + (i - 1))) ≡ x = ap (wordAt (n - i) s) next ∙ sym (r .is) in
-          omega (arith, w, v, e, r .is, ap (λ (k : ℕ). wordAt k s (at + (i - 1))) more);
-      below = rw (more, pow-succ') (omega (arith, byte, r .below));
+          let w = word-more (n - i) s (at + (i - 1)) (at + i) (omega (arith, r .left)) (omega arith) in
+          omega (arith, w, e, r .is, ap (λ (k : ℕ). wordAt k s (at + (i - 1))) more);
+      below = rw (more, pow-succ') (omega (arith, r .below));
     }
 
     pub reading-room : n ≤ 8 → x * 256 + b < 2 ^ 64
     reading-room h =
         let p : 256 ^ (n - i) ≤ 256 ^ 7 = pow-le-pow-right {n = 256} (omega arith) {i = n - i} {j = 7} (omega arith) in
-        omega (arith, r .below, p, byte)
+        omega (arith, r .below, p)
 
   pub reading-end : (i x : ℕ) → i ≤ 0 → Reading s at n i x → (x ≡ wordAt n s at) × (x < 256 ^ n)
   reading-end i x h r =

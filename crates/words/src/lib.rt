@@ -1,11 +1,11 @@
 // Numbers as little-endian bytes, for every place and width: bytes that are not there are not looked at.
 ghost use mathlib.Core.Path.{_≡_};
-ghost use Prim.Native.Nat.{ℕ, _+_, _-_, _^_, _<_, _≤_, min};
-ghost use lib.ListN.{length};
+ghost use Prim.Native.Nat.{ℕ, _+_, _-_, _*_, _^_, _<_, _≤_, min};
+ghost use lib.ListN.{length, getD};
 ghost use Rattle.words.specs.Words.{wordAt, floatAt};
 
 fn wide(x: u8) -> u64
-    ensures { λ r. ⌜ r ≡ x ⌝ }
+    ensures { λ r. ⌜ (r ≡ x) × (r < 256) ⌝ }
 {
     x as u64
 }
@@ -44,9 +44,28 @@ pub fn word(s: &[u8], at: usize, n: usize) -> u64
     word_within(s, at, there)
 }
 
+// Four bytes that are there, and then eight, in a straight line: the compiler reads them by one load.
+fn four(s: &[u8], at: usize) -> u64
+    requires { ⌜ at + 4 ≤ length (now s) ⌝ }
+    ensures { λ r. ⌜ (r ≡ getD (now (s .entry)) at 0 + 256 * (getD (now (s .entry)) (at + 1) 0 + 256 * (getD (now (s .entry)) (at + 2) 0 + 256 * getD (now (s .entry)) (at + 3) 0))) × (r < 256 ^ 4) ⌝ }
+{
+    wide(s[at]) + 256 * (wide(s[at + 1]) + 256 * (wide(s[at + 2]) + 256 * wide(s[at + 3])))
+}
+
+fn eight(s: &[u8], at: usize) -> u64
+    requires { ⌜ at + 8 ≤ length (now s) ⌝ }
+    ensures { λ r. ⌜ r ≡ wordAt 8 (now (s .entry)) at ⌝ }
+{
+    four(s, at) + 0x1_0000_0000 * four(s, at + 4)
+}
+
 // The number whose bits stand at a place.
 pub fn float(s: &[u8], at: usize) -> f64
     ensures { λ r. ⌜ r ≡ floatAt (now (s .entry)) at ⌝ }
 {
+    let len = s.len();
+    if len >= 8 && at <= len - 8 {
+        return binary64::float_of_bits(eight(s, at));
+    }
     binary64::float_of_bits(word(s, at, 8))
 }

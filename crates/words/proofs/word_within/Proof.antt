@@ -1,4 +1,4 @@
-use Rattle.words.proofs.Bytes.{Bytes, Reading, reading-start, reading-next, reading-room, reading-end}
+use Rattle.words.proofs.Bytes.{Reading, reading-start, reading-next, reading-room, reading-end}
 use mathlib.Core.Path.{_≡_, refl, sym, ap, ap₂, _∙_, subst}
 use mathlib.Core.List.{List, [], _∷_, _++_}
 use Prim.Native.Nat.{ℕ, _+_, _-_, _*_, _^_, _≤_, _<_, min}
@@ -19,11 +19,8 @@ Inv-loop s at n x₀ i₀ x i = Reading s at n i x
 abbrev μ-loop : tie.MeasureT-loop
 μ-loop s at n x₀ i₀ x i = i
 
-bytes : (c : tie.After-wide Inv-loop μ-loop) → Bytes (c .before .before .before .before .before .args .s .now)
-bytes c k = c .before .shared-slice-known2 .given k .fits
-
 room : (c : tie.After-wide Inv-loop μ-loop) → c .before .before .before .loop .x * 256 + c .wide .result < 2 ^ 64
-room c = reading-room _ _ _ _ _ _ (bytes c) (c .before .before .before .before .before .pre .1) (c .before .before .loop-test .taken) (c .before .before .before .loop .inv) (c .wide .ensures) (c .before .before .before .before .before .pre .0)
+room c = reading-room _ _ _ _ _ _ (c .wide .ensures .1) (c .before .before .before .before .before .pre .1) (c .before .before .loop-test .taken) (c .before .before .before .loop .inv) (c .wide .ensures .0) (c .before .before .before .before .before .pre .0)
 
 -- src/lib.rt:20:5
 loop-holds : tie.Need-loop-holds Inv-loop μ-loop
@@ -59,7 +56,7 @@ loop-less c = search needs
 
 -- src/lib.rt:20:5
 loop-again : tie.Need-loop-again Inv-loop μ-loop
-loop-again c = reading-next _ _ _ _ _ _ (bytes c) (c .before .before .before .before .before .pre .1) (c .before .before .loop-test .taken) (c .before .before .before .loop .inv) (c .wide .ensures)
+loop-again c = reading-next _ _ _ _ _ _ (c .wide .ensures .1) (c .before .before .before .before .before .pre .1) (c .before .before .loop-test .taken) (c .before .before .before .loop .inv) (c .wide .ensures .0)
 
 -- src/lib.rt:14:1
 returns : tie.Need-returns Inv-loop μ-loop

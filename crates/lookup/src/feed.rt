@@ -94,7 +94,7 @@ pub(crate) fn answer_all(shape: Shape, nodes: &[f64], values: &[f64])
     requires { ⌜ shape .axes ≤ 4 ⌝ }
 {
     let size = 1 + 8 * shape.axes;
-    // The lines of a full buffer have room: of 9-byte records it has 3,640, each with 20 bytes at most but for a refusal.
+    // The lines of a full buffer have room: of 9-byte records it has 3,640, and no line of a record has more than 20 bytes.
     let mut space = [0u8; 32768];
     let mut lines = [0u8; 81920];
     let buf: &mut [u8] = &mut space;

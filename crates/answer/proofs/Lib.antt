@@ -1,3 +1,4 @@
 pub mod Orders
 pub mod Outcome
 pub mod Unique
+pub mod Bares

@@ -12,12 +12,13 @@ use Rattle.judge.specs.Check.{gap, countFault, riseFault, nodeFault, nodesFault
 use Rattle.uniform.specs.Uniform.{uniformCell, uniformIndex, apart, gapFault, uniformFault, toleranceOf}
 use Rattle.uniform.specs.Calls.{uniformReadFault, locateLowerIndexUniform, validateUniformGridEpsilon}
 use Rattle.uniform.specs.declared.Tolerance.the-variants.{Default}
-use Rattle.ninterp.specs.Utils.{howMany, lowerIndex, exactNode, fraction, axisLocation, lowerStep, upperStep, stepIndex}
-use Rattle.ninterp.specs.Calls.{axisAnswer, axisReadingFault, directedFault, locateLowerIndex, locateAxis, locateStepIndex}
-use Rattle.ninterp.specs.Tables.{nearestIndex, indices, picked, nearestAnswer}
+use Rattle.axis.specs.Utils.{howMany, lowerIndex, exactNode, fraction, axisLocation, lowerStep, upperStep, stepIndex}
+use Rattle.utils.specs.Calls.{axisAnswer, axisReadingFault, directedFault, locateLowerIndex, locateAxis, locateStepIndex}
+use Rattle.axis.specs.Picks.{nearestIndex}
+use Rattle.ninterp.specs.Tables.{indices, picked, nearestAnswer}
 use Rattle.ninterp.specs.Linears.{locations, interpolated, linearAnswer}
-use Rattle.ninterp.specs.Slices.{shapeWithout, pointFault, sliceAnswer, slicedInto}
-use Rattle.ninterp.specs.LinearSlices.{alongFirst, linearValues, linearRest, linearSliceFault, linearSlice, linearSliced}
+use Rattle.slices.specs.Slices.{shapeWithout, pointFault, sliceAnswer, slicedInto}
+use Rattle.slices.specs.LinearSlices.{alongFirst, linearValues, linearRest, linearSliceFault, linearSlice, linearSliced}
 use Rattle.table.specs.Shape.{size, total, axesOf, strides, placeBy, table, indicesAt}
 use Rattle.table.specs.Table.{shapeFault, lengthFault, frameFault, axesFault, valueFault, valuesFault, readingsFault, rangeFault, rangesFault}
 use Rattle.table.specs.declared.Shape.{Shape}
@@ -26,7 +27,7 @@ use Rattle.order.specs.Fronts.{notFirstFault, roomFault, linearFront}
 use Rattle.blend.specs.Blend.{blended, computed, resultFaultAt, resultsFault}
 use Rattle.blend.specs.declared.AxisLocation.{AxisLocation}
 use Rattle.blend.specs.declared.AxisLocation.the-variants.{Exact, Between}
-use Rattle.ninterp.specs.declared.strategy.utils.AxisAnswer.{AxisAnswer}
+use Rattle.utils.specs.declared.AxisAnswer.{AxisAnswer}
 
 -- what a call tells
 pub data Outcome : Type 0 where

@@ -1,9 +1,9 @@
 -- Where the corners of a reading lie in the flat values. Assumes nothing.
-use mathlib.Core.Path.{_≡_, refl, sym, ap, ap₂, _∙_, subst}
+use mathlib.Core.Path.{_≡_, refl, sym, ap, _∙_, subst}
 use mathlib.Core.Logic.{_⊎_, inl, inr, ⊎-elim}
 use mathlib.Core.Bool.{Bool, true, false}
 use mathlib.Core.List.{List, [], _∷_}
-use Prim.Native.Nat.{ℕ, zero, suc, _+_, _-_, _*_, _/_, _%_, _^_, _≤_, _<_, min}
+use Prim.Native.Nat.{ℕ, zero, suc, _+_, _-_, _*_, _/_, _%_, _^_, _≤_, _<_}
 use native.Mathlib.Nat.{mul-le-mul-right, mul-le-mul, mod-lt, mul-one, one-mul, pow-le-pow-right}
 use native.Mathlib.Omega.{arith}
 use lib.Dec.{ltb}
@@ -16,13 +16,13 @@ use Rattle.table.proofs.Shapes.{ahead, past}
 use Rattle.table.proofs.Layouts.{place-cons, place-none, size-cons, size-nil, place-below, getD-tabulate}
 use Rattle.blend.specs.Blend.{linear}
 use Rattle.blend.specs.Rust.{diffs, butterfly}
-use Rattle.blend.specs.Folds.{cornerAt, grown, moreCorners}
+use Rattle.blend.specs.Folds.{cornerAt, moreCorners}
 use Rattle.blend.specs.declared.AxisLocation.{AxisLocation}
 use Rattle.blend.specs.declared.AxisLocation.the-variants.{Exact, Between}
 use Rattle.blend.proofs.Bits.{power-suc, low-corner, high-corner, fold-linear}
 use Rattle.blend.proofs.Folds.{butterfly-same, few-diffs, few-corners, more-power}
-use Rattle.ninterp.specs.Calls.{locationIndex}
-use Rattle.ninterp.specs.Locations.{upperOf, Within, cornerPlace}
+use Rattle.axis.specs.Locations.{locationIndex, upperOf}
+use Rattle.ninterp.specs.Locations.{Within, cornerPlace}
 
 -- ---- locations on their axes
 pub lower-upper : (p : AxisLocation) → locationIndex p ≤ upperOf p

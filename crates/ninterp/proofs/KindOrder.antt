@@ -1,20 +1,20 @@
 -- A record's answer in the order in which the code finds it. Assumes nothing.
 use mathlib.Core.Path.{_≡_, refl, sym, ap, ap₂, _∙_}
-use mathlib.Core.Bool.{Bool, true, false, cond}
-use mathlib.Core.List.{List, [], _∷_}
-use Prim.Native.Nat.{ℕ, zero, suc, _+_, _-_, _*_, _/_, _≤_, _<_, min}
+use mathlib.Core.Bool.{Bool, true, false}
+use mathlib.Core.List.{List}
+use Prim.Native.Nat.{ℕ, zero, suc, _+_, _-_, _*_, _/_, _≤_, _<_}
 use native.Mathlib.Omega.{arith}
 use borrow.Author.Tests.{lt-ltb, le-ltb, le-leb, lt-leb, leb-true, leb-false, eq-eqb, ne-eqb}
 use lib.Dec.{leb, ltb, eqb}
 use lib.ListN.{length, take, getD, length-take}
-use lib.Ieee.{Float, nan}
-use Rattle.answer.specs.Answer.{refused, answered, fine, good, when, _or_}
+use lib.Ieee.{Float}
+use Rattle.answer.specs.Answer.{refused, answered, good, when, _or_}
 use Rattle.answer.specs.declared.Answer.{Answer}
 use Rattle.answer.proofs.Orders as orders
 use Rattle.words.specs.Words.{floatAt}
 use Rattle.judge.specs.Check.{directionFault}
 use Rattle.judge.proofs.Rows.{direction-fine}
-use Rattle.table.specs.Shape.{countsOf, tabulate}
+use Rattle.table.specs.Shape.{countsOf}
 use Rattle.table.specs.Table.{frameFault, lengthFault, axesFault, valuesFault, directionsFault, readingsFault, rangesFault}
 use Rattle.table.specs.declared.Shape.{Shape}
 use Rattle.table.proofs.Tables.{length-same, shape-four}
@@ -26,7 +26,7 @@ use Rattle.blend.specs.Blend.{computed}
 use Rattle.ninterp.specs.Tables.{picked, nearestRule, stepRule, nearestAnswer, stepAnswer, Judged}
 use Rattle.ninterp.specs.Picks.{pickRule}
 use Rattle.ninterp.specs.Linears.{interpolated, linearAnswer, linearUniformAnswer}
-use Rattle.ninterp.specs.Locations.{locationBy}
+use Rattle.axis.specs.Locations.{locationBy}
 use Rattle.ninterp.specs.Records.{allOf, kindAnswer, recordSize, recordReadings, recordAnswer}
 use Rattle.ninterp.specs.Kinds.{tableFault, kindFault, pickOf, fourOf, kindFound}
 use Rattle.ninterp.proofs.Lookups.{judged, four-at, picks-nearest, picks-step}

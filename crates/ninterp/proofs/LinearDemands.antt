@@ -1,8 +1,8 @@
 -- Demand 2 for Linear and LinearUniform, and stored bits at nodes. Assumes nothing.
-use mathlib.Core.Path.{_≡_, refl, sym, ap, ap₂, _∙_, subst}
-use mathlib.Core.Bool.{Bool, true, false}
-use mathlib.Core.List.{List, [], _∷_}
-use Prim.Native.Nat.{ℕ, zero, suc, _+_, _≤_, _<_}
+use mathlib.Core.Path.{_≡_, refl, sym, ap, _∙_}
+use mathlib.Core.Bool.{true, false}
+use mathlib.Core.List.{List, _∷_}
+use Prim.Native.Nat.{ℕ, zero, suc, _<_}
 use native.Mathlib.Omega.{arith}
 use lib.ListN.{length, getD}
 use lib.Ieee.{Float, nan, eq}
@@ -24,10 +24,11 @@ use Rattle.blend.specs.Rust.{rustLinear}
 use Rattle.blend.specs.declared.AxisLocation.{AxisLocation}
 use Rattle.blend.specs.declared.AxisLocation.the-variants.{Exact}
 use Rattle.blend.proofs.Bits.{rust-linear}
-use Rattle.ninterp.specs.Utils.{axisLocation}
+use Rattle.axis.specs.Utils.{axisLocation}
 use Rattle.ninterp.specs.Tables.{indices}
-use Rattle.ninterp.specs.Linears.{uniformLocation, locations, interpolated, linearAnswer, linearUniformAnswer}
-use Rattle.ninterp.proofs.Laws.{node-located}
+use Rattle.axis.specs.Locations.{uniformLocation}
+use Rattle.ninterp.specs.Linears.{locations, interpolated, linearAnswer, linearUniformAnswer}
+use Rattle.axis.proofs.Laws.{node-located}
 use Rattle.ninterp.proofs.Picks.{list-inside}
 use Rattle.ninterp.proofs.Demands as demands
 use Rattle.ninterp.proofs.Demands.{Accepted, InRange, axisOf}

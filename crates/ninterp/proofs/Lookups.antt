@@ -1,31 +1,30 @@
 -- What is known of a table and a reading that were judged for a lookup by Nearest or Step, and the value that is then answered. Assumes nothing.
-use mathlib.Core.Path.{_≡_, refl, sym, ap, _∙_, subst}
+use mathlib.Core.Path.{_≡_, refl, ap, _∙_}
 use mathlib.Core.Bool.{true}
 use mathlib.Core.List.{List, []}
-use Prim.Native.Nat.{ℕ, zero, suc, _+_, _-_, _≤_, _<_}
+use Prim.Native.Nat.{ℕ, zero, suc, _≤_, _<_}
 use native.Mathlib.Omega.{arith}
-use borrow.Author.Tests.{lt-ltb, le-ltb, ltb-false}
-use lib.Dec.{ltb}
+use borrow.Author.Tests.{lt-ltb, le-ltb}
 use lib.ListN.{length, getD}
 use lib.Ieee.{Float, nan}
-use lib.Ieee.Scale.{finite}
-use Rattle.answer.specs.Answer.{good, answered, _or_, firstOf}
+use Rattle.answer.specs.Answer.{good, _or_}
 use Rattle.answer.specs.declared.Answer.{Answer}
 use Rattle.answer.proofs.Orders as orders
 use Rattle.judge.specs.Check.{directionFault}
 use Rattle.judge.proofs.Rows.{direction-passed}
-use Rattle.table.specs.Shape.{countsOf, size, axesOf, place, table, tabulate}
-use Rattle.table.specs.Table.{frameFault, lengthFault, axesFault, valuesFault, directionsFault, readingsFault, rangesFault, Grid}
+use Rattle.table.specs.Shape.{countsOf, axesOf, place, table}
+use Rattle.table.specs.Table.{frameFault, lengthFault, axesFault, valuesFault, directionsFault, readingsFault, rangesFault}
 use Rattle.table.specs.declared.Shape.{Shape}
 use Rattle.table.proofs.Shapes.{length-axes}
 use Rattle.table.proofs.Tables.{shape-four, length-passed}
 use Rattle.table.proofs.Layouts.{tabulate-same}
 use Rattle.table.proofs.Grids.{frame-shape, frame-values, frame-axes, grid-of, readings-finite}
-use Rattle.ninterp.specs.Utils.{stepIndex}
+use Rattle.axis.specs.Utils.{stepIndex}
 use Rattle.uniform.specs.Uniform.{axesUniformFault}
 use Rattle.order.specs.Lookups.{lookupFault, stepFault, linearUniformFault}
-use Rattle.ninterp.specs.Tables.{nearestIndex, indices, picked, nearestRule, stepRule, Judged}
-use Rattle.ninterp.specs.Picks.{pickIndex, pickRule}
+use Rattle.axis.specs.Picks.{nearestIndex, pickIndex}
+use Rattle.ninterp.specs.Tables.{indices, picked, nearestRule, stepRule, Judged}
+use Rattle.ninterp.specs.Picks.{pickRule}
 use Rattle.ninterp.specs.Kinds.{fourOf}
 
 -- ---- a judged table and reading

@@ -1,80 +1,23 @@
 -- The index that a pick gives on each axis, and the place of the index list. Assumes nothing.
-use mathlib.Core.Path.{_≡_, refl, sym, ap, ap₂, _∙_, subst}
-use mathlib.Core.Bool.{Bool, true, false, cond}
-use mathlib.Core.List.{List, [], _∷_}
-use Prim.Native.Nat.{ℕ, zero, suc, _+_, _-_, _*_, _≤_, _<_, min}
+use mathlib.Core.Path.{_≡_, sym, ap, ap₂, _∙_, subst}
+use mathlib.Core.Bool.{true}
+use mathlib.Core.List.{List, []}
+use Prim.Native.Nat.{ℕ, _+_, _-_, _*_, _≤_, _<_, min}
 use native.Mathlib.Omega.{arith}
-use borrow.Author.Tests.{lt-ltb, le-ltb}
-use lib.Dec.{ltb, eqb}
 use lib.ListN.{length, take, drop, getD, length-take, length-drop}
 use lib.Seq.{length-take-le, getD-take}
-use lib.Ieee.{Float, nan, lt, le, sub, binary64}
+use lib.Ieee.{Float, nan}
 use lib.Ieee.Scale.{finite}
-use Rattle.judge.specs.Check.{node, Axis}
-use Rattle.table.specs.Shape.{size, total, axesOf, place, tabulate, Inside}
+use Rattle.judge.specs.Check.{Axis}
+use Rattle.table.specs.Shape.{size, total, axesOf, place, Inside}
 use Rattle.table.specs.Table.{Grid}
 use Rattle.table.proofs.Shapes.{length-axes, Walk, walk-here, walk-axis, walk-on}
 use Rattle.table.proofs.Layouts.{length-tabulate, getD-tabulate, place-below, place-step, place-fits, place-done, inside-tabulate}
 use Rattle.table.proofs.Grids.{length-axis}
-use Rattle.ninterp.specs.Utils.{howMany, countBelow, lowerIndex, byRange, lowerStep, upperStep, stepIndex}
-use Rattle.ninterp.specs.Tables.{nearer, nearestIndex, indices}
-use Rattle.ninterp.specs.Picks.{pickIndex, pickRule}
-use Rattle.ninterp.proofs.Axes.{lower-fits}
-use Rattle.ninterp.proofs.Laws.{few}
-
--- ---- each index is one of its axis
-many : (test : Float → Bool) (xs : List Float) → howMany test xs ≤ length xs
-unfolding howMany
-many test [] = omega arith
-many test (x ∷ xs) = go (test x) (many test xs)
-  where
-    go : (b : Bool) → howMany test xs ≤ length xs → cond b 1 0 + howMany test xs ≤ suc (length xs)
-    go true h = omega arith
-    go false h = omega arith
-
-module _ (xs : List Float) (p : Float) (ax : Axis xs) (fp : finite p ≡ true) where
-  enough : 2 ≤ length xs
-  enough = ax .enough
-
-  by-range : (a b c : ℕ) → a < length xs → b < length xs → (lt p (node xs 0) ≡ false → lt (node xs (length xs - 1)) p ≡ false → c < length xs) → byRange xs p a b c < length xs
-  by-range a b c la lb lc = go (lt p (node xs 0)) (lt (node xs (length xs - 1)) p) refl refl
-    where
-      go : (s t : Bool) → lt p (node xs 0) ≡ s → lt (node xs (length xs - 1)) p ≡ t → cond s a (cond t b c) < length xs
-      go true t u v = la
-      go false true u v = lb
-      go false false u v = lc u v
-
-  pub step-fits : (direction : ℕ) → stepIndex direction xs p < length xs
-  unfolding stepIndex lowerStep upperStep
-  step-fits direction = go (eqb direction 0)
-    where
-      go : (b : Bool) → cond b (byRange xs p 0 (length xs - 2) (howMany (λ x. le x p) xs - 1)) (byRange xs p 1 (length xs - 1) (countBelow xs p)) < length xs
-      go true = by-range 0 (length xs - 2) (howMany (λ x. le x p) xs - 1) (omega (arith, enough)) (omega (arith, enough)) (λ u v. omega (arith, enough, many (λ x. le x p) xs))
-      go false = by-range 1 (length xs - 1) (countBelow xs p) (omega (arith, enough)) (omega (arith, enough)) (λ u v. few xs p ax fp u v)
-
-  pub nearest-fits : nearestIndex xs p < length xs
-  unfolding nearestIndex
-  nearest-fits = go (lt (sub binary64 p (node xs (lowerIndex xs p))) (sub binary64 (node xs (lowerIndex xs p + 1)) p))
-    where
-      go : (b : Bool) → cond b (lowerIndex xs p) (lowerIndex xs p + 1) < length xs
-      go true = omega (arith, lower-fits xs p ax fp)
-      go false = lower-fits xs p ax fp
-
-  pub pick-step : (pick : ℕ) → pick < 2 → stepIndex pick xs p ≡ pickIndex pick xs p
-  unfolding pickIndex
-  pick-step pick h = simp (lt-ltb pick 2 h)
-
-  pub pick-nearest : (pick : ℕ) → 2 ≤ pick → nearestIndex xs p ≡ pickIndex pick xs p
-  unfolding pickIndex
-  pick-nearest pick h = simp (le-ltb pick 2 h)
-
-  pub pick-fits : (pick : ℕ) → pickIndex pick xs p < length xs
-  unfolding pickIndex
-  pick-fits pick = go (ltb pick 2)
-    where
-      go : (b : Bool) → cond b (stepIndex pick xs p) (nearestIndex xs p) < length xs
-      go true = step-fits pick
-      go false = nearest-fits
+use Rattle.ninterp.specs.Tables.{indices}
+use Rattle.axis.specs.Picks.{pickIndex, pickFound}
+use Rattle.ninterp.specs.Picks.{pickRule}
+use Rattle.axis.proofs.Picks.{pick-fits, pick-found}
 
 -- ---- the index list lies in the table, for any rule whose indexes are of their axes
 module _ (rule : ℕ → List Float → Float → ℕ) (counts : List ℕ) (nodes readings : List Float) (flat : length nodes ≡ total counts)
@@ -144,10 +87,10 @@ module _ (C : List ℕ) (axes : ℕ) (nodes : List Float) (picks : List ℕ) (re
     pub axis-good : Axis (take (at + getD C a 0 - at) (drop at nodes))
     axis-good = subst Axis (sym axis-read) (g .axes a here)
 
-    module _ (i : ℕ) (e : i ≡ pickIndex (getD picks a 0) (take (at + getD C a 0 - at) (drop at nodes)) (getD readings a nan)) (flat : ℕ)
+    module _ (i : ℕ) (e : i ≡ pickFound (getD picks a 0) (take (at + getD C a 0 - at) (drop at nodes)) (getD readings a nan)) (flat : ℕ)
         (inv : flat * size (drop a cs) + place (drop a cs) (drop a is) ≡ place cs is) where
       same-index : getD is a 0 ≡ i
-      same-index = index-at (pickRule picks) cs nodes readings a here ∙ sym (e ∙ ap (λ xs. pickIndex (getD picks a 0) xs (getD readings a nan)) axis-read)
+      same-index = index-at (pickRule picks) cs nodes readings a here ∙ sym (e ∙ pick-found (take (at + getD C a 0 - at) (drop at nodes)) (getD readings a nan) axis-good (finites a l) (getD picks a 0) ∙ ap (λ xs. pickIndex (getD picks a 0) xs (getD readings a nan)) axis-read)
 
       same-count : getD cs a 0 ≡ getD C a 0
       same-count = getD-take axes C a 0 l

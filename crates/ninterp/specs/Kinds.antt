@@ -14,7 +14,7 @@ use Rattle.blend.specs.Blend.{computed}
 use Rattle.ninterp.specs.Tables.{picked}
 use Rattle.ninterp.specs.Picks.{pickRule}
 use Rattle.ninterp.specs.Linears.{interpolated}
-use Rattle.ninterp.specs.Locations.{locationBy}
+use Rattle.axis.specs.Locations.{locationBy}
 
 -- 1 to 7, the same for every record
 abbrev pub tableFault : Shape → List Float → List Float → Answer

@@ -1,11 +1,6 @@
-pub mod Utils
-pub mod Calls
 pub mod Tables
 pub mod Picks
-pub mod Rust
 pub mod Linears
 pub mod Locations
-pub mod Slices
-pub mod LinearSlices
 pub mod Records
 pub mod Kinds

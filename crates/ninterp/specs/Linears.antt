@@ -2,25 +2,16 @@
 use mathlib.Core.List.{List, []}
 use Prim.Native.Nat.{ℕ}
 use lib.ListN.{length, getD}
-use lib.Ieee.{Float, nan, binary64, sub, div}
+use lib.Ieee.{Float, nan}
 use Rattle.answer.specs.Answer.{_or_}
 use Rattle.answer.specs.declared.Answer.{Answer}
-use Rattle.judge.specs.Check.{node, gap}
 use Rattle.table.specs.Shape.{countsOf, axesOf, table, tabulate}
 use Rattle.table.specs.declared.Shape.{Shape}
-use Rattle.uniform.specs.Uniform.{uniformIndex}
 use Rattle.order.specs.Lookups.{lookupFault, linearUniformFault}
 use Rattle.blend.specs.Blend.{linear, computed}
 use Rattle.blend.specs.declared.AxisLocation.{AxisLocation}
-use Rattle.blend.specs.declared.AxisLocation.the-variants.{Between}
-use Rattle.ninterp.specs.Utils.{axisLocation}
-
--- "LinearUniform: no exact shortcut. f = (p - lower node) / first gap."
-abbrev pub uniformBetween : List Float → ℕ → Float → AxisLocation
-uniformBetween nodes lower p = Between lower (div binary64 (sub binary64 p (node nodes lower)) (gap nodes 0))
-
-unfoldable pub uniformLocation : List Float → Float → AxisLocation
-uniformLocation nodes p = uniformBetween nodes (uniformIndex (node nodes 0) (gap nodes 0) (length nodes) p) p
+use Rattle.axis.specs.Utils.{axisLocation}
+use Rattle.axis.specs.Locations.{uniformLocation}
 
 -- a rule gives each axis a location, from its nodes and its reading: `axisLocation` for Linear, `uniformLocation` for LinearUniform
 unfoldable pub locations : (List Float → Float → AxisLocation) → List (List Float) → List Float → List AxisLocation

@@ -1,23 +1,10 @@
--- The two linears share their code: one rule or the other, and locations that lie on their axes.
-use mathlib.Core.Bool.{Bool, true, false}
+-- Locations that lie on their axes, and the corners that they have.
 use mathlib.Core.List.{List, [], _∷_}
-use Prim.Native.Nat.{ℕ, _+_, _<_}
-use lib.Ieee.{Float}
+use Prim.Native.Nat.{ℕ, _<_}
 use Rattle.table.specs.Shape.{place}
 use Rattle.blend.specs.Folds.{cornerAt}
 use Rattle.blend.specs.declared.AxisLocation.{AxisLocation}
-use Rattle.blend.specs.declared.AxisLocation.the-variants.{Exact, Between}
-use Rattle.ninterp.specs.Utils.{axisLocation}
-use Rattle.ninterp.specs.Linears.{uniformLocation}
-
-abbrev pub locationBy : Bool → List Float → Float → AxisLocation
-locationBy true = uniformLocation
-locationBy false = axisLocation
-
--- the highest node that a location looks at
-abbrev pub upperOf : AxisLocation → ℕ
-upperOf (Exact node) = node
-upperOf (Between lower frac) = lower + 1
+use Rattle.axis.specs.Locations.{upperOf}
 
 -- each location lies on its axis
 abbrev pub Within : List AxisLocation → List ℕ → Type 0

@@ -1,26 +1,19 @@
 -- "The table rules", of the two that never compute a value, and what a lookup by them answers for every input.
 use mathlib.Core.Path.{_≡_}
-use mathlib.Core.Bool.{true, cond}
+use mathlib.Core.Bool.{true}
 use mathlib.Core.List.{List, []}
-use Prim.Native.Nat.{ℕ, _+_, _≤_, _<_}
+use Prim.Native.Nat.{ℕ, _≤_, _<_}
 use lib.ListN.{length, getD}
-use lib.Ieee.{Float, nan, binary64, lt, sub}
+use lib.Ieee.{Float, nan}
 use lib.Ieee.Scale.{finite}
 use Rattle.answer.specs.Answer.{answered, _or_}
 use Rattle.answer.specs.declared.Answer.{Answer}
-use Rattle.judge.specs.Check.{node}
 use Rattle.table.specs.Shape.{countsOf, size, axesOf, table, tabulate}
 use Rattle.table.specs.Table.{Grid}
 use Rattle.table.specs.declared.Shape.{Shape}
 use Rattle.order.specs.Lookups.{lookupFault, stepFault}
-use Rattle.ninterp.specs.Utils.{lowerIndex, stepIndex}
-
--- "the lower node if (p - lower) is less than (upper - p) as rounded, else the upper"
-abbrev pub nearer : List Float → ℕ → Float → ℕ
-nearer nodes lower p = cond (lt (sub binary64 p (node nodes lower)) (sub binary64 (node nodes (lower + 1)) p)) lower (lower + 1)
-
-unfoldable pub nearestIndex : List Float → Float → ℕ
-nearestIndex nodes p = nearer nodes (lowerIndex nodes p) p
+use Rattle.axis.specs.Utils.{stepIndex}
+use Rattle.axis.specs.Picks.{nearestIndex}
 
 -- a rule gives each axis an index, from the axis's number, its nodes and its reading: the stored value there
 unfoldable pub indices : (ℕ → List Float → Float → ℕ) → List (List Float) → List Float → List ℕ

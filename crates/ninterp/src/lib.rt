@@ -1,5 +1,3 @@
 // The lookup part of ninterp, laid out as the Rust is, with our checks in front of each public call.
 pub mod interpolator;
 pub mod records;
-pub mod slice;
-pub mod strategy;

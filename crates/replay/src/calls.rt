@@ -4,12 +4,11 @@ use crate::list;
 use crate::list::Header;
 use answer::Answer;
 use answer::IndexAnswer;
+use axis::locate::MaybeIndex;
 use blend::AxisLocation;
-use ninterp::strategy::utils;
-use ninterp::strategy::utils::AxisAnswer;
-use ninterp::strategy::utils::ExactAnswer;
-use ninterp::strategy::utils::MaybeIndex;
 use uniform::Tolerance;
+use utils::AxisAnswer;
+use utils::ExactAnswer;
 
 pub(crate) const MOST_NODES: usize = 128;
 

@@ -1,8 +1,8 @@
 // Answers the list of calls on standard input, a line for each, or for a slice several. The list and the lines are those of oracle/README.md.
 mod calls;
+mod cut;
 mod line;
 mod list;
-mod slices;
 mod tables;
 
 ghost use mathlib.Core.Path.{_≡_};
@@ -138,7 +138,7 @@ fn tell(taken: Taken, nodes: &[f64], values: &[f64], out: &mut [u8], held: usize
 {
     let said = taken.said;
     match said {
-        Reply::ToSlice(call) => slices::say(call, taken.table, nodes, values, out, held),
+        Reply::ToSlice(call) => cut::say(call, taken.table, nodes, values, out, held),
         _ => line::say(said, out, held),
     }
 }

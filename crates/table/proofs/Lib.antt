@@ -4,3 +4,4 @@ pub mod Layouts
 pub mod Grids
 pub mod Removals
 pub mod Unique
+pub mod Bares

@@ -13,11 +13,6 @@ use Rattle.judge.proofs.Rows.{count-enough}
 use Rattle.uniform.specs.Uniform.{apart, gapFault, uniformFault}
 use Rattle.uniform.specs.Calls.{uniformReadFault}
 
-pub uniform-enough : (first step : Float) (n : ℕ) (p : Float) → good (uniformReadFault first step n p) ≡ true → 2 ≤ n
-unfolding uniformReadFault
-uniform-enough first step n p h =
-    count-enough 0 n (orders.first-passed (countFault 0 n) (finiteFault 0 0 first or lentStepFault step or readingFault 0 p) h)
-
 -- ---- 8 of an interval
 module _ (axis : ℕ) (nodes : List Float) (tolerance : Float) (i : ℕ) (d : Float) (e : d ≡ apart (gap nodes i) (gap nodes 0)) where
   pub gap-far : lt tolerance d ≡ true → refused 8 axis i ≡ gapFault axis nodes tolerance i

@@ -1,6 +1,6 @@
 -- The cell of a number on a uniform axis. Assumes nothing.
 use mathlib.Core.Path.{_≡_, refl, sym, ap, _∙_}
-use mathlib.Core.Bool.{true, false}
+use mathlib.Core.Bool.{Bool, true, false, cond}
 use Prim.Native.Nat.{ℕ, _-_, _≤_, _<_, min}
 use native.Mathlib.Omega.{arith}
 use lib.IntN.{pos}
@@ -22,6 +22,15 @@ above-minus-one (inf false) h k = clash false k refl
 above-minus-one (fin s m e) h k = lt-of-lt-of-le (fin true 1 (pos 0)) plusZero (fin s m e) refl refl refl refl (le-of-not-lt (fin s m e) plusZero refl refl h)
 
 module _ (n : ℕ) (t : Float) where
+  pub cell-none : n < 2 → 0 ≡ uniformCell n t
+  unfolding uniformCell
+  cell-none h = go (lt t plusZero) (lt t wide)
+    where
+      go : (b c : Bool) → 0 ≡ cond b 0 (cond c (min (toUnsigned 64 t) (n - 2)) 0)
+      go true c = refl
+      go false true = omega arith
+      go false false = refl
+
   pub cell-below : lt t plusZero ≡ true → 0 ≡ uniformCell n t
   unfolding uniformCell
   cell-below h = simp h

@@ -16,11 +16,13 @@ pub enum Tolerance {
     Default,
 }
 
-// The cell of t on a uniform axis: its whole part, at most the last cell; 0 where t is 2^64 or more.
+// The cell of t on a uniform axis: its whole part, at most the last cell; 0 where t is 2^64 or more, and where there is no cell.
 fn uniform_cell(n: usize, t: f64) -> usize
-    requires { ⌜ 2 ≤ n ⌝ }
     ensures { λ r. ⌜ r ≡ uniformCell n t ⌝ }
 {
+    if n < 2 {
+        return 0;
+    }
     if t < 0.0 {
         return 0;
     }
@@ -32,8 +34,8 @@ fn uniform_cell(n: usize, t: f64) -> usize
     }
 }
 
-fn uniform_index(first: f64, step: f64, n: usize, point: f64) -> usize
-    requires { ⌜ 2 ≤ n ⌝ }
+// The index by the first node and the step. It judges nothing: `locate_lower_index_uniform` does, and so does a table's order of checks.
+pub fn uniform_index(first: f64, step: f64, n: usize, point: f64) -> usize
     ensures { λ r. ⌜ r ≡ uniformIndex first step n point ⌝ }
 {
     uniform_cell(n, (point - first) / step)

@@ -2,7 +2,7 @@
 pub(crate) mod corners;
 pub mod linear;
 pub mod linear_uniform;
-pub(crate) mod locate;
+pub(crate) mod locations;
 pub mod nearest;
 pub(crate) mod pick;
 pub mod step;

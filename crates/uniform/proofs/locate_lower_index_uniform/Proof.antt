@@ -1,6 +1,5 @@
 use mathlib.Core.Path.{_≡_, refl, sym, ap, ap₂, _∙_}
-use Rattle.answer.proofs.Orders.{passes, index-refused, index-given}
-use Rattle.uniform.proofs.Primitives.{uniform-enough}
+use Rattle.answer.proofs.Orders.{index-refused, index-given}
 use Rattle.uniform.specs.Calls.{locateLowerIndexUniform}
 use borrow.Author.Needs.{needs}
 use Rattle.uniform.proofs.locate_lower_index_uniform.Statement.{statement}
@@ -14,7 +13,7 @@ unfolding locateLowerIndexUniform
 returns c = let f = c .before .before in index-refused _ _ (f .uniform-read-fault .ensures) _ (c .if1 .taken)
 
 uniform-index-requires : tie.Need-uniform-index-requires
-uniform-index-requires c κs = let f = c .before .before in uniform-enough _ _ _ _ (passes _ _ (f .uniform-read-fault .ensures) (c .if1 .left))
+uniform-index-requires c κs = search needs
 
 returns-2 : tie.Need-returns-2
 unfolding locateLowerIndexUniform

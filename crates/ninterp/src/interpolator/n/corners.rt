@@ -3,27 +3,18 @@ ghost use mathlib.Core.Path.{_≡_};
 ghost use Prim.Native.Nat.{ℕ, _+_, _*_, _^_, _<_, _≤_};
 ghost use lib.ListN.{length, take, getD};
 ghost use lib.Ieee.{nan};
-ghost use Rattle.table.specs.Shape.{countsOf, size, place, table};
+ghost use Rattle.table.specs.Shape.{countsOf, size, table};
 ghost use Rattle.blend.specs.Blend.{linear, computed};
 ghost use Rattle.blend.specs.Rust.{diffs};
-ghost use Rattle.ninterp.specs.Calls.{locationIndex};
 ghost use Rattle.ninterp.specs.Tables.{Judged};
 ghost use Rattle.ninterp.specs.Linears.{interpolated};
-ghost use Rattle.ninterp.specs.Locations.{locationBy, upperOf, Within, cornerPlace};
-use crate::interpolator::n::locate;
+ghost use Rattle.axis.specs.Locations.{locationBy, upperOf};
+ghost use Rattle.ninterp.specs.Locations.{Within, cornerPlace};
+use crate::interpolator::n::locations;
 use answer::Answer;
+use axis::locate;
 use blend::AxisLocation;
 use table::Shape;
-
-// The node of an exact axis, the lower one of any other.
-pub(crate) fn lower_node(location: AxisLocation) -> usize
-    ensures { λ r. ⌜ r ≡ locationIndex location ⌝ }
-{
-    match location {
-        AxisLocation::Exact(node) => node,
-        AxisLocation::Between { lower, frac: _ } => lower,
-    }
-}
 
 // The node of an exact axis, the upper one of any other.
 fn upper_node(location: AxisLocation) -> usize
@@ -69,7 +60,7 @@ fn corner_places(
     while d > 0 {
         d -= 1;
         let location = locations[d];
-        let low = lower_node(location) * stride;
+        let low = locate::lower_node(location) * stride;
         let high = upper_node(location) * stride;
         spread(places, count, low, high);
         count = blend::grow(location, count);
@@ -119,6 +110,6 @@ pub(crate) fn interpolated(
     requires { ⌜ Judged shape (now nodes) (now values) (now point) ⌝ }
     ensures { λ r. ⌜ r ≡ computed (interpolated (locationBy uniform) (countsOf shape) (now (nodes .entry)) (now (values .entry)) (now (point .entry))) ⌝ }
 {
-    let locations = locate::all(uniform, shape, nodes, point);
+    let locations = locations::all(uniform, shape, nodes, point);
     compute(shape, values, locations)
 }

@@ -5,28 +5,14 @@ ghost use Prim.Native.Nat.{ℕ, _<_, _≤_};
 ghost use lib.ListN.{length, getD};
 ghost use lib.Ieee.{nan};
 ghost use lib.Ieee.Scale.{finite};
-ghost use Rattle.judge.specs.Check.{Axis};
 ghost use Rattle.table.specs.Shape.{countsOf, size, axesOf, place};
 ghost use Rattle.table.specs.Table.{Grid};
 ghost use Rattle.answer.specs.Answer.{answered};
 ghost use Rattle.ninterp.specs.Tables.{indices, picked, Judged};
-ghost use Rattle.ninterp.specs.Picks.{pickIndex, pickRule};
-use crate::interpolator::n::nearest;
-use crate::strategy::utils;
+ghost use Rattle.ninterp.specs.Picks.{pickRule};
 use answer::Answer;
+use axis::pick;
 use table::Shape;
-
-// The index on one axis.
-pub(crate) fn pick_index(pick: u8, grid: &[f64], point: f64) -> usize
-    requires { ⌜ Axis (now grid) × (finite point ≡ true) ⌝ }
-    ensures { λ r. ⌜ (r ≡ pickIndex pick (now (grid .entry)) point) × (r < length (now (grid .entry))) ⌝ }
-{
-    if pick < 2 {
-        utils::step_index(pick, grid, point)
-    } else {
-        nearest::nearest_index(grid, point)
-    }
-}
 
 // The flat place of the index list.
 fn pick_place(shape: Shape, nodes: &[f64], picks: &[u8], point: &[f64]) -> usize
@@ -41,7 +27,7 @@ fn pick_place(shape: Shape, nodes: &[f64], picks: &[u8], point: &[f64]) -> usize
     while a < axes {
         let count = counts[a];
         let end = at + count;
-        let i = pick_index(picks[a], &nodes[at..end], point[a]);
+        let i = pick::pick_index(picks[a], &nodes[at..end], point[a]);
         flat = flat * count + i;
         at = end;
         a += 1;

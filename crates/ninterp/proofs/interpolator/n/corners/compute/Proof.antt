@@ -18,15 +18,12 @@ use Rattle.blend.proofs.compute.Reads as compute-reads
 use Rattle.ninterp.proofs.interpolator.n.corners.corner_places.Reads as corner-places-reads
 use Rattle.ninterp.proofs.interpolator.n.corners.gather.Reads as gather-reads
 
--- src/interpolator/n/corners.rt:104:9
 slice-aggregate-places : tie.Need-slice-aggregate-places
 slice-aggregate-places c = search needs
 
--- src/interpolator/n/corners.rt:105:9
 corner-places-requires : tie.Need-corner-places-requires
 corner-places-requires c κs = search needs
 
--- src/interpolator/n/corners.rt:107:9
 gather-requires : tie.Need-gather-requires
 gather-requires c κs =
     let k = c .before .before .before in
@@ -41,11 +38,9 @@ gather-requires c κs =
           omega (arith, k .corner-places .ensures .1 i (omega (arith, k .corner-places .ensures .0, b)), below, s .pre .1 .1 .1),
     )
 
--- src/interpolator/n/corners.rt:108:5
 compute-requires : tie.Need-compute-requires
 compute-requires c κs = search needs
 
--- src/interpolator/n/corners.rt:97:1
 returns : tie.Need-returns
 returns c =
     let g = c .before .before in

@@ -1,8 +1,8 @@
 use Rattle.table.proofs.Layouts.{size-cons}
 use Rattle.ninterp.proofs.Corners.{Spreading, spread-none, spread-step, lower-small, upper-few, upper-small, within-at, small-at, few-at, eight-at, placed-small, closed-at}
 use Rattle.blend.specs.declared.AxisLocation.the-variants.{Exact}
-use Rattle.ninterp.specs.Calls.{locationIndex}
-use Rattle.ninterp.specs.Locations.{upperOf}
+use Rattle.axis.specs.Locations.{locationIndex}
+use Rattle.axis.specs.Locations.{upperOf}
 use mathlib.Core.Path.{_≡_, refl, sym, ap, _∙_, subst}
 use Prim.Native.Nat.{ℕ, _-_, _*_, _≤_}
 use native.Mathlib.Omega.{arith}
@@ -13,7 +13,7 @@ use Rattle.ninterp.proofs.interpolator.n.corners.corner_places.Tie as t
 use Rattle.ninterp.proofs.interpolator.n.corners.corner_places.Reads as reads
 use Rattle.ninterp.proofs.interpolator.n.corners.corner_places.Lts as lts
 use Rattle.blend.proofs.grow.Reads as grow-reads
-use Rattle.ninterp.proofs.interpolator.n.corners.lower_node.Reads as lower-node-reads
+use Rattle.axis.proofs.locate.lower_node.Reads as lower-node-reads
 use Rattle.ninterp.proofs.interpolator.n.corners.spread.Reads as spread-reads
 use Rattle.ninterp.proofs.interpolator.n.corners.upper_node.Reads as upper-node-reads
 
@@ -29,27 +29,21 @@ long-l s = omega (arith, s .good .1 .0 .1 .0 .1, s .pre .0 .0)
 long-c : (s : tie.Start Inv-loop μ-loop) → s .args .n ≤ length (s .args .t1)
 long-c s = omega (arith, s .good .0 .1 .0 .1, s .pre .0 .0)
 
--- src/interpolator/n/corners.rt:69:5
 loop-holds : tie.Need-loop-holds Inv-loop μ-loop
 loop-holds c = let s = c .before in ((omega arith, s .pre .1 .0), spread-none (s .args .t2) (s .args .t1) (s .args .n) _ (s .pre .1 .1))
 
--- src/interpolator/n/corners.rt:70:9
 sub-d : tie.Need-sub-d Inv-loop μ-loop
 sub-d c = search needs
 
--- src/interpolator/n/corners.rt:71:24
 mul-location : tie.Need-mul-location Inv-loop μ-loop
 mul-location c = search needs
 
--- src/interpolator/n/corners.rt:71:24
 array-copy-out-location : tie.Need-array-copy-out-location Inv-loop μ-loop
 array-copy-out-location c = search needs
 
--- src/interpolator/n/corners.rt:72:19
 lower-node-requires : tie.Need-lower-node-requires Inv-loop μ-loop
 lower-node-requires c κs = search needs
 
--- src/interpolator/n/corners.rt:72:19
 mul-low : tie.Need-mul-low Inv-loop μ-loop
 mul-low c =
     let w = c .before .before in
@@ -57,7 +51,6 @@ mul-low c =
     let s = l .before .before in
     omega (arith, c .lower-node .ensures, lower-small (getD (s .args .t2) (l .loop .d - 1) (Exact 0)) (drop (l .loop .d) (take (s .args .n) (s .args .t2))) (getD (s .args .t1) (l .loop .d - 1) 0) (drop (l .loop .d) (take (s .args .n) (s .args .t1))) (within-at (s .args .t2) (s .args .t1) (s .args .n) (l .loop .d) (s .pre .0 .0) (long-l s) (long-c s) (w .loop-test .taken) (l .loop .inv .0 .0) (s .pre .0 .1 .0) (s .pre .0 .1 .1)) (small-at (s .args .t2) (s .args .t1) (s .args .n) (l .loop .d) (s .pre .0 .0) (long-l s) (long-c s) (w .loop-test .taken) (l .loop .inv .0 .0) (s .pre .0 .1 .0) (s .pre .0 .1 .1)), ap (λ (x : ℕ). locationIndex (getD (s .args .t2) (l .loop .d - 1) (Exact 0)) * x) (l .loop .inv .1 .strided), ap (λ (x : ℕ). x * l .loop .stride) (c .lower-node .ensures))
 
--- src/interpolator/n/corners.rt:73:20
 upper-node-requires : tie.Need-upper-node-requires Inv-loop μ-loop
 upper-node-requires c κs =
     let w = c .before .before in
@@ -65,7 +58,6 @@ upper-node-requires c κs =
     let s = l .before .before in
     upper-few (getD (s .args .t2) (l .loop .d - 1) (Exact 0)) (drop (l .loop .d) (take (s .args .n) (s .args .t2))) (getD (s .args .t1) (l .loop .d - 1) 0) (drop (l .loop .d) (take (s .args .n) (s .args .t1))) (within-at (s .args .t2) (s .args .t1) (s .args .n) (l .loop .d) (s .pre .0 .0) (long-l s) (long-c s) (w .loop-test .taken) (l .loop .inv .0 .0) (s .pre .0 .1 .0) (s .pre .0 .1 .1)) (small-at (s .args .t2) (s .args .t1) (s .args .n) (l .loop .d) (s .pre .0 .0) (long-l s) (long-c s) (w .loop-test .taken) (l .loop .inv .0 .0) (s .pre .0 .1 .0) (s .pre .0 .1 .1))
 
--- src/interpolator/n/corners.rt:73:20
 mul-high : tie.Need-mul-high Inv-loop μ-loop
 mul-high c =
     let w = c .before .before .before in
@@ -73,7 +65,6 @@ mul-high c =
     let s = l .before .before in
     omega (arith, upper-small (getD (s .args .t2) (l .loop .d - 1) (Exact 0)) (drop (l .loop .d) (take (s .args .n) (s .args .t2))) (getD (s .args .t1) (l .loop .d - 1) 0) (drop (l .loop .d) (take (s .args .n) (s .args .t1))) (within-at (s .args .t2) (s .args .t1) (s .args .n) (l .loop .d) (s .pre .0 .0) (long-l s) (long-c s) (w .loop-test .taken) (l .loop .inv .0 .0) (s .pre .0 .1 .0) (s .pre .0 .1 .1)) (small-at (s .args .t2) (s .args .t1) (s .args .n) (l .loop .d) (s .pre .0 .0) (long-l s) (long-c s) (w .loop-test .taken) (l .loop .inv .0 .0) (s .pre .0 .1 .0) (s .pre .0 .1 .1)), ap (λ (x : ℕ). upperOf (getD (s .args .t2) (l .loop .d - 1) (Exact 0)) * x) (l .loop .inv .1 .strided), ap (λ (x : ℕ). x * l .loop .stride) (c .upper-node .ensures))
 
--- src/interpolator/n/corners.rt:74:9
 spread-requires : tie.Need-spread-requires Inv-loop μ-loop
 spread-requires c κs =
     let u = c .before in
@@ -87,19 +78,15 @@ spread-requires c κs =
       placed-small (s .args .t2) (s .args .t1) (s .args .n) (l .loop .d) (s .pre .0 .0) (long-l s) (long-c s) (w .loop-test .taken) (l .loop .inv .0 .0) (s .pre .0 .1 .0) (s .pre .0 .1 .1) (l .loop .places) (l .loop .count) (l .loop .stride) (l .loop .inv .1),
     )
 
--- src/interpolator/n/corners.rt:75:9
 grow-requires : tie.Need-grow-requires Inv-loop μ-loop
 grow-requires c κs = search needs
 
--- src/interpolator/n/corners.rt:76:18
 mul-stride : tie.Need-mul-stride Inv-loop μ-loop
 mul-stride c = search needs
 
--- src/interpolator/n/corners.rt:76:18
 array-read-stride : tie.Need-array-read-stride Inv-loop μ-loop
 array-read-stride c = search needs
 
--- src/interpolator/n/corners.rt:76:18
 mul-stride-2 : tie.Need-mul-stride-2 Inv-loop μ-loop
 mul-stride-2 c =
     let w = c .before .before .before .before .before .before .before .before in
@@ -107,11 +94,9 @@ mul-stride-2 c =
     let s = l .before .before in
     omega (arith, small-at (s .args .t2) (s .args .t1) (s .args .n) (l .loop .d) (s .pre .0 .0) (long-l s) (long-c s) (w .loop-test .taken) (l .loop .inv .0 .0) (s .pre .0 .1 .0) (s .pre .0 .1 .1), size-cons (getD (s .args .t1) (l .loop .d - 1) 0) (drop (l .loop .d) (take (s .args .n) (s .args .t1))), ap (λ (x : ℕ). getD (s .args .t1) (l .loop .d - 1) 0 * x) (l .loop .inv .1 .strided))
 
--- src/interpolator/n/corners.rt:69:5
 loop-less : tie.Need-loop-less Inv-loop μ-loop
 loop-less c = search needs
 
--- src/interpolator/n/corners.rt:69:5
 loop-again : tie.Need-loop-again Inv-loop μ-loop
 loop-again c =
     let k = c .before .before .before in
@@ -122,11 +107,9 @@ loop-again c =
     let z = spread-step (drop (l .loop .d) (take (s .args .n) (s .args .t2))) (getD (s .args .t1) (l .loop .d - 1) 0) (drop (l .loop .d) (take (s .args .n) (s .args .t1))) (l .loop .places) _ (l .loop .count) (l .loop .stride) (l .loop .inv .1) (getD (s .args .t2) (l .loop .d - 1) (Exact 0)) _ _ (c .grow .result) _ (ap (λ (x : ℕ). x * l .loop .stride) (u .before .lower-node .ensures)) (ap (λ (x : ℕ). x * l .loop .stride) (u .upper-node .ensures)) (k .spread .ensures) (c .grow .ensures) refl (few-at (s .args .t2) (s .args .t1) (s .args .n) (l .loop .d) (s .pre .0 .0) (long-l s) (long-c s) (w .loop-test .taken) (l .loop .inv .0 .0) (s .pre .0 .1 .0) (s .pre .0 .1 .1)) in
     ((omega (arith, w .loop-test .taken), k .spread .kept .0 ∙ l .loop .inv .0 .1), closed-at (s .args .t2) (s .args .t1) (s .args .n) (l .loop .d) (s .pre .0 .0) (long-l s) (long-c s) (w .loop-test .taken) (l .loop .inv .0 .0) (s .pre .0 .1 .0) (s .pre .0 .1 .1) _ (c .grow .result) _ z)
 
--- src/interpolator/n/corners.rt:56:1
 same-length : tie.Need-same-length Inv-loop μ-loop
 same-length c = let l = c .before in l .loop .inv .0 .1 ∙ sym (l .before .before .pre .1 .0)
 
--- src/interpolator/n/corners.rt:56:1
 returns : tie.Need-returns Inv-loop μ-loop
 returns c =
     let l = c .before in

@@ -17,43 +17,33 @@ Inv-loop values places count vals₀ i₀ vals i = (i ≤ count) × ((length val
 abbrev μ-loop : tie.MeasureT-loop
 μ-loop values places count vals₀ i₀ vals i = count - i
 
--- src/interpolator/n/corners.rt:88:5
 loop-holds : tie.Need-loop-holds Inv-loop μ-loop
 loop-holds c = (omega arith, (refl, λ k b. absurd (omega arith)))
 
--- src/interpolator/n/corners.rt:89:18
 mul-at : tie.Need-mul-at Inv-loop μ-loop
 mul-at c = search needs
 
--- src/interpolator/n/corners.rt:89:18
 shared-slice-read-at : tie.Need-shared-slice-read-at Inv-loop μ-loop
 shared-slice-read-at c = search needs
 
--- src/interpolator/n/corners.rt:90:19
 mul-vals : tie.Need-mul-vals Inv-loop μ-loop
 mul-vals c = let w = c .before in let l = w .before in omega (arith, l .before .pre .1 (l .loop .i) (w .loop-test .taken))
 
--- src/interpolator/n/corners.rt:90:19
 shared-slice-read-vals : tie.Need-shared-slice-read-vals Inv-loop μ-loop
 shared-slice-read-vals c = let w = c .before .before in let l = w .before in l .before .pre .1 (l .loop .i) (w .loop-test .taken)
 
--- src/interpolator/n/corners.rt:90:9
 mul-vals-2 : tie.Need-mul-vals-2 Inv-loop μ-loop
 mul-vals-2 c = search needs
 
--- src/interpolator/n/corners.rt:90:9
 array-write-vals : tie.Need-array-write-vals Inv-loop μ-loop
 array-write-vals c = search needs
 
--- src/interpolator/n/corners.rt:91:9
 add-i : tie.Need-add-i Inv-loop μ-loop
 add-i c = search needs
 
--- src/interpolator/n/corners.rt:88:5
 loop-less : tie.Need-loop-less Inv-loop μ-loop
 loop-less c = search needs
 
--- src/interpolator/n/corners.rt:88:5
 loop-again : tie.Need-loop-again Inv-loop μ-loop
 loop-again c =
     let w = c .before .before in
@@ -61,7 +51,6 @@ loop-again c =
     let s = l .before in
     (omega (arith, w .loop-test .taken), (length-set (l .loop .vals) (l .loop .i) _ ∙ l .loop .inv .1 .0, put-step (l .loop .vals) (l .loop .i) _ nan (λ k. getD (now (s .args .values)) (getD (now (s .args .places)) k 0) nan) (omega (arith, l .loop .inv .1 .0, s .pre .0 .0, w .loop-test .taken)) (l .loop .inv .1 .1) refl))
 
--- src/interpolator/n/corners.rt:82:1
 returns : tie.Need-returns Inv-loop μ-loop
 returns c = λ k b. let l = c .before in l .loop .inv .1 .1 k (omega (arith, c .loop-test .left, b))
 

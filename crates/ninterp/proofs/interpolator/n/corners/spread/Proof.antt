@@ -14,63 +14,48 @@ Inv-loop places₀ count low high i₀ places i = (i ≤ count) × Spreaded plac
 abbrev μ-loop : tie.MeasureT-loop
 μ-loop places₀ count low high i₀ places i = count - i
 
--- src/interpolator/n/corners.rt:46:5
 loop-holds : tie.Need-loop-holds Inv-loop μ-loop
 loop-holds c = (omega arith, record { long = refl; done = λ k b. absurd (omega arith); rest = λ k a b. refl })
 
--- src/interpolator/n/corners.rt:47:18
 mul-at : tie.Need-mul-at Inv-loop μ-loop
 mul-at c = search needs
 
--- src/interpolator/n/corners.rt:47:18
 slice-read-at : tie.Need-slice-read-at Inv-loop μ-loop
 slice-read-at c = search needs
 
--- src/interpolator/n/corners.rt:48:17
 add-j : tie.Need-add-j Inv-loop μ-loop
 add-j c = search needs
 
--- src/interpolator/n/corners.rt:49:21
 add-places : tie.Need-add-places Inv-loop μ-loop
 add-places c = let w = c .before in let l = w .before in let s = l .before in omega (arith, l .loop .inv .1 .rest (l .loop .i) (omega arith) (w .loop-test .taken), s .pre .1 (l .loop .i) (w .loop-test .taken), s .pre .0 .1)
 
--- src/interpolator/n/corners.rt:49:9
 mul-places : tie.Need-mul-places Inv-loop μ-loop
 mul-places c = search needs
 
--- src/interpolator/n/corners.rt:49:9
 slice-write-places : tie.Need-slice-write-places Inv-loop μ-loop
 slice-write-places c = search needs
 
--- src/interpolator/n/corners.rt:50:21
 add-places-2 : tie.Need-add-places-2 Inv-loop μ-loop
 add-places-2 c = let w = c .before in let l = w .before in let s = l .before in omega (arith, l .loop .inv .1 .rest (l .loop .i) (omega arith) (w .loop-test .taken), s .pre .1 (l .loop .i) (w .loop-test .taken), s .pre .0 .1)
 
--- src/interpolator/n/corners.rt:50:9
 mul-places-2 : tie.Need-mul-places-2 Inv-loop μ-loop
 mul-places-2 c = search needs
 
--- src/interpolator/n/corners.rt:50:9
 slice-write-places-2 : tie.Need-slice-write-places-2 Inv-loop μ-loop
 slice-write-places-2 c = let w = c .before in let l = w .before in let s = l .before in below-set _ (l .loop .places) (l .loop .i) _ _ (omega (arith, l .loop .inv .1 .long, s .pre .0 .0, w .loop-test .taken))
 
--- src/interpolator/n/corners.rt:51:9
 add-i : tie.Need-add-i Inv-loop μ-loop
 add-i c = search needs
 
--- src/interpolator/n/corners.rt:46:5
 loop-less : tie.Need-loop-less Inv-loop μ-loop
 loop-less c = search needs
 
--- src/interpolator/n/corners.rt:46:5
 loop-again : tie.Need-loop-again Inv-loop μ-loop
 loop-again c = let w = c .before in let l = w .before in (omega (arith, w .loop-test .taken), spread-turn _ _ _ _ _ _ _ (l .before .pre .0 .0) (w .loop-test .taken) (l .loop .inv .1) refl)
 
--- src/interpolator/n/corners.rt:40:1
 same-length : tie.Need-same-length Inv-loop μ-loop
 same-length c = c .before .loop .inv .1 .long
 
--- src/interpolator/n/corners.rt:40:1
 returns : tie.Need-returns Inv-loop μ-loop
 returns c = λ k b. let l = c .before in l .loop .inv .1 .done k (omega (arith, c .loop-test .left, b))
 

@@ -27,20 +27,16 @@ start e = e .before .before .before .before .before .before
 known : (e : tie.Else1) → Judged (start e .args .shape) (now (start e .args .nodes)) (now (start e .args .values)) (now (start e .args .point))
 known e = lookup-judged (start e .args .shape) (four (start e)) (now (start e .args .nodes)) (now (start e .args .values)) (now (start e .args .point)) (passes _ _ (e .before .before .lookup-fault .ensures) (e .if1 .left))
 
--- src/interpolator/n/linear.rt:12:9
 lookup-fault-requires : tie.Need-lookup-fault-requires
 lookup-fault-requires c κs = search needs
 
--- src/interpolator/n/linear.rt:14:9
 returns : tie.Need-returns
 unfolding linearAnswer
 returns c = let f = c .before .before in or-stops _ _ (f .lookup-fault .ensures) _ (c .if1 .taken)
 
--- src/interpolator/n/linear.rt:16:5
 interpolated-requires : tie.Need-interpolated-requires
 interpolated-requires c κs = known c
 
--- src/interpolator/n/linear.rt:9:1
 returns-2 : tie.Need-returns-2
 unfolding linearAnswer
 returns-2 c =

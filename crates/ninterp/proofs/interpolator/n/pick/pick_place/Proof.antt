@@ -12,7 +12,7 @@ use Rattle.table.proofs.Shapes.{length-ids, Walk}
 use Rattle.table.proofs.Layouts.{place-start}
 use Rattle.ninterp.specs.Tables.{indices}
 use Rattle.ninterp.specs.Picks.{pickRule}
-use Rattle.ninterp.proofs.Picks.{axis-within, axis-good, axis-next, flat-next, flat-fits, flat-done}
+use Rattle.ninterp.proofs.Picks.{axis-within, axis-next, flat-next, flat-fits, flat-done}
 use Rattle.ninterp.proofs.interpolator.n.pick.pick_place.Statement.{statement}
 use Rattle.ninterp.proofs.interpolator.n.pick.pick_place.Tie as tie
 
@@ -78,22 +78,19 @@ shared-slice-read-pick-index-2 : tie.Need-shared-slice-read-pick-index-2 Inv-loo
 shared-slice-read-pick-index-2 c = search needs
 
 pick-index-requires : tie.Need-pick-index-requires Inv-loop μ-loop
-pick-index-requires c κs =
-    let l = c .before .before .before .before in
-    let s = l .before .before .before .before .before in
-    (axis-good (C s) (s .args .shape .axes) (now (s .args .nodes)) (now (s .args .picks)) (now (s .args .point)) (s .pre .0) (long s) (s .pre .1 .1 .1 .1) (l .loop .a) (l .loop .at) (c .before .before .before .loop-test .taken) (l .loop .inv .1 .0), s .pre .1 .1 .1 .1 (l .loop .a) (c .before .before .before .loop-test .taken))
+pick-index-requires c κs = search needs
 
 mul-flat : tie.Need-mul-flat Inv-loop μ-loop
 mul-flat c =
     let l = c .before .before .before .before .before in
     let s = l .before .before .before .before .before in
-    omega (arith, flat-fits (C s) (s .args .shape .axes) (now (s .args .nodes)) (now (s .args .picks)) (now (s .args .point)) (s .pre .0) (long s) (s .pre .1 .1 .1 .1) (l .loop .a) (l .loop .at) (c .before .before .before .before .loop-test .taken) (l .loop .inv .1 .0) (c .pick-index .result) (c .pick-index .ensures .0) (l .loop .flat) (l .loop .inv .1 .1))
+    omega (arith, flat-fits (C s) (s .args .shape .axes) (now (s .args .nodes)) (now (s .args .picks)) (now (s .args .point)) (s .pre .0) (long s) (s .pre .1 .1 .1 .1) (l .loop .a) (l .loop .at) (c .before .before .before .before .loop-test .taken) (l .loop .inv .1 .0) (c .pick-index .result) (c .pick-index .ensures) (l .loop .flat) (l .loop .inv .1 .1))
 
 add-flat : tie.Need-add-flat Inv-loop μ-loop
 add-flat c =
     let l = c .before .before .before .before .before in
     let s = l .before .before .before .before .before in
-    omega (arith, flat-fits (C s) (s .args .shape .axes) (now (s .args .nodes)) (now (s .args .picks)) (now (s .args .point)) (s .pre .0) (long s) (s .pre .1 .1 .1 .1) (l .loop .a) (l .loop .at) (c .before .before .before .before .loop-test .taken) (l .loop .inv .1 .0) (c .pick-index .result) (c .pick-index .ensures .0) (l .loop .flat) (l .loop .inv .1 .1))
+    omega (arith, flat-fits (C s) (s .args .shape .axes) (now (s .args .nodes)) (now (s .args .picks)) (now (s .args .point)) (s .pre .0) (long s) (s .pre .1 .1 .1 .1) (l .loop .a) (l .loop .at) (c .before .before .before .before .loop-test .taken) (l .loop .inv .1 .0) (c .pick-index .result) (c .pick-index .ensures) (l .loop .flat) (l .loop .inv .1 .1))
 
 add-a : tie.Need-add-a Inv-loop μ-loop
 add-a c = search needs
@@ -106,7 +103,7 @@ loop-again c =
     let l = c .before .before .before .before .before in
     let s = l .before .before .before .before .before in
     let t = c .before .before .before .before .loop-test .taken in
-    (omega (arith, axis-within (C s) (s .args .shape .axes) (now (s .args .nodes)) (now (s .args .picks)) (now (s .args .point)) (s .pre .0) (long s) (s .pre .1 .1 .1 .1) (l .loop .a) (l .loop .at) t (l .loop .inv .1 .0)), (axis-next (C s) (s .args .shape .axes) (now (s .args .nodes)) (now (s .args .picks)) (now (s .args .point)) (s .pre .0) (long s) (s .pre .1 .1 .1 .1) (l .loop .a) (l .loop .at) t (l .loop .inv .1 .0), flat-next (C s) (s .args .shape .axes) (now (s .args .nodes)) (now (s .args .picks)) (now (s .args .point)) (s .pre .0) (long s) (s .pre .1 .1 .1 .1) (l .loop .a) (l .loop .at) t (l .loop .inv .1 .0) (c .pick-index .result) (c .pick-index .ensures .0) (l .loop .flat) (l .loop .inv .1 .1)))
+    (omega (arith, axis-within (C s) (s .args .shape .axes) (now (s .args .nodes)) (now (s .args .picks)) (now (s .args .point)) (s .pre .0) (long s) (s .pre .1 .1 .1 .1) (l .loop .a) (l .loop .at) t (l .loop .inv .1 .0)), (axis-next (C s) (s .args .shape .axes) (now (s .args .nodes)) (now (s .args .picks)) (now (s .args .point)) (s .pre .0) (long s) (s .pre .1 .1 .1 .1) (l .loop .a) (l .loop .at) t (l .loop .inv .1 .0), flat-next (C s) (s .args .shape .axes) (now (s .args .nodes)) (now (s .args .picks)) (now (s .args .point)) (s .pre .0) (long s) (s .pre .1 .1 .1 .1) (l .loop .a) (l .loop .at) t (l .loop .inv .1 .0) (c .pick-index .result) (c .pick-index .ensures) (l .loop .flat) (l .loop .inv .1 .1)))
 
 returns : tie.Need-returns Inv-loop μ-loop
 returns c =

@@ -1,0 +1,27 @@
+use mathlib.Core.Bool.{true, false}
+use Rattle.axis.proofs.Located.{location-none, location-some}
+use borrow.Author.Needs.{needs}
+use Rattle.axis.proofs.locate.location_by.Statement.{statement}
+use Rattle.axis.proofs.locate.location_by.Tie as tie
+use Rattle.axis.proofs.locate.location_by.Reads as reads
+use Rattle.axis.proofs.locate.location_by.Lts as lts
+use Rattle.axis.proofs.locate.uniform_location.Reads as uniform-location-reads
+use Rattle.axis.proofs.locate.axis_location.Reads as axis-location-reads
+
+uniform-location-requires : tie.Need-uniform-location-requires
+uniform-location-requires c κs = search needs
+
+axis-location-requires : tie.Need-axis-location-requires
+axis-location-requires c κs = search needs
+
+returns : tie.Need-returns
+returns c = location-none _ _ _ (c .if1 .taken)
+
+returns-2 : tie.Need-returns-2
+returns-2 c = location-some _ _ _ (c .before .before .if1 .left) true (c .before .if2 .taken) _ (c .uniform-location .ensures)
+
+returns-3 : tie.Need-returns-3
+returns-3 c = location-some _ _ _ (c .before .before .if1 .left) false (c .before .if2 .left) _ (c .axis-location .ensures)
+
+pub location-by-spec : {M : Type 1} → statement M
+location-by-spec = tie.close (tie.spec returns uniform-location-requires axis-location-requires returns-2 returns-3)

@@ -1,0 +1,4 @@
+pub mod Utils
+pub mod Rust
+pub mod Picks
+pub mod Locations

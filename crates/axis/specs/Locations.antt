@@ -1,0 +1,37 @@
+-- Where a reading lies on an axis, by Linear's rule or by LinearUniform's. They share their code.
+use mathlib.Core.Bool.{Bool, true, false, cond}
+use mathlib.Core.List.{List}
+use Prim.Native.Nat.{ℕ, _+_}
+use lib.Dec.{ltb}
+use lib.ListN.{length}
+use lib.Ieee.{Float, binary64, sub, div}
+use Rattle.judge.specs.Check.{node, gap}
+use Rattle.uniform.specs.Uniform.{uniformIndex}
+use Rattle.blend.specs.declared.AxisLocation.{AxisLocation}
+use Rattle.blend.specs.declared.AxisLocation.the-variants.{Exact, Between}
+use Rattle.axis.specs.Utils.{axisLocation}
+
+-- "LinearUniform: no exact shortcut. f = (p - lower node) / first gap."
+abbrev pub uniformBetween : List Float → ℕ → Float → AxisLocation
+uniformBetween nodes lower p = Between lower (div binary64 (sub binary64 p (node nodes lower)) (gap nodes 0))
+
+unfoldable pub uniformLocation : List Float → Float → AxisLocation
+uniformLocation nodes p = uniformBetween nodes (uniformIndex (node nodes 0) (gap nodes 0) (length nodes) p) p
+
+abbrev pub locationBy : Bool → List Float → Float → AxisLocation
+locationBy true = uniformLocation
+locationBy false = axisLocation
+
+-- the same of any list at all: on a good axis it is `locationBy` (`location-found`)
+unfoldable pub locationFound : Bool → List Float → Float → AxisLocation
+locationFound uniform nodes p = cond (ltb (length nodes) 2) (Exact 0) (locationBy uniform nodes p)
+
+-- the node of an exact axis, the lower one of any other
+abbrev pub locationIndex : AxisLocation → ℕ
+locationIndex (Exact node) = node
+locationIndex (Between lower frac) = lower
+
+-- the highest node that a location looks at
+abbrev pub upperOf : AxisLocation → ℕ
+upperOf (Exact node) = node
+upperOf (Between lower frac) = lower + 1

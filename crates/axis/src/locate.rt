@@ -1,0 +1,84 @@
+// The location of a reading: the exact node, or the cell with a fraction. By Linear's rule or by LinearUniform's.
+ghost use mathlib.Core.Path.{_≡_};
+ghost use Prim.Native.Nat.{_+_, _<_, _≤_};
+ghost use lib.ListN.{length};
+ghost use Rattle.axis.specs.Utils.{exactNode, axisLocation};
+ghost use Rattle.axis.specs.Locations.{locationIndex, uniformLocation, locationFound};
+use crate::cell;
+use blend::AxisLocation;
+
+// An index, or none: the Rust's Option<usize>.
+pub enum MaybeIndex {
+    Some(usize),
+    None,
+}
+
+// The node of a cell that equals the reading; a node past the end equals nothing.
+pub fn exact_node(grid: &[f64], lower: usize, point: f64) -> MaybeIndex
+    ensures { λ r. ⌜ r ≡ exactNode (now (grid .entry)) lower point ⌝ }
+{
+    if lower >= grid.len() {
+        return MaybeIndex::None;
+    }
+    if grid[lower] == point {
+        return MaybeIndex::Some(lower);
+    }
+    let upper = lower + 1;
+    if upper >= grid.len() {
+        return MaybeIndex::None;
+    }
+    if grid[upper] == point {
+        MaybeIndex::Some(upper)
+    } else {
+        MaybeIndex::None
+    }
+}
+
+// Linear's rule.
+fn axis_location(grid: &[f64], point: f64) -> AxisLocation
+    requires { ⌜ 2 ≤ length (now grid) ⌝ }
+    ensures { λ r. ⌜ r ≡ axisLocation (now (grid .entry)) point ⌝ }
+{
+    let lower = cell::cell_index(grid, point);
+    match exact_node(grid, lower, point) {
+        MaybeIndex::Some(node) => AxisLocation::Exact(node),
+        MaybeIndex::None => {
+            let frac = (point - grid[lower]) / (grid[lower + 1] - grid[lower]);
+            AxisLocation::Between { lower, frac }
+        }
+    }
+}
+
+// LinearUniform's: no exact shortcut, and the first gap for every cell.
+fn uniform_location(grid: &[f64], point: f64) -> AxisLocation
+    requires { ⌜ 2 ≤ length (now grid) ⌝ }
+    ensures { λ r. ⌜ r ≡ uniformLocation (now (grid .entry)) point ⌝ }
+{
+    let step = grid[1] - grid[0];
+    let lower = uniform::uniform_index(grid[0], step, grid.len(), point);
+    let frac = (point - grid[lower]) / step;
+    AxisLocation::Between { lower, frac }
+}
+
+pub fn location_by(uniform: bool, grid: &[f64], point: f64) -> AxisLocation
+    ensures { λ r. ⌜ r ≡ locationFound uniform (now (grid .entry)) point ⌝ }
+{
+    if grid.len() < 2 {
+        return AxisLocation::Exact(0);
+    }
+    if uniform {
+        uniform_location(grid, point)
+    } else {
+        axis_location(grid, point)
+    }
+}
+
+// The node of an exact axis, the lower one of any other.
+pub fn lower_node(location: AxisLocation) -> usize
+    ensures { λ r. ⌜ r ≡ locationIndex location ⌝ }
+{
+    match location {
+        AxisLocation::Exact(node) => node,
+        AxisLocation::Between { lower, frac: _ } => lower,
+    }
+}

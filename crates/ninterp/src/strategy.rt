@@ -1,3 +1,0 @@
-// What the interpolation strategies are made of.
-pub(crate) mod cell;
-pub mod utils;

@@ -1,0 +1,158 @@
+-- Demand 3, last part, for Nearest and Step: two slices on different axes commute. Assumes nothing.
+use mathlib.Core.Path.{_≡_, refl, sym, ap, ap₂, _∙_}
+use mathlib.Core.Bool.{true}
+use mathlib.Core.List.{List, []}
+use Prim.Native.Nat.{ℕ, suc, _-_, _≤_, _<_}
+use native.Mathlib.Omega.{arith}
+use lib.ListN.{length, getD, length-take}
+use lib.Ieee.{Float}
+use lib.Ieee.Scale.{finite}
+use Rattle.answer.specs.Answer.{good, _or_}
+use Rattle.answer.proofs.Orders as orders
+use Rattle.judge.specs.Check.{readingFault}
+use Rattle.judge.proofs.Rows.{reading-fine}
+use Rattle.table.specs.Shape.{countsOf, size, axesOf, without, sliceValues, nodesWithout}
+use Rattle.table.specs.Table.{frameFault, lengthFault, axesFault, valuesFault, directionsFault, rangeFault}
+use Rattle.table.specs.declared.Shape.{Shape}
+use Rattle.table.proofs.Removals.{getD-without, getD-without-below, slices-comm}
+use Rattle.ninterp.specs.Tables.{nearestRule, stepRule}
+use Rattle.order.specs.Fronts.{noAxisFault, roomFault, nearestFront, stepFront}
+use Rattle.slices.specs.Slices.{axisOf, shapeWithout, pointFault, nearestSliceFault, stepSliceFault, ruleSlice}
+use Rattle.order.proofs.Fronts.{axis-there, room-enough}
+use Rattle.ninterp.proofs.Demands.{Accepted}
+use Rattle.slices.proofs.Lowered as low
+use Rattle.slices.proofs.SliceLaw as law
+use Rattle.slices.proofs.Left as over
+use Rattle.slices.proofs.SliceLaw.{Made}
+
+-- ---- the second slice, after one on axis k
+module _ (s : Shape) (four : length (s .counts) ≡ 4) (nodes values : List Float) (k : ℕ) (p : Float) (rule : ℕ → List Float → Float → ℕ) (made : Made s nodes values k p rule) where
+  abbrev s' : Shape
+  s' = shapeWithout s k
+
+  abbrev nodes' : List Float
+  nodes' = nodesWithout k (countsOf s) nodes
+
+  abbrev values' : List Float
+  values' = ruleSlice rule s nodes values k p
+
+  same-axes : axesOf (countsOf s') nodes' ≡ axesOf (without k (countsOf s)) nodes'
+  same-axes = ap (λ (ms : List ℕ). axesOf ms nodes') (law.counts-left s four nodes values k p rule made)
+
+  axis-above : (m : ℕ) → k ≤ m → axisOf s' nodes' m ≡ axisOf s nodes (suc m)
+  axis-above m h = ap (λ (xss : List (List Float)). getD xss m []) same-axes ∙ law.axis-above s four nodes values k p rule made m h
+
+  axis-below : (m : ℕ) → m < k → axisOf s' nodes' m ≡ axisOf s nodes m
+  axis-below m h = ap (λ (xss : List (List Float)). getD xss m []) same-axes ∙ law.axis-below s four nodes values k p rule made m h
+
+  -- over the whole table's counts
+  second : (rule' : ℕ → List Float → Float → ℕ) (m : ℕ) (q : Float) (r : List Float → Float → ℕ) (xs : List Float) → rule' m ≡ r → axisOf s' nodes' m ≡ xs
+      → ruleSlice rule' s' nodes' values' m q ≡ sliceValues m (r xs q) (without k (countsOf s)) (sliceValues k (rule k (axisOf s nodes k) p) (countsOf s) values)
+  unfolding ruleSlice
+  second rule' m q r xs f e =
+      ap₂ (λ (i : ℕ) (ms : List ℕ). sliceValues m i ms (sliceValues k (rule k (axisOf s nodes k) p) (countsOf s) values)) (ap₂ (λ (g : List Float → Float → ℕ) (ys : List Float). g ys q) f e) (law.counts-left s four nodes values k p rule made)
+
+  -- it is made: its table is accepted, its reading in range, and there is room
+  module _ (m : ℕ) (q : Float) (room : ℕ) (three : 3 ≤ s .axes) (there : m < s .axes - 1) (fq : finite q ≡ true) (r : good (rangeFault m (axisOf s' nodes' m) q) ≡ true) (w : size (without m (countsOf s')) ≤ room) where
+    left-over : Accepted s' nodes' values'
+    unfolding ruleSlice
+    left-over = law.slice-accepted s four nodes values k p rule made
+
+    has-axis : good (noAxisFault s' m) ≡ true
+    unfolding shapeWithout
+    has-axis = orders.passed-fine (noAxisFault s' m) (axis-there s' m (omega arith) there)
+
+    point : good (pointFault s' nodes' m q room) ≡ true
+    unfolding pointFault
+    point =
+        orders.both-passed (readingFault m q) (rangeFault m (axisOf s' nodes' m) q or roomFault (size (without m (countsOf s'))) room) (orders.passed-fine (readingFault m q) (reading-fine m q fq))
+        (orders.both-passed (rangeFault m (axisOf s' nodes' m) q) (roomFault (size (without m (countsOf s'))) room) r (orders.passed-fine (roomFault (size (without m (countsOf s'))) room) (room-enough (size (without m (countsOf s'))) room w)))
+
+    nearest-again : good (nearestSliceFault s' nodes' values' m q room) ≡ true
+    unfolding nearestSliceFault nearestFront
+    nearest-again =
+        orders.both-passed (frameFault s' (length nodes') (length values') or noAxisFault s' m or axesFault (countsOf s') nodes' or valuesFault values') (pointFault s' nodes' m q room)
+        (orders.both-passed (frameFault s' (length nodes') (length values')) (noAxisFault s' m or axesFault (countsOf s') nodes' or valuesFault values') (left-over .frame)
+        (orders.both-passed (noAxisFault s' m) (axesFault (countsOf s') nodes' or valuesFault values') has-axis
+        (orders.both-passed (axesFault (countsOf s') nodes') (valuesFault values') (left-over .axes) (left-over .stored)))) point
+
+    step-again : (ds : List ℕ) → good (lengthFault 3 (s' .axes) (length ds)) ≡ true → good (directionsFault ds) ≡ true → good (stepSliceFault s' nodes' values' ds m q room) ≡ true
+    unfolding stepSliceFault stepFront
+    step-again ds l d =
+        orders.both-passed (frameFault s' (length nodes') (length values') or lengthFault 3 (s' .axes) (length ds) or noAxisFault s' m or axesFault (countsOf s') nodes' or valuesFault values' or directionsFault ds) (pointFault s' nodes' m q room)
+        (orders.both-passed (frameFault s' (length nodes') (length values')) (lengthFault 3 (s' .axes) (length ds) or noAxisFault s' m or axesFault (countsOf s') nodes' or valuesFault values' or directionsFault ds) (left-over .frame)
+        (orders.both-passed (lengthFault 3 (s' .axes) (length ds)) (noAxisFault s' m or axesFault (countsOf s') nodes' or valuesFault values' or directionsFault ds) l
+        (orders.both-passed (noAxisFault s' m) (axesFault (countsOf s') nodes' or valuesFault values' or directionsFault ds) has-axis
+        (orders.both-passed (axesFault (countsOf s') nodes') (valuesFault values' or directionsFault ds) (left-over .axes) (orders.both-passed (valuesFault values') (directionsFault ds) (left-over .stored) d))))) point
+
+-- ---- axis k first, then the axis that was suc m; or suc m first, then k
+module _ (s : Shape) (four : length (s .counts) ≡ 4) (nodes values : List Float) (k m : ℕ) (km : k ≤ m) (p q : Float) (rule : ℕ → List Float → Float → ℕ)
+    (one : Made s nodes values k p rule) (other : Made s nodes values (suc m) q rule) where
+  commute : (ruleK ruleM : ℕ → List Float → Float → ℕ) → ruleK m ≡ rule (suc m) → ruleM k ≡ rule k
+      → ruleSlice ruleK (shapeWithout s k) (nodesWithout k (countsOf s) nodes) (ruleSlice rule s nodes values k p) m q
+      ≡ ruleSlice ruleM (shapeWithout s (suc m)) (nodesWithout (suc m) (countsOf s) nodes) (ruleSlice rule s nodes values (suc m) q) k p
+  commute ruleK ruleM above below =
+      second s four nodes values k p rule one ruleK m q (rule (suc m)) (axisOf s nodes (suc m)) above (axis-above s four nodes values k p rule one m km)
+      ∙ slices-comm k m (rule k (axisOf s nodes k) p) (rule (suc m) (axisOf s nodes (suc m)) q) (countsOf s) values km (let f : s .axes ≤ 4 = other .sliceable .four in omega (arith, length-take (s .axes) (s .counts), other .sliceable .within)) (one .index-in) (other .index-in)
+      ∙ sym (second s four nodes values (suc m) q rule other ruleM k p (rule k) (axisOf s nodes k) below (axis-below s four nodes values (suc m) q rule other k (omega arith)))
+
+  range-after : good (rangeFault m (axisOf (shapeWithout s k) (nodesWithout k (countsOf s) nodes) m) q) ≡ true
+  range-after =
+      ap (λ (xs : List Float). good (rangeFault m xs q)) (axis-above s four nodes values k p rule one m km)
+      ∙ ap good (sym (over.range-moves k m (axisOf s nodes (suc m)) q km)) ∙ low.lowered-good k (rangeFault (suc m) (axisOf s nodes (suc m)) q) ∙ other .in-range
+
+  range-before : good (rangeFault k (axisOf (shapeWithout s (suc m)) (nodesWithout (suc m) (countsOf s) nodes) k) p) ≡ true
+  range-before = ap (λ (xs : List Float). good (rangeFault k xs p)) (axis-below s four nodes values (suc m) q rule other k (omega arith)) ∙ one .in-range
+
+  there-m : m < s .axes - 1
+  there-m = omega (arith, other .sliceable .within)
+
+  there-k : k < s .axes - 1
+  there-k = omega (arith, other .sliceable .within)
+
+-- ---- for Nearest
+module _ (s : Shape) (four : length (s .counts) ≡ 4) (nodes values : List Float) (k m : ℕ) (km : k ≤ m) (p q : Float) (room room' : ℕ)
+    (h : good (nearestSliceFault s nodes values k p room) ≡ true) (h' : good (nearestSliceFault s nodes values (suc m) q room') ≡ true) where
+  one : Made s nodes values k p nearestRule
+  one = law.nearest-made s four nodes values k p room h
+
+  other : Made s nodes values (suc m) q nearestRule
+  other = law.nearest-made s four nodes values (suc m) q room' h'
+
+  pub nearest-slices-commute : ruleSlice nearestRule (shapeWithout s k) (nodesWithout k (countsOf s) nodes) (ruleSlice nearestRule s nodes values k p) m q
+      ≡ ruleSlice nearestRule (shapeWithout s (suc m)) (nodesWithout (suc m) (countsOf s) nodes) (ruleSlice nearestRule s nodes values (suc m) q) k p
+  nearest-slices-commute = commute s four nodes values k m km p q nearestRule one other nearestRule nearestRule refl refl
+
+  -- with three or four axes, after either slice the other is made, given room
+  pub nearest-second-made : 3 ≤ s .axes → (again : ℕ)
+      → (size (without m (countsOf (shapeWithout s k))) ≤ again → good (nearestSliceFault (shapeWithout s k) (nodesWithout k (countsOf s) nodes) (ruleSlice nearestRule s nodes values k p) m q again) ≡ true)
+      × (size (without k (countsOf (shapeWithout s (suc m)))) ≤ again → good (nearestSliceFault (shapeWithout s (suc m)) (nodesWithout (suc m) (countsOf s) nodes) (ruleSlice nearestRule s nodes values (suc m) q) k p again) ≡ true)
+  nearest-second-made three again = (
+    nearest-again s four nodes values k p nearestRule one m q again three (there-m s four nodes values k m km p q nearestRule one other) (other .finite-point) (range-after s four nodes values k m km p q nearestRule one other),
+    nearest-again s four nodes values (suc m) q nearestRule other k p again three (there-k s four nodes values k m km p q nearestRule one other) (one .finite-point) (range-before s four nodes values k m km p q nearestRule one other),
+  )
+
+-- ---- for Step, each second slice with the directions of the axes that are left
+module _ (s : Shape) (four : length (s .counts) ≡ 4) (nodes values : List Float) (directions : List ℕ) (k m : ℕ) (km : k ≤ m) (p q : Float) (room room' : ℕ)
+    (h : good (stepSliceFault s nodes values directions k p room) ≡ true) (h' : good (stepSliceFault s nodes values directions (suc m) q room') ≡ true) where
+  step-one : Made s nodes values k p (stepRule directions)
+  step-one = law.step-made s four nodes values directions k p room h
+
+  step-other : Made s nodes values (suc m) q (stepRule directions)
+  step-other = law.step-made s four nodes values directions (suc m) q room' h'
+
+  pub step-slices-commute : ruleSlice (stepRule (without k directions)) (shapeWithout s k) (nodesWithout k (countsOf s) nodes) (ruleSlice (stepRule directions) s nodes values k p) m q
+      ≡ ruleSlice (stepRule (without (suc m) directions)) (shapeWithout s (suc m)) (nodesWithout (suc m) (countsOf s) nodes) (ruleSlice (stepRule directions) s nodes values (suc m) q) k p
+  step-slices-commute =
+      commute s four nodes values k m km p q (stepRule directions) step-one step-other (stepRule (without k directions)) (stepRule (without (suc m) directions))
+      (law.step-same (getD-without k m directions 0 km)) (law.step-same (getD-without-below k (suc m) directions 0 (omega arith)))
+
+  pub step-second-made : 3 ≤ s .axes → (again : ℕ)
+      → (size (without m (countsOf (shapeWithout s k))) ≤ again → good (stepSliceFault (shapeWithout s k) (nodesWithout k (countsOf s) nodes) (ruleSlice (stepRule directions) s nodes values k p) (without k directions) m q again) ≡ true)
+      × (size (without k (countsOf (shapeWithout s (suc m)))) ≤ again → good (stepSliceFault (shapeWithout s (suc m)) (nodesWithout (suc m) (countsOf s) nodes) (ruleSlice (stepRule directions) s nodes values (suc m) q) (without (suc m) directions) k p again) ≡ true)
+  step-second-made three again = (
+    λ w. step-again s four nodes values k p (stepRule directions) step-one m q again three (there-m s four nodes values k m km p q (stepRule directions) step-one step-other) (step-other .finite-point) (range-after s four nodes values k m km p q (stepRule directions) step-one step-other) w
+        (without k directions) (law.left-lent s four nodes values directions k p room h) (law.left-good s four nodes values directions k p room h),
+    λ w. step-again s four nodes values (suc m) q (stepRule directions) step-other k p again three (there-k s four nodes values k m km p q (stepRule directions) step-one step-other) (step-one .finite-point) (range-before s four nodes values k m km p q (stepRule directions) step-one step-other) w
+        (without (suc m) directions) (law.left-lent s four nodes values directions (suc m) q room' h') (law.left-good s four nodes values directions (suc m) q room' h'),
+  )

@@ -1,0 +1,10 @@
+pub mod Slices
+pub mod Sliced
+pub mod Lowered
+pub mod Left
+pub mod SliceLaw
+pub mod Commutes
+pub mod Alongs
+pub mod LinearLaw
+pub mod Refusals
+pub mod Unique

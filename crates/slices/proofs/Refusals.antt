@@ -1,0 +1,74 @@
+-- Demand 1: a refused slice has value +0.0 and leaves the output as it was; what lies beyond the shape is never touched. Assumes nothing.
+use mathlib.Core.Path.{_≡_, refl, ap}
+use mathlib.Core.Bool.{Bool, true, false, cond}
+use mathlib.Core.List.{List, _++_}
+use Prim.Native.Nat.{ℕ}
+use lib.ListN.{length, drop}
+use lib.Seq.{drop-at}
+use lib.Ieee.{Float}
+use Rattle.answer.specs.Answer.{plusZero, good, given}
+use Rattle.answer.specs.declared.Answer.{Answer}
+use Rattle.answer.proofs.Orders as orders
+use Rattle.table.specs.declared.Shape.{Shape}
+use Rattle.order.specs.Fronts.{noAxisFault, notFirstFault, roomFault, nearestFront, stepFront, linearFront, linearUniformFront}
+use Rattle.blend.specs.Blend.{resultFaultAt, resultsFault}
+use Rattle.blend.specs.declared.AxisLocation.{AxisLocation}
+use Rattle.axis.specs.Utils.{axisLocation}
+use Rattle.axis.specs.Locations.{uniformLocation}
+use Rattle.slices.specs.LinearSlices.{linearValues, linearRest, linearSliceFault, linearUniformSliceFault}
+use Rattle.slices.specs.Slices.{shapeWithout, noShape, pointFault, nearestSliceFault, stepSliceFault, sliceAnswer, slicedInto}
+use Rattle.uniform.proofs.Bares.{bare-uniform}
+use Rattle.table.proofs.Bares.{bare-length, bare-frame, bare-axes, bare-values, bare-directions, bare-reading, bare-range}
+use Rattle.answer.proofs.Bares.{Bare, bare-or, bare-first, row}
+
+bare-point : (s : Shape) (nodes : List Float) (axis : ℕ) (p : Float) (room : ℕ) → Bare (pointFault s nodes axis p room)
+unfolding pointFault roomFault
+bare-point s nodes axis p room = bare-or _ _ (bare-reading axis p) (bare-or _ _ (bare-range axis _ p) (row _ 15 0 1))
+
+pub nearest-slice-bare : (s : Shape) (nodes values : List Float) (axis : ℕ) (p : Float) (room : ℕ) → nearestSliceFault s nodes values axis p room .value ≡ plusZero
+unfolding nearestSliceFault nearestFront noAxisFault
+nearest-slice-bare s nodes values axis p room =
+    bare-or _ _ (bare-or _ _ (bare-frame s _ _) (bare-or _ _ (row _ 16 0 0) (bare-or _ _ (bare-axes _ nodes) (bare-values values)))) (bare-point s nodes axis p room)
+
+pub step-slice-bare : (s : Shape) (nodes values : List Float) (directions : List ℕ) (axis : ℕ) (p : Float) (room : ℕ) → stepSliceFault s nodes values directions axis p room .value ≡ plusZero
+unfolding stepSliceFault stepFront noAxisFault
+step-slice-bare s nodes values directions axis p room =
+    bare-or _ _ (bare-or _ _ (bare-frame s _ _) (bare-or _ _ (bare-length 3 _ _) (bare-or _ _ (row _ 16 0 0) (bare-or _ _ (bare-axes _ nodes) (bare-or _ _ (bare-values values) (bare-directions directions)))))) (bare-point s nodes axis p room)
+
+bare-results : (values : List Float) → Bare (resultsFault values)
+unfolding resultsFault resultFaultAt
+bare-results values = bare-first _ (λ i. row _ 12 0 i) 0 _
+
+bare-linear-front : (s : Shape) (nodes values : List Float) (axis : ℕ) → Bare (linearFront s nodes values axis)
+unfolding linearFront notFirstFault
+bare-linear-front s nodes values axis = bare-or _ _ (bare-frame s _ _) (bare-or _ _ (row _ 16 0 0) (bare-or _ _ (bare-axes _ nodes) (bare-values values)))
+
+bare-linear-rest : (rule : List Float → Float → AxisLocation) (s : Shape) (nodes values : List Float) (axis : ℕ) (p : Float) (room : ℕ) → Bare (linearRest rule s nodes values axis p room)
+unfolding linearRest
+bare-linear-rest rule s nodes values axis p room = bare-or _ _ (bare-point s nodes axis p room) (bare-results (linearValues rule s nodes values p))
+
+pub linear-slice-bare : (s : Shape) (nodes values : List Float) (axis : ℕ) (p : Float) (room : ℕ) → linearSliceFault s nodes values axis p room .value ≡ plusZero
+unfolding linearSliceFault
+linear-slice-bare s nodes values axis p room = bare-or _ _ (bare-linear-front s nodes values axis) (bare-linear-rest axisLocation s nodes values axis p room)
+
+pub linear-uniform-slice-bare : (s : Shape) (nodes values : List Float) (axis : ℕ) (p : Float) (room : ℕ) → linearUniformSliceFault s nodes values axis p room .value ≡ plusZero
+unfolding linearUniformSliceFault linearUniformFront
+linear-uniform-slice-bare s nodes values axis p room =
+    bare-or _ _ (bare-or _ _ (bare-linear-front s nodes values axis) (bare-uniform _ nodes)) (bare-linear-rest uniformLocation s nodes values axis p room)
+
+pub no-shape : (a : Answer) (s : Shape) (axis : ℕ) → good a ≡ false → sliceAnswer a s axis .shape ≡ noShape
+unfolding sliceAnswer
+no-shape a s axis h = orders.given-bad a (shapeWithout s axis) noShape h
+
+-- ---- the output
+pub refused-keeps : (a : Answer) (values out : List Float) → good a ≡ false → slicedInto a values out ≡ out
+unfolding slicedInto given
+refused-keeps a values out h = ap (λ (t : Bool). cond t (values ++ drop (length values) out) out) h
+
+pub beyond-kept : (a : Answer) (values out : List Float) → drop (length values) (slicedInto a values out) ≡ drop (length values) out
+unfolding slicedInto given
+beyond-kept a values out = go (good a)
+  where
+    go : (t : Bool) → drop (length values) (cond t (values ++ drop (length values) out) out) ≡ drop (length values) out
+    go true = drop-at values (drop (length values) out) (length values) refl
+    go false = refl

@@ -1,0 +1,4 @@
+pub mod Primitives
+pub mod Laws
+pub mod Refusals
+pub mod Unique

@@ -1,0 +1,30 @@
+-- No answer of a primitive gives a value. Assumes nothing.
+use mathlib.Core.Path.{_≡_}
+use mathlib.Core.List.{List}
+use Prim.Native.Nat.{ℕ}
+use lib.Ieee.{Float}
+use Rattle.answer.specs.Answer.{plusZero, indexAnswer}
+use Rattle.judge.specs.Check.{directionFault, resultFault}
+use Rattle.utils.specs.Calls.{exactAnswer, axisAnswer, axisReadingFault, locateLowerIndex, lowerFault, exactFault, exactIndex, locateAxis, directedFault, locateStepIndex}
+use Rattle.table.proofs.Bares.{bare-reading, bare-axis}
+use Rattle.answer.proofs.Bares.{Bare, bare-or, row}
+
+bare-axis-reading : (nodes : List Float) (p : Float) → Bare (axisReadingFault nodes p)
+unfolding axisReadingFault
+bare-axis-reading nodes p = bare-or _ _ (bare-axis nodes) (bare-reading 0 p)
+
+pub lower-index-bare : (nodes : List Float) (p : Float) → locateLowerIndex nodes p .answer .value ≡ plusZero
+unfolding locateLowerIndex indexAnswer
+lower-index-bare nodes p = bare-axis-reading nodes p
+
+pub exact-index-bare : (nodes : List Float) (lower : ℕ) (p : Float) → exactIndex nodes lower p .answer .value ≡ plusZero
+unfolding exactIndex exactAnswer exactFault lowerFault
+exact-index-bare nodes lower p = bare-or _ _ (bare-axis nodes) (bare-or _ _ (row _ 2 0 1) (bare-reading 0 p))
+
+pub locate-axis-bare : (nodes : List Float) (p : Float) → locateAxis nodes p .answer .value ≡ plusZero
+unfolding locateAxis axisAnswer resultFault
+locate-axis-bare nodes p = bare-or _ _ (bare-axis-reading nodes p) (row _ 12 0 0)
+
+pub step-index-bare : (direction : ℕ) (nodes : List Float) (p : Float) → locateStepIndex direction nodes p .answer .value ≡ plusZero
+unfolding locateStepIndex indexAnswer directedFault directionFault
+step-index-bare direction nodes p = bare-or _ _ (bare-axis nodes) (bare-or _ _ (row _ 9 0 0) (bare-reading 0 p))

@@ -23,11 +23,12 @@ use Rattle.table.specs.Shape.{size, total, axesOf, strides, placeBy, table, ind
 use Rattle.table.specs.Table.{shapeFault, lengthFault, frameFault, axesFault, valueFault, valuesFault, readingsFault, rangeFault, rangesFault}
 use Rattle.table.specs.declared.Shape.{Shape}
 use Rattle.order.specs.Lookups.{lookupFault}
-use Rattle.order.specs.Fronts.{notFirstFault, roomFault, linearFront}
+use Rattle.order.specs.Fronts.{notFirstFault, linearFront}
 use Rattle.blend.specs.Blend.{blended, computed, resultFaultAt, resultsFault}
 use Rattle.blend.specs.declared.AxisLocation.{AxisLocation}
 use Rattle.blend.specs.declared.AxisLocation.the-variants.{Exact, Between}
 use Rattle.utils.specs.declared.AxisAnswer.{AxisAnswer}
+use Rattle.judge.specs.Check.{roomFault}
 
 -- what a call tells
 pub data Outcome : Type 0 where

@@ -4,26 +4,26 @@ use mathlib.Core.Bool.{false}
 use mathlib.Core.List.{List, [], _∷_}
 use Prim.Native.Nat.{ℕ}
 use lib.IntN.{pos}
-use lib.Ieee.{Float, fin, ofBits, sub, lt}
-use Rattle.answer.specs.Answer.{refused, answered, fine, good, when, _or_, firstOf, given}
-use Rattle.judge.specs.Check.{countFault, finiteFault, riseFault, nodeFault, nodesFault}
+use lib.Ieee.{fin, ofBits, sub, lt}
+use Rattle.answer.specs.Answer.{refused, answered, fine, good, when, firstOf, given, _or_}
+use Rattle.judge.specs.Check.{countFault, finiteFault, riseFault, nodeFault, nodesFault, roomFault}
 use Rattle.table.specs.Shape.{size, total, axesOf}
 use Rattle.table.specs.Table.{axesFault, valueFault, valuesFault}
 use Rattle.words.specs.Words.{ofBytes, wordAt, floatAt}
 use Rattle.image.specs.Image.{axesField, countField, offsetField, valuesField, shapeOf, floatsAt, nodesFrom, nodesIn, valuesIn}
-use Rattle.image.specs.Load.{fieldFault, shortFault, axesRow, lengthRow, startFault, countRow, productRow, offsetRow, headFault, areaFault, areasFault, roomRow, roomsFault, contentsFault, loadFault}
+use Rattle.image.specs.Load.{fieldFault, shortFault, axesRow, lengthRow, startFault, countRow, productRow, offsetRow, headFault, areaFault, areasFault, roomsFault, contentsFault, loadFault}
 
 -- 01 01 0000; length 72; counts 2 0 0 0; offsets 40 0 0 0; values at 56; zero; nodes 0.0, 2.0; values 10.0, 20.0
 abbrev pub img : List ℕ
 img = 1 ∷ 1 ∷ 0 ∷ 0 ∷ 72 ∷ 0 ∷ 0 ∷ 0 ∷ 2 ∷ 0 ∷ 0 ∷ 0 ∷ 0 ∷ 0 ∷ 0 ∷ 0 ∷ 40 ∷ 0 ∷ 0 ∷ 0 ∷ 0 ∷ 0 ∷ 0 ∷ 0 ∷ 0 ∷ 0 ∷ 0 ∷ 0 ∷ 0 ∷ 0 ∷ 0 ∷ 0 ∷ 56 ∷ 0 ∷ 0 ∷ 0 ∷ 0 ∷ 0 ∷ 0 ∷ 0 ∷ 0 ∷ 0 ∷ 0 ∷ 0 ∷ 0 ∷ 0 ∷ 0 ∷ 0 ∷ 0 ∷ 0 ∷ 0 ∷ 0 ∷ 0 ∷ 0 ∷ 0 ∷ 64 ∷ 0 ∷ 0 ∷ 0 ∷ 0 ∷ 0 ∷ 0 ∷ 36 ∷ 64 ∷ 0 ∷ 0 ∷ 0 ∷ 0 ∷ 0 ∷ 0 ∷ 52 ∷ 64 ∷ []
 
 pub example-loads : loadFault img 2 2 ≡ fine
-unfolding loadFault headFault startFault shortFault fieldFault axesRow lengthRow countRow productRow offsetRow areaFault areasFault roomRow roomsFault contentsFault axesField countField offsetField valuesField shapeOf floatsAt nodesFrom nodesIn valuesIn ofBytes wordAt floatAt size total axesOf axesFault valueFault valuesFault countFault finiteFault riseFault nodeFault nodesFault refused answered fine good when _or_ firstOf given ofBits sub lt
+unfolding loadFault headFault startFault shortFault fieldFault axesRow lengthRow countRow productRow offsetRow areaFault areasFault roomFault roomsFault contentsFault axesField countField offsetField valuesField shapeOf floatsAt nodesFrom nodesIn valuesIn ofBytes wordAt floatAt size total axesOf axesFault valueFault valuesFault countFault finiteFault riseFault nodeFault nodesFault refused answered fine good when _or_ firstOf given ofBits sub lt
 example-loads = refl
 
 -- one place of room short, of the nodes
 pub example-room : loadFault img 1 2 ≡ refused 15 0 0
-unfolding loadFault headFault startFault shortFault fieldFault axesRow lengthRow countRow productRow offsetRow areaFault areasFault roomRow roomsFault contentsFault axesField countField offsetField valuesField shapeOf floatsAt nodesFrom nodesIn valuesIn ofBytes wordAt floatAt size total axesOf axesFault valueFault valuesFault countFault finiteFault riseFault nodeFault nodesFault refused answered fine good when _or_ firstOf given ofBits sub lt
+unfolding loadFault headFault startFault shortFault fieldFault axesRow lengthRow countRow productRow offsetRow areaFault areasFault roomFault roomsFault contentsFault axesField countField offsetField valuesField shapeOf floatsAt nodesFrom nodesIn valuesIn ofBytes wordAt floatAt size total axesOf axesFault valueFault valuesFault countFault finiteFault riseFault nodeFault nodesFault refused answered fine good when _or_ firstOf given ofBits sub lt
 example-room = refl
 
 pub example-values : valuesIn img ≡ fin false 5 (pos 1) ∷ fin false 5 (pos 2) ∷ []

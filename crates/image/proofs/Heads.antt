@@ -1,24 +1,23 @@
 -- The header: what its checks say once they are passed. Assumes nothing.
-use mathlib.Core.Path.{_≡_, refl, sym, ap, ap₂, _∙_, subst}
-use mathlib.Core.Bool.{Bool, true, false, not, _&&_}
+use mathlib.Core.Path.{_≡_, ap, ap₂, _∙_}
+use mathlib.Core.Bool.{true, not, _&&_}
 use mathlib.Core.List.{List, [], _∷_}
-use Prim.Native.Nat.{ℕ, _+_, _-_, _*_, _≤_, _<_}
+use Prim.Native.Nat.{ℕ, _+_, _*_, _≤_, _<_}
 use native.Mathlib.Omega.{arith}
 use borrow.Author.Tests.{leb-true, eqb-true}
 use lib.Dec.{leb, eqb}
 use lib.ListN.{length, getD}
-use Rattle.answer.specs.Answer.{refused, fine, good, when, _or_, firstOf}
-use Rattle.answer.specs.declared.Answer.{Answer}
+use Rattle.answer.specs.Answer.{refused, good, when, firstOf}
 use Rattle.answer.proofs.Orders as orders
 use Rattle.judge.specs.Check.{countFault}
 use Rattle.judge.proofs.Rows.{not-false, and-left, and-right}
-use Rattle.table.specs.Shape.{countsOf, size, tabulate}
+use Rattle.table.specs.Shape.{tabulate}
 use Rattle.table.specs.Table.{shapeFault}
 use Rattle.table.specs.declared.Shape.{Shape}
 use Rattle.table.proofs.Layouts.{getD-tabulate}
 use Rattle.words.specs.Words.{wordAt}
 use Rattle.image.specs.Image.{axesField, countField, shapeOf}
-use Rattle.image.specs.Load.{fieldFault, shortFault, axesRow, lengthRow, startFault, countRow, productRow, offsetRow, headFault}
+use Rattle.image.specs.Load.{fieldFault, shortFault, axesRow, lengthRow, startFault, countRow, productRow, headFault}
 use Rattle.image.proofs.Rows.{field-is, count-used, count-unused}
 
 pub shape-same : (img : List ℕ) (n a b c d : ℕ) → n ≡ axesField img → a ≡ countField img 0 → b ≡ countField img 1 → c ≡ countField img 2 → d ≡ countField img 3

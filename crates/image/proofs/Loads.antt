@@ -1,25 +1,24 @@
 -- What loading answers and writes, put together. Assumes nothing.
-use mathlib.Core.Path.{_≡_, refl, sym, ap, ap₂, _∙_}
+use mathlib.Core.Path.{_≡_, ap₂, _∙_}
 use mathlib.Core.Bool.{true}
 use mathlib.Core.List.{List, _++_}
 use Prim.Native.Nat.{ℕ, _≤_}
 use native.Mathlib.Omega.{arith}
-use borrow.Author.Tests.{ltb-false}
-use lib.Dec.{ltb}
 use lib.ListN.{length, drop}
 use lib.Seq.{sets}
-use lib.Ieee.{Float}
-use Rattle.answer.specs.Answer.{refused, good, when, _or_, given}
+use Rattle.answer.specs.Answer.{good}
 use Rattle.answer.specs.declared.Answer.{Answer}
 use Rattle.answer.proofs.Orders as orders
 use Rattle.table.specs.Shape.{countsOf, size, total}
 use Rattle.table.specs.Table.{shapeFault}
 use Rattle.table.specs.declared.Shape.{Shape}
 use Rattle.image.specs.Image.{shapeOf, nodesIn, valuesIn}
-use Rattle.image.specs.Load.{headFault, areasFault, roomRow, roomsFault, contentsFault, loadFault, noShape, loadAnswer, filledInto}
+use Rattle.image.specs.Load.{headFault, areasFault, roomsFault, loadFault, noShape, loadAnswer, filledInto}
 use Rattle.image.specs.declared.LoadAnswer.{LoadAnswer}
 use Rattle.image.proofs.Heads.{head-shape}
 use Rattle.image.proofs.Floats.{nodes-total, values-size, sets-front}
+use Rattle.judge.specs.Check.{roomFault}
+use Rattle.judge.proofs.Rows.{room-passed}
 
 module _ (img : List ℕ) (nodes values : ℕ) (r : Answer) (e : r ≡ loadFault img nodes values) where
   pub load-refused : (r .number ≡ 0 → ⊥) → (z : Shape) → z ≡ noShape → _≡_ {A = LoadAnswer} (record { answer = r; shape = z }) (loadAnswer img nodes values)
@@ -40,10 +39,6 @@ module _ {A : Type 0} (a r : Answer) (e : r ≡ a) (xs out : List A) where
   unfolding filledInto
   out-filled h after l q = orders.given-kept r a e (xs ++ drop (length xs) out) out after h (q ∙ sets-front xs out l)
 
-pub room-there : (place wanted room : ℕ) → good (roomRow place wanted room) ≡ true → wanted ≤ room
-unfolding roomRow
-room-there place wanted room g = ltb-false room wanted (orders.row-good (ltb room wanted) 14 0 place g)
-
 -- ---- what is known where every check was passed
 module _ (img : List ℕ) (nodes values : ℕ) (h : good (loadFault img nodes values) ≡ true) where
   head-good : good (headFault img) ≡ true
@@ -59,11 +54,11 @@ module _ (img : List ℕ) (nodes values : ℕ) (h : good (loadFault img nodes va
 
   pub nodes-room : total (countsOf (shapeOf img)) ≤ nodes
   unfolding roomsFault
-  nodes-room = room-there 0 (total (countsOf (shapeOf img))) nodes (orders.first-passed (roomRow 0 (total (countsOf (shapeOf img))) nodes) _ rooms-good)
+  nodes-room = room-passed 0 (total (countsOf (shapeOf img))) nodes (orders.first-passed (roomFault 0 (total (countsOf (shapeOf img))) nodes) _ rooms-good)
 
   pub values-room : size (countsOf (shapeOf img)) ≤ values
   unfolding roomsFault
-  values-room = room-there 1 (size (countsOf (shapeOf img))) values (orders.second-passed (roomRow 0 (total (countsOf (shapeOf img))) nodes) (roomRow 1 (size (countsOf (shapeOf img))) values) rooms-good)
+  values-room = room-passed 1 (size (countsOf (shapeOf img))) values (orders.second-passed (roomFault 0 (total (countsOf (shapeOf img))) nodes) (roomFault 1 (size (countsOf (shapeOf img))) values) rooms-good)
 
   pub nodes-fit : length (nodesIn img) ≤ nodes
   nodes-fit = omega (arith, nodes-total img load-shape, nodes-room)

@@ -1,17 +1,16 @@
 -- The rows of the image's checks: which outcome gives which answer. Assumes nothing.
-use mathlib.Core.Path.{_≡_, refl, sym, ap, ap₂, _∙_}
-use mathlib.Core.Bool.{Bool, true, false, not, _&&_, cond}
+use mathlib.Core.Path.{_≡_, sym, ap, ap₂}
+use mathlib.Core.Bool.{Bool, true, not, _&&_, cond}
 use mathlib.Core.List.{List}
 use Prim.Native.Nat.{ℕ, _+_, _*_, _%_, _≤_, _<_}
 use borrow.Author.Tests.{eqb-true, eq-eqb, ne-eqb, lt-ltb, le-ltb, le-leb, lt-leb}
 use lib.Dec.{eqb, leb, ltb}
-use lib.ListN.{length}
 use Rattle.answer.specs.Answer.{refused, fine, good}
 use Rattle.answer.proofs.Orders.{row-met, row-passed, row-good}
 use Rattle.judge.specs.Check.{countFault}
 use Rattle.judge.proofs.Rows.{and-false, not-false}
 use Rattle.image.specs.Image.{axesField, countField}
-use Rattle.image.specs.Load.{fieldFault, shortFault, axesRow, lengthRow, countRow, areaFault, roomRow}
+use Rattle.image.specs.Load.{fieldFault, shortFault, axesRow, lengthRow, countRow, areaFault}
 
 module _ (place wanted x : ℕ) where
   pub field-wrong : (x ≡ wanted → ⊥) → refused 13 0 place ≡ fieldFault place wanted x
@@ -91,15 +90,6 @@ module _ (len axis offset n : ℕ) where
   unfolding areaFault
   area-right h e k =
       row-passed astray 13 axis 0 (ap₂ (λ (p q : Bool). not (p && q)) (le-leb 40 offset h) (ap₂ (λ (p q : Bool). p && q) (eq-eqb (offset % 8) 0 e) (le-leb (offset + 8 * n) len k)))
-
-module _ (place wanted room : ℕ) where
-  pub room-short : room < wanted → refused 15 0 place ≡ roomRow place wanted room
-  unfolding roomRow
-  room-short h = row-met (ltb room wanted) 14 0 place (lt-ltb room wanted h)
-
-  pub room-right : wanted ≤ room → fine ≡ roomRow place wanted room
-  unfolding roomRow
-  room-right h = row-passed (ltb room wanted) 14 0 place (le-ltb room wanted h)
 
 -- a count that is used, and one that is not
 module _ (img : List ℕ) (a : ℕ) where

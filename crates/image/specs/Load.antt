@@ -1,13 +1,12 @@
 -- "Loading checks", in their order, and what loading answers and writes for every input.
-use mathlib.Core.Bool.{Bool, true, false, not, _&&_, cond}
+use mathlib.Core.Bool.{not, _&&_, cond}
 use mathlib.Core.List.{List, [], _∷_, _++_}
 use Prim.Native.Nat.{ℕ, _+_, _-_, _*_, _%_}
 use lib.Dec.{leb, ltb, eqb}
 use lib.ListN.{length, drop}
-use lib.Ieee.{Float}
 use Rattle.answer.specs.Answer.{refused, when, _or_, firstOf, given}
 use Rattle.answer.specs.declared.Answer.{Answer}
-use Rattle.judge.specs.Check.{countFault}
+use Rattle.judge.specs.Check.{countFault, roomFault}
 use Rattle.table.specs.Shape.{countsOf, size, total}
 use Rattle.table.specs.Table.{axesFault, valuesFault}
 use Rattle.table.specs.declared.Shape.{Shape}
@@ -71,12 +70,9 @@ areasFault img =
     firstOf (λ a. areaFault (length img) a (offsetField img a) (countField img a)) 0 (axesField img)
     or areaFault (length img) (axesField img) (valuesField img) (size (countsOf (shapeOf img)))
 
--- 15: "an output buffer too short", "place 0 nodes, 1 values"
-unfoldable pub roomRow : ℕ → ℕ → ℕ → Answer
-roomRow place wanted room = when (ltb room wanted) (refused 15 0 place)
-
+-- 15: "place 0 nodes, 1 values"
 unfoldable pub roomsFault : Shape → ℕ → ℕ → Answer
-roomsFault s nodes values = roomRow 0 (total (countsOf s)) nodes or roomRow 1 (size (countsOf s)) values
+roomsFault s nodes values = roomFault 0 (total (countsOf s)) nodes or roomFault 1 (size (countsOf s)) values
 
 -- "then 4 to 7"
 unfoldable pub contentsFault : List ℕ → Answer

@@ -1,13 +1,12 @@
 // Where the areas lie, and the room that is lent for them.
 ghost use mathlib.Core.Path.{_≡_};
 ghost use mathlib.Core.Bool.{true};
-ghost use Prim.Native.Nat.{ℕ, _+_, _*_, _<_, _≤_};
+ghost use Prim.Native.Nat.{_+_, _*_, _<_, _≤_};
 ghost use lib.ListN.{length};
 ghost use Rattle.answer.specs.Answer.{good, firstOf};
-ghost use Rattle.table.specs.Shape.{countsOf, size, total};
 ghost use Rattle.table.specs.Table.{shapeFault};
-ghost use Rattle.image.specs.Image.{axesField, countField, offsetField, shapeOf};
-ghost use Rattle.image.specs.Load.{headFault, areaFault, areasFault, roomRow, roomsFault};
+ghost use Rattle.image.specs.Image.{countField, offsetField, shapeOf};
+ghost use Rattle.image.specs.Load.{areaFault, areasFault, roomsFault};
 use crate::header;
 use answer::Answer;
 
@@ -61,24 +60,14 @@ pub(crate) fn areas_fault(img: &[u8]) -> Answer
 }
 
 // 15: an output that is too short.
-fn room_row(place: usize, wanted: usize, room: usize) -> Answer
-    ensures { λ r. ⌜ r ≡ roomRow place wanted room ⌝ }
-{
-    if room < wanted {
-        answer::refuse(15, 0, place)
-    } else {
-        answer::pass()
-    }
-}
-
 pub(crate) fn rooms_fault(img: &[u8], nodes: usize, values: usize) -> Answer
     requires { ⌜ good (shapeFault (shapeOf (now img))) ≡ true ⌝ }
     ensures { λ r. ⌜ r ≡ roomsFault (shapeOf (now (img .entry))) nodes values ⌝ }
 {
     let held = table::sizes(header::shape_of(img));
-    let fault = room_row(0, held.nodes, nodes);
+    let fault = judge::room_fault(0, held.nodes, nodes);
     if fault.number != 0 {
         return fault;
     }
-    room_row(1, held.values, values)
+    judge::room_fault(1, held.values, values)
 }

@@ -1,11 +1,10 @@
 // The header's fields, and its checks.
 ghost use mathlib.Core.Path.{_≡_};
-ghost use Prim.Native.Nat.{ℕ, _+_, _-_, _*_, _<_, _≤_};
-ghost use lib.ListN.{length};
+ghost use Prim.Native.Nat.{_+_, _-_, _*_, _<_, _≤_};
 ghost use Rattle.answer.specs.Answer.{firstOf};
 ghost use Rattle.words.specs.Words.{wordAt};
 ghost use Rattle.image.specs.Image.{axesField, countField, offsetField, valuesField, shapeOf};
-ghost use Rattle.image.specs.Load.{fieldFault, shortFault, axesRow, lengthRow, startFault, countRow, productRow, offsetRow, headFault};
+ghost use Rattle.image.specs.Load.{fieldFault, shortFault, axesRow, lengthRow, startFault, countRow, offsetRow, headFault};
 use answer::Answer;
 use table::Shape;
 

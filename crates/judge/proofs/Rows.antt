@@ -12,7 +12,7 @@ use lib.Ieee.Scale.{finite}
 use Rattle.answer.specs.Answer.{plusZero, refused, fine, good, when, _or_, firstOf}
 use Rattle.answer.specs.declared.Answer.{Answer}
 use Rattle.answer.proofs.Orders as orders
-use Rattle.judge.specs.Check.{node, gap, countFault, finiteFault, riseFault, nodeFault, nodesFault, axisFault, lentStepFault, toleranceFault, directionFault, readingFault, resultFault, Axis}
+use Rattle.judge.specs.Check.{node, gap, countFault, finiteFault, riseFault, nodeFault, nodesFault, axisFault, lentStepFault, toleranceFault, directionFault, readingFault, resultFault, roomFault, Axis}
 
 -- ---- tests
 pub and-false : (p q : Bool) → q ≡ false → p && q ≡ false
@@ -263,3 +263,17 @@ module _ (x : Float) where
   pub result-fine : finite x ≡ true → fine ≡ resultFault x
   unfolding resultFault
   result-fine h = orders.row-passed (not (finite x)) 11 0 0 (ap not h)
+
+-- ---- 15
+module _ (place wanted room : ℕ) where
+  pub room-short : room < wanted → refused 15 0 place ≡ roomFault place wanted room
+  unfolding roomFault
+  room-short h = orders.row-met (ltb room wanted) 14 0 place (lt-ltb room wanted h)
+
+  pub room-enough : wanted ≤ room → fine ≡ roomFault place wanted room
+  unfolding roomFault
+  room-enough h = orders.row-passed (ltb room wanted) 14 0 place (le-ltb room wanted h)
+
+  pub room-passed : good (roomFault place wanted room) ≡ true → wanted ≤ room
+  unfolding roomFault
+  room-passed h = ltb-false room wanted (orders.row-good (ltb room wanted) 14 0 place h)

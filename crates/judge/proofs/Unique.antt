@@ -11,6 +11,7 @@ use Rattle.judge.proofs.tolerance_fault.Reads as tolerance-fault
 use Rattle.judge.proofs.direction_fault.Reads as direction-fault
 use Rattle.judge.proofs.reading_fault.Reads as reading-fault
 use Rattle.judge.proofs.result_fault.Reads as result-fault
+use Rattle.judge.proofs.room_fault.Reads as room-fault
 
 pub count-fault-unique : (κs : _) (a : _) (r s : Answer) (x y : _) → count-fault.Post κs a r x → count-fault.Post κs a s y → r ≡ s
 count-fault-unique κs a r s x y p q = one-outcome r s _ p q
@@ -38,3 +39,6 @@ reading-fault-unique κs a r s x y p q = one-outcome r s _ p q
 
 pub result-fault-unique : (κs : _) (a : _) (r s : Answer) (x y : _) → result-fault.Post κs a r x → result-fault.Post κs a s y → r ≡ s
 result-fault-unique κs a r s x y p q = one-outcome r s _ p q
+
+pub room-fault-unique : (κs : _) (a : _) (r s : Answer) (x y : _) → room-fault.Post κs a r x → room-fault.Post κs a s y → r ≡ s
+room-fault-unique κs a r s x y p q = one-outcome r s _ p q

@@ -64,6 +64,10 @@ readingFault axis p = when (not (finite p)) (refused 10 axis 0)
 unfoldable pub resultFault : Float → Answer
 resultFault x = when (not (finite x)) (refused 12 0 0)
 
+-- 15: "an output buffer too short", "place 0 nodes, 1 values, 2 image"
+unfoldable pub roomFault : ℕ → ℕ → ℕ → Answer
+roomFault place wanted room = when (ltb room wanted) (refused 15 0 place)
+
 -- what an axis is that passes 2, 4, 5 and 6; `axis-of` and `axis-fine` show that it is exactly that
 pub record Axis (nodes : List Float) : Type 0 where
   pub enough : 2 ≤ length nodes

@@ -2,7 +2,7 @@
 ghost use mathlib.Core.Path.{_≡_};
 ghost use Prim.Native.Nat.{_<_};
 ghost use lib.ListN.{length};
-ghost use Rattle.judge.specs.Check.{countFault, finiteFault, riseFault, nodeFault, nodesFault, axisFault, lentStepFault, toleranceFault, directionFault, readingFault, resultFault};
+ghost use Rattle.judge.specs.Check.{countFault, finiteFault, riseFault, nodeFault, nodesFault, axisFault, lentStepFault, toleranceFault, directionFault, readingFault, resultFault, roomFault};
 use answer::Answer;
 
 // 2: a count outside 2 to 64.
@@ -145,5 +145,16 @@ pub fn result_fault(value: f64) -> Answer
         answer::pass()
     } else {
         answer::refuse(12, 0, 0)
+    }
+}
+
+// 15: an output too short.
+pub fn room_fault(place: usize, wanted: usize, room: usize) -> Answer
+    ensures { λ r. ⌜ r ≡ roomFault place wanted room ⌝ }
+{
+    if room < wanted {
+        answer::refuse(15, 0, place)
+    } else {
+        answer::pass()
     }
 }

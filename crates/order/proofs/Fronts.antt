@@ -2,13 +2,13 @@
 use mathlib.Core.Path.{_≡_, refl, ap, ap₂}
 use mathlib.Core.Bool.{Bool, true, false, not, _||_}
 use Prim.Native.Nat.{ℕ, _≤_, _<_}
-use borrow.Author.Tests.{lt-ltb, le-ltb, le-leb, lt-leb, eq-eqb, ne-eqb, ltb-true, ltb-false, leb-false, eqb-true}
+use borrow.Author.Tests.{lt-ltb, le-ltb, le-leb, lt-leb, eq-eqb, ne-eqb, ltb-true, leb-false, eqb-true}
 use lib.Dec.{leb, ltb, eqb}
 use Rattle.answer.specs.Answer.{refused, fine, good}
 use Rattle.answer.proofs.Orders as orders
 use Rattle.judge.proofs.Rows.{or-right, not-false}
 use Rattle.table.specs.declared.Shape.{Shape}
-use Rattle.order.specs.Fronts.{noAxisFault, notFirstFault, roomFault}
+use Rattle.order.specs.Fronts.{noAxisFault, notFirstFault}
 
 -- ---- 16, 15
 neither-left : (p q : Bool) → p || q ≡ false → p ≡ false
@@ -73,16 +73,3 @@ module _ (s : Shape) (axis : ℕ) where
 
     pub first-axis : axis ≡ 0
     first-axis = eqb-true axis 0 (not-false (eqb axis 0) (neither-right (leb (s .axes) 1) (not (eqb axis 0)) first-passed))
-
-module _ (wanted room : ℕ) where
-  pub room-short : room < wanted → refused 15 0 1 ≡ roomFault wanted room
-  unfolding roomFault
-  room-short h = orders.row-met (ltb room wanted) 14 0 1 (lt-ltb room wanted h)
-
-  pub room-enough : wanted ≤ room → fine ≡ roomFault wanted room
-  unfolding roomFault
-  room-enough h = orders.row-passed (ltb room wanted) 14 0 1 (le-ltb room wanted h)
-
-  pub room-passed : good (roomFault wanted room) ≡ true → wanted ≤ room
-  unfolding roomFault
-  room-passed h = ltb-false room wanted (orders.row-good (ltb room wanted) 14 0 1 h)

@@ -9,7 +9,6 @@ use Rattle.order.proofs.step_fault.Reads as step-fault
 use Rattle.order.proofs.linear_uniform_fault.Reads as linear-uniform-fault
 use Rattle.order.proofs.no_axis_fault.Reads as no-axis-fault
 use Rattle.order.proofs.not_first_fault.Reads as not-first-fault
-use Rattle.order.proofs.room_fault.Reads as room-fault
 use Rattle.order.proofs.nearest_front.Reads as nearest-front
 use Rattle.order.proofs.step_front.Reads as step-front
 use Rattle.order.proofs.linear_front.Reads as linear-front
@@ -35,9 +34,6 @@ no-axis-fault-unique κs a r s x y p q = one-outcome r s _ p q
 
 pub not-first-fault-unique : (κs : _) (a : _) (r s : Answer) (x y : _) → not-first-fault.Post κs a r x → not-first-fault.Post κs a s y → r ≡ s
 not-first-fault-unique κs a r s x y p q = one-outcome r s _ p q
-
-pub room-fault-unique : (κs : _) (a : _) (r s : Answer) (x y : _) → room-fault.Post κs a r x → room-fault.Post κs a s y → r ≡ s
-room-fault-unique κs a r s x y p q = one-outcome r s _ p q
 
 pub nearest-front-unique : (κs : _) (a : _) (r s : Answer) (x y : _) → nearest-front.Post κs a r x → nearest-front.Post κs a s y → r ≡ s
 nearest-front-unique κs a r s x y p q = one-outcome r s _ p q

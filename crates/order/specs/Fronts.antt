@@ -20,10 +20,6 @@ noAxisFault s axis = when (leb (s .axes) 1 || not (ltb axis (s .axes))) (refused
 unfoldable pub notFirstFault : Shape → ℕ → Answer
 notFirstFault s axis = when (leb (s .axes) 1 || not (eqb axis 0)) (refused 16 0 0)
 
--- 15: "an output buffer too short", "place .. 1 values"
-unfoldable pub roomFault : ℕ → ℕ → Answer
-roomFault wanted room = when (ltb room wanted) (refused 15 0 1)
-
 -- "A slice inserts 16 after 3 and 15 (place 1) before 12"
 unfoldable pub nearestFront : Shape → List Float → List Float → ℕ → Answer
 nearestFront s nodes values axis =

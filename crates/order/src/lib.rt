@@ -4,7 +4,7 @@ ghost use Rattle.answer.specs.Answer.{_or_};
 ghost use Rattle.table.specs.Shape.{countsOf};
 ghost use Rattle.table.specs.Table.{frameFault, lengthFault, axesFault, valuesFault, readingsFault, rangesFault};
 ghost use Rattle.order.specs.Lookups.{lookupFault, stepFault, linearUniformFault};
-ghost use Rattle.order.specs.Fronts.{noAxisFault, notFirstFault, roomFault, nearestFront, stepFront, linearFront, linearUniformFront};
+ghost use Rattle.order.specs.Fronts.{noAxisFault, notFirstFault, nearestFront, stepFront, linearFront, linearUniformFront};
 use answer::Answer;
 use table::Shape;
 
@@ -135,17 +135,6 @@ pub fn not_first_fault(shape: Shape, axis: usize) -> Answer
         answer::pass()
     } else {
         answer::refuse(16, 0, 0)
-    }
-}
-
-// 15: no room for the values.
-pub fn room_fault(wanted: usize, room: usize) -> Answer
-    ensures { λ r. ⌜ r ≡ roomFault wanted room ⌝ }
-{
-    if room < wanted {
-        answer::refuse(15, 0, 1)
-    } else {
-        answer::pass()
     }
 }
 

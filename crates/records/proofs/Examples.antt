@@ -16,7 +16,7 @@ use Rattle.order.specs.Lookups.{lookupFault}
 use Rattle.blend.specs.Blend.{blended, computed}
 use Rattle.image.proofs.Examples.{img}
 use Rattle.image.specs.Image.{axesField, countField, offsetField, valuesField, shapeOf, floatsAt, nodesFrom, nodesIn, valuesIn}
-use Rattle.image.specs.Load.{fieldFault, shortFault, axesRow, lengthRow, startFault, countRow, productRow, offsetRow, headFault, areaFault, areasFault, roomRow, roomsFault, contentsFault, loadFault}
+use Rattle.image.specs.Load.{fieldFault, shortFault, axesRow, lengthRow, startFault, countRow, productRow, offsetRow, headFault, areaFault, areasFault, roomsFault, contentsFault, loadFault}
 use Rattle.lines.specs.Digit.{glyphOf, digits, places, decimal}
 use Rattle.lines.specs.Line.{okLine, noLine, lineOf}
 use Rattle.lines.specs.Stream.{Rule, linesFirst, linesOf}
@@ -28,6 +28,7 @@ use Rattle.ninterp.specs.Linears.{locations, interpolated, linearAnswer}
 use Rattle.ninterp.specs.Records.{kindAnswer, recordReadings, recordAnswer, recordRule}
 use Rattle.records.specs.Run.{runOf}
 use Rattle.records.proofs.Laws.{run-loaded}
+use Rattle.judge.specs.Check.{roomFault}
 
 -- kind 0 at 0.5, kind 2 at 1.0, kind 0 at 3.0
 abbrev three : List ℕ
@@ -40,11 +41,11 @@ abbrev printed : List ℕ
 printed = 111 ∷ 107 ∷ 32 ∷ 52 ∷ 48 ∷ 50 ∷ 57 ∷ 48 ∷ 48 ∷ 48 ∷ 48 ∷ 48 ∷ 48 ∷ 48 ∷ 48 ∷ 48 ∷ 48 ∷ 48 ∷ 48 ∷ 10 ∷ 111 ∷ 107 ∷ 32 ∷ 52 ∷ 48 ∷ 51 ∷ 52 ∷ 48 ∷ 48 ∷ 48 ∷ 48 ∷ 48 ∷ 48 ∷ 48 ∷ 48 ∷ 48 ∷ 48 ∷ 48 ∷ 48 ∷ 10 ∷ 110 ∷ 111 ∷ 32 ∷ 49 ∷ 49 ∷ 32 ∷ 48 ∷ 32 ∷ 49 ∷ 10 ∷ []
 
 loads : good (loadFault img 256 4096) ≡ true
-unfolding loadFault headFault startFault shortFault fieldFault axesRow lengthRow countRow productRow offsetRow areaFault areasFault roomRow roomsFault contentsFault axesField countField offsetField valuesField shapeOf floatsAt nodesFrom nodesIn valuesIn ofBytes wordAt floatAt size total axesOf axesFault valueFault valuesFault countFault finiteFault riseFault nodeFault nodesFault refused answered fine good when _or_ firstOf given ofBits sub lt
+unfolding loadFault headFault startFault shortFault fieldFault axesRow lengthRow countRow productRow offsetRow areaFault areasFault roomFault roomsFault contentsFault axesField countField offsetField valuesField shapeOf floatsAt nodesFrom nodesIn valuesIn ofBytes wordAt floatAt size total axesOf axesFault valueFault valuesFault countFault finiteFault riseFault nodeFault nodesFault refused answered fine good when _or_ firstOf given ofBits sub lt
 loads = refl
 
 three-lines : linesFirst rule 3 three ≡ printed
-unfolding linesFirst recordAnswer recordReadings kindAnswer linearAnswer nearestAnswer locations interpolated nearestIndex indices picked howMany lowerIndex exactNode fraction axisLocation lineOf okLine noLine glyphOf digits places decimal fieldFault shortFault axesRow lengthRow startFault countRow productRow offsetRow headFault areaFault areasFault roomRow roomsFault contentsFault loadFault axesField countField offsetField valuesField shapeOf floatsAt nodesFrom nodesIn valuesIn blended computed lookupFault ofBytes wordAt floatAt shapeFault lengthFault frameFault axesFault valueFault valuesFault readingsFault rangeFault rangesFault size total axesOf strides placeBy table gap countFault finiteFault riseFault nodeFault nodesFault readingFault resultFault refused answered fine good when _or_ firstOf given ofBits toBits lt le eq add sub mul div
+unfolding linesFirst recordAnswer recordReadings kindAnswer linearAnswer nearestAnswer locations interpolated nearestIndex indices picked howMany lowerIndex exactNode fraction axisLocation lineOf okLine noLine glyphOf digits places decimal fieldFault shortFault axesRow lengthRow startFault countRow productRow offsetRow headFault areaFault areasFault roomFault roomsFault contentsFault loadFault axesField countField offsetField valuesField shapeOf floatsAt nodesFrom nodesIn valuesIn blended computed lookupFault ofBytes wordAt floatAt shapeFault lengthFault frameFault axesFault valueFault valuesFault readingsFault rangeFault rangesFault size total axesOf strides placeBy table gap countFault finiteFault riseFault nodeFault nodesFault readingFault resultFault refused answered fine good when _or_ firstOf given ofBits toBits lt le eq add sub mul div
 three-lines = refl
 
 size-nine : rule .size ≡ 9

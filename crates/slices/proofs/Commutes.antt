@@ -16,14 +16,16 @@ use Rattle.table.specs.Table.{frameFault, lengthFault, axesFault, valuesFault, 
 use Rattle.table.specs.declared.Shape.{Shape}
 use Rattle.table.proofs.Removals.{getD-without, getD-without-below, slices-comm}
 use Rattle.ninterp.specs.Tables.{nearestRule, stepRule}
-use Rattle.order.specs.Fronts.{noAxisFault, roomFault, nearestFront, stepFront}
+use Rattle.order.specs.Fronts.{noAxisFault, nearestFront, stepFront}
 use Rattle.slices.specs.Slices.{axisOf, shapeWithout, pointFault, nearestSliceFault, stepSliceFault, ruleSlice}
-use Rattle.order.proofs.Fronts.{axis-there, room-enough}
+use Rattle.order.proofs.Fronts.{axis-there}
 use Rattle.ninterp.proofs.Demands.{Accepted}
 use Rattle.slices.proofs.Lowered as low
 use Rattle.slices.proofs.SliceLaw as law
 use Rattle.slices.proofs.Left as over
 use Rattle.slices.proofs.SliceLaw.{Made}
+use Rattle.judge.specs.Check.{roomFault}
+use Rattle.judge.proofs.Rows.{room-enough}
 
 -- ---- the second slice, after one on axis k
 module _ (s : Shape) (four : length (s .counts) ≡ 4) (nodes values : List Float) (k : ℕ) (p : Float) (rule : ℕ → List Float → Float → ℕ) (made : Made s nodes values k p rule) where
@@ -65,8 +67,8 @@ module _ (s : Shape) (four : length (s .counts) ≡ 4) (nodes values : List Floa
     point : good (pointFault s' nodes' m q room) ≡ true
     unfolding pointFault
     point =
-        orders.both-passed (readingFault m q) (rangeFault m (axisOf s' nodes' m) q or roomFault (size (without m (countsOf s'))) room) (orders.passed-fine (readingFault m q) (reading-fine m q fq))
-        (orders.both-passed (rangeFault m (axisOf s' nodes' m) q) (roomFault (size (without m (countsOf s'))) room) r (orders.passed-fine (roomFault (size (without m (countsOf s'))) room) (room-enough (size (without m (countsOf s'))) room w)))
+        orders.both-passed (readingFault m q) (rangeFault m (axisOf s' nodes' m) q or roomFault 1 (size (without m (countsOf s'))) room) (orders.passed-fine (readingFault m q) (reading-fine m q fq))
+        (orders.both-passed (rangeFault m (axisOf s' nodes' m) q) (roomFault 1 (size (without m (countsOf s'))) room) r (orders.passed-fine (roomFault 1 (size (without m (countsOf s'))) room) (room-enough 1 (size (without m (countsOf s'))) room w)))
 
     nearest-again : good (nearestSliceFault s' nodes' values' m q room) ≡ true
     unfolding nearestSliceFault nearestFront

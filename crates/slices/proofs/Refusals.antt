@@ -10,7 +10,7 @@ use Rattle.answer.specs.Answer.{plusZero, good, given}
 use Rattle.answer.specs.declared.Answer.{Answer}
 use Rattle.answer.proofs.Orders as orders
 use Rattle.table.specs.declared.Shape.{Shape}
-use Rattle.order.specs.Fronts.{noAxisFault, notFirstFault, roomFault, nearestFront, stepFront, linearFront, linearUniformFront}
+use Rattle.order.specs.Fronts.{noAxisFault, notFirstFault, nearestFront, stepFront, linearFront, linearUniformFront}
 use Rattle.blend.specs.Blend.{resultFaultAt, resultsFault}
 use Rattle.blend.specs.declared.AxisLocation.{AxisLocation}
 use Rattle.axis.specs.Utils.{axisLocation}
@@ -20,6 +20,7 @@ use Rattle.slices.specs.Slices.{shapeWithout, noShape, pointFault, neare
 use Rattle.uniform.proofs.Bares.{bare-uniform}
 use Rattle.table.proofs.Bares.{bare-length, bare-frame, bare-axes, bare-values, bare-directions, bare-reading, bare-range}
 use Rattle.answer.proofs.Bares.{Bare, bare-or, bare-first, row}
+use Rattle.judge.specs.Check.{roomFault}
 
 bare-point : (s : Shape) (nodes : List Float) (axis : ℕ) (p : Float) (room : ℕ) → Bare (pointFault s nodes axis p room)
 unfolding pointFault roomFault

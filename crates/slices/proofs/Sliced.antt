@@ -17,11 +17,13 @@ use Rattle.table.specs.Table.{frameFault, lengthFault, axesFault, valuesFault, 
 use Rattle.table.specs.declared.Shape.{Shape}
 use Rattle.table.proofs.Grids.{frame-shape, frame-values, grid-of, values-finite}
 use Rattle.table.proofs.Tables.{shape-four, length-passed}
-use Rattle.order.specs.Fronts.{noAxisFault, notFirstFault, roomFault, nearestFront, stepFront, linearFront, linearUniformFront}
+use Rattle.order.specs.Fronts.{noAxisFault, notFirstFault, nearestFront, stepFront, linearFront, linearUniformFront}
 use Rattle.uniform.specs.Uniform.{axesUniformFault}
 use Rattle.slices.specs.Slices.{axisOf, shapeWithout, noShape, pointFault, sliceAnswer, slicedInto}
 use Rattle.slices.specs.declared.SliceAnswer.{SliceAnswer}
-use Rattle.order.proofs.Fronts.{axis-many, axis-in, first-many, first-axis, room-passed}
+use Rattle.order.proofs.Fronts.{axis-many, axis-in, first-many, first-axis}
+use Rattle.judge.specs.Check.{roomFault}
+use Rattle.judge.proofs.Rows.{room-passed}
 
 -- ---- a table that can be sliced on an axis
 pub record Sliceable (s : Shape) (nodes values : List Float) (axis : ℕ) : Type 0 where
@@ -155,7 +157,7 @@ module _ (s : Shape) (nodes : List Float) (axis : ℕ) (p : Float) (room : ℕ) 
   range = rangeFault axis (axisOf s nodes axis) p
 
   abbrev wanted : Answer
-  wanted = roomFault (size (without axis (countsOf s))) room
+  wanted = roomFault 1 (size (without axis (countsOf s))) room
 
   pub point-finite : finite p ≡ true
   unfolding pointFault
@@ -167,4 +169,4 @@ module _ (s : Shape) (nodes : List Float) (axis : ℕ) (p : Float) (room : ℕ) 
 
   pub point-room : size (without axis (countsOf s)) ≤ room
   unfolding pointFault
-  point-room = room-passed (size (without axis (countsOf s))) room (orders.second-passed range wanted (orders.second-passed reading (range or wanted) h))
+  point-room = room-passed 1 (size (without axis (countsOf s))) room (orders.second-passed range wanted (orders.second-passed reading (range or wanted) h))

@@ -11,9 +11,10 @@ use Rattle.judge.specs.Check.{readingFault}
 use Rattle.table.specs.Shape.{countsOf, size, axesOf, tabulate, without, sliceValues}
 use Rattle.table.specs.Table.{rangeFault}
 use Rattle.table.specs.declared.Shape.{Shape}
-use Rattle.order.specs.Fronts.{roomFault, nearestFront, stepFront}
+use Rattle.order.specs.Fronts.{nearestFront, stepFront}
 use Rattle.ninterp.specs.Tables.{nearestRule, stepRule}
 use Rattle.slices.specs.declared.SliceAnswer.{SliceAnswer}
+use Rattle.judge.specs.Check.{roomFault}
 
 -- the nodes of one axis
 abbrev pub axisOf : Shape → List Float → ℕ → List Float
@@ -31,7 +32,7 @@ unfoldable pub pointFault : Shape → List Float → ℕ → Float → ℕ → A
 pointFault s nodes axis p room =
     readingFault axis p
     or rangeFault axis (axisOf s nodes axis) p
-    or roomFault (size (without axis (countsOf s))) room
+    or roomFault 1 (size (without axis (countsOf s))) room
 
 unfoldable pub nearestSliceFault : Shape → List Float → List Float → ℕ → Float → ℕ → Answer
 nearestSliceFault s nodes values axis p room = nearestFront s nodes values axis or pointFault s nodes axis p room

@@ -103,5 +103,5 @@ pub(crate) fn point_fault(
     if fault.number != 0 {
         return fault;
     }
-    order::room_fault(values / n, room)
+    judge::room_fault(1, values / n, room)
 }

@@ -11,11 +11,10 @@ use Rattle.answer.proofs.Orders as orders
 use Rattle.table.specs.Shape.{countsOf, size, total}
 use Rattle.table.specs.Table.{frameFault, axesFault, valuesFault}
 use Rattle.table.specs.declared.Shape.{Shape}
-use Rattle.image.specs.Load.{roomRow}
-use Rattle.image.proofs.Rows.{room-right}
-use Rattle.image.proofs.Loads.{room-there}
 use Rattle.writer.specs.Made.{imageLength}
 use Rattle.writer.specs.Write.{writeFault}
+use Rattle.judge.specs.Check.{roomFault}
+use Rattle.judge.proofs.Rows.{room-enough, room-passed}
 
 -- "it checks 1 to 7, then 15"
 pub record Writable (s : Shape) (nodes values : List Float) (room : ℕ) : Type 0 where
@@ -29,7 +28,7 @@ module _ (s : Shape) (nodes values : List Float) (room : ℕ) where
   unfolding writeFault
   write-accepts w =
       orders.both-passed (frameFault s (length nodes) (length values)) _ (w .frame)
-      (orders.both-passed (axesFault (countsOf s) nodes) _ (w .axes) (orders.both-passed (valuesFault values) _ (w .stored) (orders.passed-fine (roomRow 2 (imageLength s) room) (room-right 2 (imageLength s) room (w .roomy)))))
+      (orders.both-passed (axesFault (countsOf s) nodes) _ (w .axes) (orders.both-passed (valuesFault values) _ (w .stored) (orders.passed-fine (roomFault 2 (imageLength s) room) (room-enough 2 (imageLength s) room (w .roomy)))))
 
   pub write-means : good (writeFault s nodes values room) ≡ true → Writable s nodes values room
   unfolding writeFault
@@ -40,5 +39,5 @@ module _ (s : Shape) (nodes values : List Float) (room : ℕ) where
         frame = orders.first-passed (frameFault s (length nodes) (length values)) _ h;
         axes = orders.first-passed (axesFault (countsOf s) nodes) _ h1;
         stored = orders.first-passed (valuesFault values) _ h2;
-        roomy = room-there 2 (imageLength s) room (orders.second-passed (valuesFault values) (roomRow 2 (imageLength s) room) h2);
+        roomy = room-passed 2 (imageLength s) room (orders.second-passed (valuesFault values) (roomFault 2 (imageLength s) room) h2);
       }

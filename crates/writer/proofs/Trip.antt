@@ -22,12 +22,12 @@ use Rattle.table.proofs.Layouts.{getD-tabulate, tabulate-same}
 use Rattle.table.proofs.Tables.{length-same, shape-some, shape-four, shape-enough, shape-few, shape-size}
 use Rattle.words.specs.Words.{wordAt}
 use Rattle.image.specs.Image.{axesField, countField, offsetField, valuesField, shapeOf, floatsAt, nodesFrom, nodesIn, valuesIn}
-use Rattle.image.specs.Load.{fieldFault, shortFault, axesRow, lengthRow, startFault, countRow, productRow, offsetRow, headFault, areaFault, areasFault, roomRow, roomsFault, contentsFault, loadFault, noShape, loadAnswer, filledInto}
+use Rattle.image.specs.Load.{fieldFault, shortFault, axesRow, lengthRow, startFault, countRow, productRow, offsetRow, headFault, areaFault, areasFault, roomsFault, contentsFault, loadFault, noShape, loadAnswer, filledInto}
 use Rattle.image.specs.declared.LoadAnswer.{LoadAnswer}
 use Rattle.image.proofs.Floats.{nodes-total, values-size}
 use Rattle.image.proofs.Heads.{unused-zero}
 use Rattle.image.proofs.Laws.{Loadable, load-means, loaded-shape}
-use Rattle.image.proofs.Rows.{field-right, short-right, axes-right, length-right, area-right, room-right, count-used, count-unused}
+use Rattle.image.proofs.Rows.{field-right, short-right, axes-right, length-right, area-right, count-used, count-unused}
 use Rattle.writer.specs.Made.{axisAt, valuesAt, imageLength, countIn, offsetIn, imageOf}
 use Rattle.writer.specs.Write.{writeFault, writeAnswer, plain, written}
 use Rattle.writer.specs.declared.WriteAnswer.{WriteAnswer}
@@ -36,6 +36,8 @@ use Rattle.writer.proofs.Images.{length-image}
 use Rattle.writer.proofs.Writes.{written-shape, written-nodes, written-values, written-axes, written-stored, written-room, written-fits}
 use Rattle.writer.proofs.Back.{Held, floats-held, held-append}
 use Rattle.writer.proofs.Made as made
+use Rattle.judge.specs.Check.{roomFault}
+use Rattle.judge.proofs.Rows.{room-enough}
 
 passed : (a : Answer) → fine ≡ a → good a ≡ true
 passed a e = orders.passed-fine a e
@@ -138,13 +140,13 @@ stored-fine values g = orders.none-good (valueFault values) 0 (length values) (�
 
 rooms-passed : (s : Shape) (n v : ℕ) → total (countsOf s) ≤ n → size (countsOf s) ≤ v → good (roomsFault s n v) ≡ true
 unfolding roomsFault
-rooms-passed s n v p q = orders.both-passed _ _ (passed _ (room-right 0 (total (countsOf s)) n p)) (passed _ (room-right 1 (size (countsOf s)) v q))
+rooms-passed s n v p q = orders.both-passed _ _ (passed _ (room-enough 0 (total (countsOf s)) n p)) (passed _ (room-enough 1 (size (countsOf s)) v q))
 
 rooms-fine : (s : Shape) (n v : ℕ) → good (roomsFault s n v) ≡ true → roomsFault s n v ≡ fine
-unfolding roomsFault roomRow
+unfolding roomsFault roomFault
 rooms-fine s n v g =
-    orders.or-good (roomRow 0 (total (countsOf s)) n) (roomRow 1 (size (countsOf s)) v) (orders.first-passed (roomRow 0 (total (countsOf s)) n) _ g)
-    ∙ orders.when-false (ltb v (size (countsOf s))) _ (orders.row-good (ltb v (size (countsOf s))) 14 0 1 (orders.second-passed (roomRow 0 (total (countsOf s)) n) (roomRow 1 (size (countsOf s)) v) g))
+    orders.or-good (roomFault 0 (total (countsOf s)) n) (roomFault 1 (size (countsOf s)) v) (orders.first-passed (roomFault 0 (total (countsOf s)) n) _ g)
+    ∙ orders.when-false (ltb v (size (countsOf s))) _ (orders.row-good (ltb v (size (countsOf s))) 14 0 1 (orders.second-passed (roomFault 0 (total (countsOf s)) n) (roomFault 1 (size (countsOf s)) v) g))
 
 rooms-or : (s : Shape) (n v : ℕ) → (roomsFault s n v or fine) ≡ roomsFault s n v
 rooms-or s n v = go (good (roomsFault s n v)) refl
@@ -273,7 +275,7 @@ module _ (img : List ℕ) (n v : ℕ) (g : good (loadFault img n v) ≡ true) wh
         (orders.both-passed (lengthFault 0 (total (countsOf (shapeOf img))) (length (nodesIn img))) _ (passed _ (length-same 0 (total (countsOf (shapeOf img))) (length (nodesIn img)) (nodes-total img s-good)))
         (passed _ (length-same 1 (size (countsOf (shapeOf img))) (length (valuesIn img)) (values-size img)))))
         (orders.both-passed (axesFault (countsOf (shapeOf img)) (nodesIn img)) _ (l .axes)
-        (orders.both-passed (valuesFault (valuesIn img)) _ (l .stored) (passed _ (room-right 2 (imageLength (shapeOf img)) (length out) room))))
+        (orders.both-passed (valuesFault (valuesIn img)) _ (l .stored) (passed _ (room-enough 2 (imageLength (shapeOf img)) (length out) room))))
 
     abbrev again : List ℕ
     again = written (shapeOf img) (nodesIn img) (valuesIn img) out

@@ -13,12 +13,12 @@ use Rattle.table.specs.Shape.{countsOf, size, total}
 use Rattle.table.specs.Table.{shapeFault, lengthFault, frameFault, axesFault, valuesFault}
 use Rattle.table.specs.declared.Shape.{Shape}
 use Rattle.table.proofs.Grids.{frame-shape, frame-nodes, frame-values}
-use Rattle.image.specs.Load.{roomRow}
-use Rattle.image.proofs.Loads.{room-there}
 use Rattle.writer.specs.Made.{imageLength, imageOf}
 use Rattle.writer.specs.Write.{writeFault, writeAnswer}
 use Rattle.writer.specs.declared.WriteAnswer.{WriteAnswer}
 use Rattle.writer.proofs.Images.{length-image}
+use Rattle.judge.specs.Check.{roomFault}
+use Rattle.judge.proofs.Rows.{room-passed}
 
 module _ (s : Shape) (nodes values : List Float) (room : ℕ) where
   abbrev fault : Answer
@@ -39,11 +39,11 @@ module _ (s : Shape) (nodes values : List Float) (room : ℕ) where
     unfolding writeFault
     frame = orders.first-passed (frameFault s (length nodes) (length values)) _ h
 
-    later : good (axesFault (countsOf s) nodes or valuesFault values or roomRow 2 (imageLength s) room) ≡ true
+    later : good (axesFault (countsOf s) nodes or valuesFault values or roomFault 2 (imageLength s) room) ≡ true
     unfolding writeFault
     later = orders.second-passed (frameFault s (length nodes) (length values)) _ h
 
-    last : good (valuesFault values or roomRow 2 (imageLength s) room) ≡ true
+    last : good (valuesFault values or roomFault 2 (imageLength s) room) ≡ true
     last = orders.second-passed (axesFault (countsOf s) nodes) _ later
 
     pub written-shape : good (shapeFault s) ≡ true
@@ -59,10 +59,10 @@ module _ (s : Shape) (nodes values : List Float) (room : ℕ) where
     written-axes = orders.first-passed (axesFault (countsOf s) nodes) _ later
 
     pub written-stored : good (valuesFault values) ≡ true
-    written-stored = orders.first-passed (valuesFault values) (roomRow 2 (imageLength s) room) last
+    written-stored = orders.first-passed (valuesFault values) (roomFault 2 (imageLength s) room) last
 
     pub written-room : imageLength s ≤ room
-    written-room = room-there 2 (imageLength s) room (orders.second-passed (valuesFault values) (roomRow 2 (imageLength s) room) last)
+    written-room = room-passed 2 (imageLength s) room (orders.second-passed (valuesFault values) (roomFault 2 (imageLength s) room) last)
 
     pub written-fits : length (imageOf s nodes values) ≤ room
     written-fits = omega (arith, length-image s nodes values written-nodes written-values, written-room)

@@ -5,12 +5,13 @@ use lib.ListN.{length, take}
 use lib.Ieee.{Float}
 use Rattle.answer.specs.Answer.{_or_, given}
 use Rattle.answer.specs.declared.Answer.{Answer}
-use Rattle.image.specs.Load.{roomRow, filledInto}
+use Rattle.image.specs.Load.{filledInto}
 use Rattle.table.specs.Shape.{countsOf, tabulate}
 use Rattle.table.specs.Table.{frameFault, axesFault, valuesFault}
 use Rattle.table.specs.declared.Shape.{Shape}
 use Rattle.writer.specs.Made.{imageLength, countIn, imageOf}
 use Rattle.writer.specs.declared.WriteAnswer.{WriteAnswer}
+use Rattle.judge.specs.Check.{roomFault}
 
 -- "it checks 1 to 7, then 15": "place .. 2 image"
 unfoldable pub writeFault : Shape → List Float → List Float → ℕ → Answer
@@ -18,7 +19,7 @@ writeFault s nodes values room =
     frameFault s (length nodes) (length values)
     or axesFault (countsOf s) nodes
     or valuesFault values
-    or roomRow 2 (imageLength s) room
+    or roomFault 2 (imageLength s) room
 
 -- the answer with the image's length, 0 on a refusal
 unfoldable pub writeAnswer : Shape → List Float → List Float → ℕ → WriteAnswer

@@ -5,7 +5,7 @@ ghost use Prim.Native.Nat.{_≤_};
 ghost use lib.ListN.{length};
 ghost use lib.Seq.{sets};
 ghost use Rattle.answer.specs.Answer.{good};
-ghost use Rattle.image.specs.Load.{roomRow, filledInto};
+ghost use Rattle.image.specs.Load.{filledInto};
 ghost use Rattle.table.specs.Shape.{countsOf, size, total};
 ghost use Rattle.table.specs.Table.{shapeFault};
 ghost use Rattle.writer.specs.Made.{imageLength, imageOf};
@@ -31,17 +31,6 @@ fn image_length(shape: Shape) -> usize
     40 + 8 * held.nodes + 8 * held.values
 }
 
-// 15: no room for the image.
-fn room_fault(wanted: usize, room: usize) -> Answer
-    ensures { λ r. ⌜ r ≡ roomRow 2 wanted room ⌝ }
-{
-    if room < wanted {
-        answer::refuse(15, 0, 2)
-    } else {
-        answer::pass()
-    }
-}
-
 // Every check, before anything is written.
 fn write_fault(shape: Shape, nodes: &[f64], values: &[f64], room: usize) -> Answer
     ensures { λ r. ⌜ r ≡ writeFault shape (now (nodes .entry)) (now (values .entry)) room ⌝ }
@@ -58,7 +47,7 @@ fn write_fault(shape: Shape, nodes: &[f64], values: &[f64], room: usize) -> Answ
     if fault.number != 0 {
         return fault;
     }
-    room_fault(image_length(shape), room)
+    judge::room_fault(2, image_length(shape), room)
 }
 
 fn put_image(shape: Shape, nodes: &[f64], values: &[f64], img: &mut [u8])

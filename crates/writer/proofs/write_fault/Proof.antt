@@ -2,7 +2,6 @@ use mathlib.Core.Bool.{true}
 use Rattle.answer.specs.Answer.{good, _or_}
 use Rattle.answer.specs.declared.Answer.{Answer}
 use Rattle.answer.proofs.Orders.{passes, or-stops, or-goes-on, first-passed}
-use Rattle.image.specs.Load.{roomRow}
 use Rattle.table.specs.Shape.{countsOf, size, total}
 use Rattle.table.specs.Table.{shapeFault, lengthFault, frameFault, axesFault}
 use Rattle.writer.specs.Write.{writeFault}
@@ -22,7 +21,8 @@ use Rattle.table.proofs.axes_fault.Reads as axes-fault-reads
 use Rattle.table.proofs.frame_fault.Reads as frame-fault-reads
 use Rattle.table.proofs.values_fault.Reads as values-fault-reads
 use Rattle.writer.proofs.image_length.Reads as image-length-reads
-use Rattle.writer.proofs.room_fault.Reads as room-fault-reads
+use Rattle.judge.proofs.room_fault.Reads as room-fault-reads
+use Rattle.judge.specs.Check.{roomFault}
 
 abbrev start : tie.After-frame-fault → tie.Start
 start f = f .before .before .before
@@ -82,7 +82,7 @@ returns-4 c =
     let z = c .before in
     let d = z .before in
     let f = d .before .before in
-    past2 (f .before) _ _ (or-goes-on _ _ (f .values-fault .ensures) _ _ (d .if3 .left) (c .room-fault .ensures ∙ ap (λ (k : ℕ). roomRow 2 k (start (f .before .before .before .before .before .before) .args .room)) (z .image-length .ensures)))
+    past2 (f .before) _ _ (or-goes-on _ _ (f .values-fault .ensures) _ _ (d .if3 .left) (c .room-fault .ensures ∙ ap (λ (k : ℕ). roomFault 2 k (start (f .before .before .before .before .before .before) .args .room)) (z .image-length .ensures)))
 
 pub write-fault-spec : {M : Type 1} → statement M
 write-fault-spec =

@@ -2,7 +2,7 @@ use Rattle.table.specs.Shape.{countsOf, size, total}
 use Rattle.table.specs.Table.{sizesOf}
 use Rattle.answer.proofs.Orders.{or-stops, or-goes-on}
 use Rattle.image.specs.Image.{shapeOf}
-use Rattle.image.specs.Load.{roomRow, roomsFault}
+use Rattle.image.specs.Load.{roomsFault}
 use Rattle.image.proofs.Floats.{holds-nodes, holds-values}
 use mathlib.Core.Path.{_≡_, refl, sym, ap, ap₂, _∙_, subst}
 use mathlib.Core.List.{List, [], _∷_, _++_}
@@ -16,9 +16,10 @@ use Rattle.image.proofs.areas.rooms_fault.Statement.{statement}
 use Rattle.image.proofs.areas.rooms_fault.Tie as tie
 use Rattle.image.proofs.areas.rooms_fault.Reads as reads
 use Rattle.image.proofs.areas.rooms_fault.Lts as lts
-use Rattle.image.proofs.areas.room_row.Reads as room-row-reads
+use Rattle.judge.proofs.room_fault.Reads as room-fault-reads
 use Rattle.image.proofs.header.shape_of.Reads as shape-of-reads
 use Rattle.table.proofs.sizes.Reads as sizes-reads
+use Rattle.judge.specs.Check.{roomFault}
 
 abbrev start : tie.After-sizes → tie.Start
 start z = z .before .before .before
@@ -26,8 +27,8 @@ start z = z .before .before .before
 size-of : (z : tie.After-sizes) → z .sizes .result ≡ sizesOf (shapeOf (now (start z .args .img)))
 size-of z = z .sizes .ensures ∙ ap sizesOf (z .before .shape-of .ensures)
 
-e1 : (f : tie.After-room-row) → f .room-row .result ≡ roomRow 0 (total (countsOf (shapeOf (now (start (f .before) .args .img))))) (start (f .before) .args .nodes)
-e1 f = let z = f .before in f .room-row .ensures ∙ ap (λ (k : ℕ). roomRow 0 k (start z .args .nodes)) (holds-nodes _ (start z .pre) _ (size-of z))
+e1 : (f : tie.After-room-fault) → f .room-fault .result ≡ roomFault 0 (total (countsOf (shapeOf (now (start (f .before) .args .img))))) (start (f .before) .args .nodes)
+e1 f = let z = f .before in f .room-fault .ensures ∙ ap (λ (k : ℕ). roomFault 0 k (start z .args .nodes)) (holds-nodes _ (start z .pre) _ (size-of z))
 
 -- src/areas.rt:78:29
 shape-of-requires : tie.Need-shape-of-requires
@@ -38,8 +39,8 @@ sizes-requires : tie.Need-sizes-requires
 sizes-requires c κs = search needs
 
 -- src/areas.rt:79:9
-room-row-requires : tie.Need-room-row-requires
-room-row-requires c κs = search needs
+room-fault-requires : tie.Need-room-fault-requires
+room-fault-requires c κs = search needs
 
 -- src/areas.rt:81:9
 returns : tie.Need-returns
@@ -47,8 +48,8 @@ unfolding roomsFault
 returns c = or-stops _ _ (e1 (c .before .before)) _ (c .if1 .taken)
 
 -- src/areas.rt:83:5
-room-row-requires-2 : tie.Need-room-row-requires-2
-room-row-requires-2 c κs = search needs
+room-fault-requires-2 : tie.Need-room-fault-requires-2
+room-fault-requires-2 c κs = search needs
 
 -- src/areas.rt:74:1
 returns-2 : tie.Need-returns-2
@@ -57,7 +58,7 @@ returns-2 c =
     let d = c .before in
     let f = d .before .before in
     let z = f .before in
-    or-goes-on _ _ (e1 f) _ _ (d .if1 .left) (c .room-row2 .ensures ∙ ap (λ (k : ℕ). roomRow 1 k (start z .args .values)) (holds-values _ (start z .pre) _ (size-of z)))
+    or-goes-on _ _ (e1 f) _ _ (d .if1 .left) (c .room-fault2 .ensures ∙ ap (λ (k : ℕ). roomFault 1 k (start z .args .values)) (holds-values _ (start z .pre) _ (size-of z)))
 
 pub rooms-fault-spec : {M : Type 1} → statement M
 rooms-fault-spec =
@@ -65,7 +66,7 @@ rooms-fault-spec =
     (tie.spec
     shape-of-requires
     sizes-requires
-    room-row-requires
+    room-fault-requires
     returns
-    room-row-requires-2
+    room-fault-requires-2
     returns-2)

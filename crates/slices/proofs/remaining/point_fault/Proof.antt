@@ -8,12 +8,12 @@ use Rattle.answer.proofs.Orders.{or-stops, or-goes-on}
 use Rattle.table.specs.Shape.{countsOf, size, without}
 use Rattle.table.specs.Table.{rangeFault}
 use Rattle.table.proofs.Shapes.{length-ids}
-use Rattle.order.specs.Fronts.{roomFault}
 use Rattle.slices.specs.Slices.{pointFault}
 use Rattle.slices.proofs.Slices.{few-at, some-at, axis-ends, axis-lies, slice-count}
 use borrow.Author.Needs.{needs}
 use Rattle.slices.proofs.remaining.point_fault.Statement.{statement}
 use Rattle.slices.proofs.remaining.point_fault.Tie as tie
+use Rattle.judge.specs.Check.{roomFault}
 
 abbrev C : tie.Start → List ℕ
 C s = s .args .shape .counts
@@ -95,7 +95,7 @@ returns-3 c =
     let e = a .before .before in
     let f = e .before .before in
     let s = f .before .before in
-    or-goes-on _ _ (f .reading-fault .ensures) _ _ (e .if1 .left) (or-goes-on _ _ (g .range-fault .ensures ∙ ap (λ xs. rangeFault (s .args .axis) xs (s .args .point)) (axis-lies (C s) (s .args .shape .axes) (now (s .args .nodes)) (s .pre .0 .0) (long s) (s .args .axis) (s .pre .0 .1 .1) (a .axis-start .result) (a .axis-start .ensures .0))) _ _ (t .if2 .left) (c .room-fault .ensures ∙ ap (λ (m : ℕ). roomFault m (s .args .room)) (slice-count (C s) (s .args .shape .axes) (now (s .args .nodes)) (s .pre .0 .0) (long s) (s .args .axis) (s .pre .0 .1 .1) (s .args .values) (s .pre .1))))
+    or-goes-on _ _ (f .reading-fault .ensures) _ _ (e .if1 .left) (or-goes-on _ _ (g .range-fault .ensures ∙ ap (λ xs. rangeFault (s .args .axis) xs (s .args .point)) (axis-lies (C s) (s .args .shape .axes) (now (s .args .nodes)) (s .pre .0 .0) (long s) (s .args .axis) (s .pre .0 .1 .1) (a .axis-start .result) (a .axis-start .ensures .0))) _ _ (t .if2 .left) (c .room-fault .ensures ∙ ap (λ (m : ℕ). roomFault 1 m (s .args .room)) (slice-count (C s) (s .args .shape .axes) (now (s .args .nodes)) (s .pre .0 .0) (long s) (s .args .axis) (s .pre .0 .1 .1) (s .args .values) (s .pre .1))))
 
 pub point-fault-spec : {M : Type 1} → statement M
 point-fault-spec =

@@ -1,13 +1,13 @@
 -- Corners by bit mask are the axis-by-axis rule. Assumes nothing.
-use mathlib.Core.Path.{_≡_, refl, sym, ap, ap₂, _∙_, subst}
-use mathlib.Core.List.{List, [], _∷_, _++_}
+use mathlib.Core.Path.{_≡_, refl, sym, ap, ap₂, _∙_}
+use mathlib.Core.List.{List, [], _∷_}
 use Prim.Native.Nat.{ℕ, zero, suc, _+_, _-_, _*_, _/_, _%_, _^_, _≤_, _<_}
 use native.Mathlib.Nat.{add-mul-div-right, add-div-right, div-eq-of-lt, pow-suc, mul-assoc, mul-one, add-zero, add-suc}
 use native.Mathlib.Omega.{arith}
-use lib.ListN.{length, getD, List·getD-append}
+use lib.ListN.{length, getD}
 use lib.Ieee.{Float, nan}
 use Rattle.table.specs.Shape.{tabulate}
-use Rattle.table.proofs.Layouts.{length-tabulate, getD-tabulate, tabulate-same}
+use Rattle.table.proofs.Layouts.{getD-tabulate, tabulate-same}
 use Rattle.blend.specs.Blend.{blended, sliced, linear}
 use Rattle.blend.specs.Rust.{view, lowers, diffs, corner, corners, passed, butterfly, rustLinear}
 use Rattle.blend.specs.Folds.{cornerAt}

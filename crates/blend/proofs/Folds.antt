@@ -1,24 +1,21 @@
 -- The fold of the corners, pass by pass. Assumes nothing.
-use mathlib.Core.Path.{_≡_, refl, sym, ap, ap₂, _∙_, subst}
+use mathlib.Core.Path.{_≡_, sym, ap, ap₂, _∙_, subst}
 use mathlib.Core.List.{List, [], _∷_, _++_}
-use Prim.Native.Nat.{ℕ, zero, suc, _+_, _-_, _*_, _/_, _^_, _≤_, _<_, min}
-use native.Mathlib.Nat.{add-comm, add-zero, pow-le-pow-right}
+use Prim.Native.Nat.{ℕ, suc, _+_, _-_, _^_, _≤_, _<_, min}
+use native.Mathlib.Nat.{add-zero, pow-le-pow-right}
 use native.Mathlib.Omega.{arith}
-use lib.ListN.{length, take, drop, getD, set, length-append, length-drop, length-take, List·getD-append}
-use lib.Seq.{getD-append-add, getD-drop, take-length}
+use lib.ListN.{length, take, drop, getD, set, length-drop, length-take, List·getD-append}
+use lib.Seq.{getD-append-add, getD-drop}
 use lib.Ieee.{Float, nan}
-use Rattle.answer.specs.Answer.{firstOf}
-use Rattle.answer.specs.declared.Answer.{Answer}
-use Rattle.answer.proofs.Orders.{first-same}
 use Rattle.table.specs.Shape.{tabulate}
-use Rattle.table.proofs.Layouts.{length-tabulate, getD-tabulate, tabulate-same, tabulate-step}
+use Rattle.table.proofs.Layouts.{length-tabulate, tabulate-same, tabulate-step}
 use Rattle.table.proofs.Shapes.{ahead, past}
-use Rattle.blend.specs.Blend.{blended, blends, resultFaultAt, resultsFault}
+use Rattle.blend.specs.Blend.{blended}
 use Rattle.blend.specs.Rust.{diffs, passed, butterfly}
 use Rattle.blend.specs.Folds.{passedOver, merged, halfOf, grown, moreCorners}
 use Rattle.blend.specs.declared.AxisLocation.{AxisLocation}
 use Rattle.blend.specs.declared.AxisLocation.the-variants.{Exact, Between}
-use Rattle.blend.proofs.Bits.{power-above, power-suc}
+use Rattle.blend.proofs.Bits.{power-suc}
 
 -- ---- writing over the front of a list
 pub over-at : (i j : ℕ) (h : ℕ → Float) (xs : List Float) → getD (tabulate i h ++ drop i xs) (i + j) nan ≡ getD xs (i + j) nan
@@ -129,16 +126,3 @@ fold-at ls n d a b z = rw (ahead ls n d (Exact 0) a b) at z
 pub fold-done : (ls : List AxisLocation) (n d : ℕ) {r : Float} {v : List Float} {h : ℕ} → n ≤ d → Folding (drop d (take n ls)) r v h → getD v 0 nan ≡ r
 unfolding butterfly
 fold-done ls n d l z = let u = rw (past ls n d l) at z in u .same
-
--- ---- two runs
-abbrev pub runAt : Float → List Float → List Float → ℕ → Float
-runAt f low high i = blended (getD low i nan) (getD high i nan) f
-
-abbrev pub runFault : Float → List Float → List Float → ℕ → Answer
-runFault f low high i = resultFaultAt i (runAt f low high i)
-
-pub results-blends : (f : Float) (low high : List Float) → resultsFault (blends f low high) ≡ firstOf (runFault f low high) 0 (min (length low) (length high))
-unfolding resultsFault blends
-results-blends f low high =
-    ap (λ (n : ℕ). firstOf (λ i. resultFaultAt i (getD (tabulate (min (length low) (length high)) (runAt f low high)) i nan)) 0 n) (length-tabulate (min (length low) (length high)) (runAt f low high))
-    ∙ first-same _ _ 0 (min (length low) (length high)) (λ j a b. ap (resultFaultAt j) (getD-tabulate (min (length low) (length high)) j (runAt f low high) nan (omega arith)))

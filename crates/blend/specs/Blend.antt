@@ -1,15 +1,12 @@
 -- "The table rules", of the two that compute: over where a reading lies on each axis, and a table as a function of the index list.
-use mathlib.Core.Bool.{false, not}
-use mathlib.Core.List.{List, [], _∷_, _++_}
-use Prim.Native.Nat.{ℕ, _+_, min}
+use mathlib.Core.Bool.{false}
+use mathlib.Core.List.{List, [], _∷_}
+use Prim.Native.Nat.{ℕ, _+_}
 use lib.IntN.{pos}
-use lib.ListN.{length, drop, getD}
-use lib.Ieee.{Float, nan, fin, binary64, add, sub, mul}
-use lib.Ieee.Scale.{finite}
-use Rattle.answer.specs.Answer.{refused, answered, when, _or_, firstOf}
+use lib.Ieee.{Float, fin, binary64, add, sub, mul}
+use Rattle.answer.specs.Answer.{answered, _or_}
 use Rattle.answer.specs.declared.Answer.{Answer}
 use Rattle.judge.specs.Check.{resultFault}
-use Rattle.table.specs.Shape.{tabulate}
 use Rattle.blend.specs.declared.AxisLocation.{AxisLocation}
 use Rattle.blend.specs.declared.AxisLocation.the-variants.{Exact, Between}
 
@@ -34,20 +31,3 @@ linear (p ∷ ps) g = linear ps (sliced p g)
 -- 12: "computed result not finite"
 unfoldable pub computed : Float → Answer
 computed x = resultFault x or answered x
-
--- two runs of values blended, place by place
-unfoldable pub blends : Float → List Float → List Float → List Float
-blends f low high = tabulate (min (length low) (length high)) (λ i. blended (getD low i nan) (getD high i nan) f)
-
--- 12: "in a slice 0, flat place in the slice"
-unfoldable pub resultFaultAt : ℕ → Float → Answer
-resultFaultAt place x = when (not (finite x)) (refused 12 0 place)
-
-unfoldable pub resultsFault : List Float → Answer
-resultsFault values = firstOf (λ i. resultFaultAt i (getD values i nan)) 0 (length values)
-
--- as many of the blends as there is room for, and the output's rest as it was
-unfoldable pub blendedInto : Float → List Float → List Float → List Float → List Float
-blendedInto f low high out =
-    let count = min (min (length low) (length high)) (length out) in
-    tabulate count (λ i. blended (getD low i nan) (getD high i nan) f) ++ drop count out

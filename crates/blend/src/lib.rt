@@ -1,8 +1,8 @@
-// What the two linears compute: the blend of two values, the fold of a reading's corners, and the blend of two runs of values.
+// What the two linears compute: the blend of two values, and the fold of a reading's corners.
 ghost use mathlib.Core.Path.{_≡_};
-ghost use Prim.Native.Nat.{ℕ, _+_, _^_, _≤_, min};
+ghost use Prim.Native.Nat.{_+_, _^_, _≤_, min};
 ghost use lib.ListN.{length, take};
-ghost use Rattle.blend.specs.Blend.{blended, computed, blends, resultsFault, resultFaultAt, blendedInto};
+ghost use Rattle.blend.specs.Blend.{blended, computed};
 ghost use Rattle.blend.specs.Rust.{diffs, butterfly};
 ghost use Rattle.blend.specs.Folds.{passedOver, merged, halfOf, grown, moreCorners};
 use answer::Answer;
@@ -121,52 +121,4 @@ pub fn compute(vals: [f64; 16], locations: [AxisLocation; 4], n: usize) -> Answe
         return fault;
     }
     answer::succeed(value)
-}
-
-// ---- two runs of values
-
-// 12 of one value of a slice.
-fn result_fault_at(place: usize, value: f64) -> Answer
-    ensures { λ r. ⌜ r ≡ resultFaultAt place value ⌝ }
-{
-    if binary64::is_finite(value) {
-        answer::pass()
-    } else {
-        answer::refuse(12, 0, place)
-    }
-}
-
-fn shorter(m: usize, n: usize) -> usize
-    ensures { λ r. ⌜ r ≡ min m n ⌝ }
-{
-    if m < n { m } else { n }
-}
-
-// 12 of the first blend of two runs that is not finite.
-pub fn blend_fault(low: &[f64], high: &[f64], f: f64) -> Answer
-    ensures { λ r. ⌜ r ≡ resultsFault (blends f (now (low .entry)) (now (high .entry))) ⌝ }
-{
-    let count = shorter(low.len(), high.len());
-    let mut i: usize = 0;
-    while i < count {
-        let fault = result_fault_at(i, blend(low[i], high[i], f));
-        if fault.number != 0 {
-            return fault;
-        }
-        i += 1;
-    }
-    answer::pass()
-}
-
-// Writes the blends of two runs, as many as there is room for.
-pub fn blend_into(low: &[f64], high: &[f64], f: f64, out: &mut [f64])
-    ensures { λ _. ⌜ now (out .exit) ≡ blendedInto f (now (low .entry)) (now (high .entry)) (now (out .entry)) ⌝ }
-{
-    let both = shorter(low.len(), high.len());
-    let count = shorter(both, out.len());
-    let mut i: usize = 0;
-    while i < count {
-        out[i] = blend(low[i], high[i], f);
-        i += 1;
-    }
 }

@@ -20,11 +20,13 @@ use Rattle.ninterp.specs.Linears.{locations, interpolated, linearAnswer}
 use Rattle.slices.specs.Slices.{shapeWithout, pointFault, sliceAnswer, slicedInto}
 use Rattle.slices.specs.LinearSlices.{alongFirst, linearValues, linearRest, linearSliceFault, linearSlice, linearSliced}
 use Rattle.table.specs.Shape.{size, total, axesOf, strides, placeBy, table, indicesAt}
-use Rattle.table.specs.Table.{shapeFault, lengthFault, frameFault, axesFault, valueFault, valuesFault, readingsFault, rangeFault, rangesFault}
+use Rattle.table.specs.Table.{shapeFault, lengthFault, frameFault, axesFault, rangesFault}
+use Rattle.lists.specs.Lists.{valueFault, valuesFault, readingsFault, rangeFault}
 use Rattle.table.specs.declared.Shape.{Shape}
 use Rattle.order.specs.Lookups.{lookupFault}
-use Rattle.order.specs.Fronts.{notFirstFault, linearFront}
-use Rattle.blend.specs.Blend.{blended, computed, resultFaultAt, resultsFault}
+use Rattle.fronts.specs.Fronts.{notFirstFault, linearFront}
+use Rattle.blend.specs.Blend.{blended, computed}
+use Rattle.runs.specs.Runs.{resultFaultAt, resultsFault}
 use Rattle.blend.specs.declared.AxisLocation.{AxisLocation}
 use Rattle.blend.specs.declared.AxisLocation.the-variants.{Exact, Between}
 use Rattle.utils.specs.declared.AxisAnswer.{AxisAnswer}

@@ -8,7 +8,8 @@ use lib.Ieee.{fin, ofBits, sub, lt}
 use Rattle.answer.specs.Answer.{refused, answered, fine, good, when, firstOf, given, _or_}
 use Rattle.judge.specs.Check.{countFault, finiteFault, riseFault, nodeFault, nodesFault, roomFault}
 use Rattle.table.specs.Shape.{size, total, axesOf}
-use Rattle.table.specs.Table.{axesFault, valueFault, valuesFault}
+use Rattle.table.specs.Table.{axesFault}
+use Rattle.lists.specs.Lists.{valueFault, valuesFault}
 use Rattle.words.specs.Words.{ofBytes, wordAt, floatAt}
 use Rattle.image.specs.Image.{axesField, countField, offsetField, valuesField, shapeOf, floatsAt, nodesFrom, nodesIn, valuesIn}
 use Rattle.image.specs.Load.{fieldFault, shortFault, axesRow, lengthRow, startFault, countRow, productRow, offsetRow, headFault, areaFault, areasFault, roomsFault, contentsFault, loadFault}

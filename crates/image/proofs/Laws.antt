@@ -10,7 +10,8 @@ use Rattle.answer.specs.Answer.{good, given}
 use Rattle.answer.specs.declared.Answer.{Answer}
 use Rattle.answer.proofs.Orders as orders
 use Rattle.table.specs.Shape.{countsOf}
-use Rattle.table.specs.Table.{shapeFault, axesFault, valuesFault}
+use Rattle.table.specs.Table.{shapeFault, axesFault}
+use Rattle.lists.specs.Lists.{valuesFault}
 use Rattle.table.specs.declared.Shape.{Shape}
 use Rattle.table.proofs.Tables.{shape-four}
 use Rattle.image.specs.Image.{shapeOf, nodesIn, valuesIn}

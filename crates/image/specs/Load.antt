@@ -8,7 +8,8 @@ use Rattle.answer.specs.Answer.{refused, when, _or_, firstOf, given}
 use Rattle.answer.specs.declared.Answer.{Answer}
 use Rattle.judge.specs.Check.{countFault, roomFault}
 use Rattle.table.specs.Shape.{countsOf, size, total}
-use Rattle.table.specs.Table.{axesFault, valuesFault}
+use Rattle.table.specs.Table.{axesFault}
+use Rattle.lists.specs.Lists.{valuesFault}
 use Rattle.table.specs.declared.Shape.{Shape}
 use Rattle.words.specs.Words.{wordAt}
 use Rattle.image.specs.Image.{axesField, countField, offsetField, valuesField, shapeOf, nodesIn, valuesIn}

@@ -6,7 +6,8 @@ ghost use lib.ListN.{length};
 ghost use lib.Seq.{sets};
 ghost use Rattle.answer.specs.Answer.{good};
 ghost use Rattle.table.specs.Shape.{countsOf, size, total};
-ghost use Rattle.table.specs.Table.{shapeFault, axesFault, valuesFault};
+ghost use Rattle.table.specs.Table.{shapeFault, axesFault};
+ghost use Rattle.lists.specs.Lists.{valuesFault};
 ghost use Rattle.image.specs.Image.{shapeOf, floatsAt, nodesIn, valuesIn};
 ghost use Rattle.image.specs.Load.{contentsFault};
 use crate::header;
@@ -72,7 +73,7 @@ fn values_fault(img: &[u8], space: &mut [f64]) -> Answer
     let held = table::sizes(header::shape_of(img));
     let count = held.values;
     let values: &[f64] = space;
-    table::values_fault(&values[0..count])
+    lists::values_fault(&values[0..count])
 }
 
 // 4 to 7, in spaces of its own, so that nothing lent is written.

@@ -15,11 +15,13 @@ use Rattle.binary64.proofs.Order as order
 use Rattle.judge.specs.Check.{node, Axis, readingFault, directionFault}
 use Rattle.judge.proofs.Rows.{reading-fine, direction-fine}
 use Rattle.table.specs.Shape.{countsOf, axesOf, table}
-use Rattle.table.specs.Table.{frameFault, lengthFault, axesFault, valuesFault, directionsFault, readingsFault, rangeFault, rangesFault}
+use Rattle.table.specs.Table.{frameFault, lengthFault, axesFault, rangesFault}
+use Rattle.lists.specs.Lists.{valuesFault, directionsFault, readingsFault, rangeFault}
 use Rattle.table.specs.declared.Shape.{Shape}
 use Rattle.table.proofs.Shapes.{length-axes}
 use Rattle.table.proofs.Layouts.{tabulate-same}
-use Rattle.table.proofs.Tables.{length-same, range-inside}
+use Rattle.table.proofs.Tables.{length-same}
+use Rattle.lists.proofs.Rows.{range-inside}
 use Rattle.table.proofs.Grids.{frame-axes, grid-of}
 use Rattle.order.specs.Lookups.{lookupFault, stepFault}
 use Rattle.ninterp.specs.Tables.{indices, picked, nearestRule, stepRule, nearestAnswer, stepAnswer}

@@ -15,7 +15,8 @@ use Rattle.words.specs.Words.{floatAt}
 use Rattle.judge.specs.Check.{directionFault}
 use Rattle.judge.proofs.Rows.{direction-fine}
 use Rattle.table.specs.Shape.{countsOf}
-use Rattle.table.specs.Table.{frameFault, lengthFault, axesFault, valuesFault, directionsFault, readingsFault, rangesFault}
+use Rattle.table.specs.Table.{frameFault, lengthFault, axesFault, rangesFault}
+use Rattle.lists.specs.Lists.{valuesFault, directionsFault, readingsFault}
 use Rattle.table.specs.declared.Shape.{Shape}
 use Rattle.table.proofs.Tables.{length-same, shape-four}
 use Rattle.table.proofs.Grids.{frame-shape}

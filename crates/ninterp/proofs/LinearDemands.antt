@@ -12,11 +12,13 @@ use Rattle.answer.proofs.Orders as orders
 use Rattle.judge.specs.Check.{node, resultFault}
 use Rattle.judge.proofs.Rows.{result-wild, result-fine}
 use Rattle.table.specs.Shape.{countsOf, size, axesOf, place, table, tabulate}
-use Rattle.table.specs.Table.{frameFault, lengthFault, axesFault, valuesFault, readingsFault, rangesFault}
+use Rattle.table.specs.Table.{frameFault, lengthFault, axesFault, rangesFault}
+use Rattle.lists.specs.Lists.{valuesFault, readingsFault}
 use Rattle.table.specs.declared.Shape.{Shape}
 use Rattle.table.proofs.Shapes.{length-axes}
 use Rattle.table.proofs.Layouts.{tabulate-same, place-below}
-use Rattle.table.proofs.Grids.{values-finite, frame-values, grid-of}
+use Rattle.lists.proofs.Rows.{values-finite}
+use Rattle.table.proofs.Grids.{frame-values, grid-of}
 use Rattle.uniform.specs.Uniform.{axesUniformFault}
 use Rattle.order.specs.Lookups.{lookupFault, linearUniformFault}
 use Rattle.blend.specs.Blend.{linear, computed}

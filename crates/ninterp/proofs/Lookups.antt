@@ -13,12 +13,14 @@ use Rattle.answer.proofs.Orders as orders
 use Rattle.judge.specs.Check.{directionFault}
 use Rattle.judge.proofs.Rows.{direction-passed}
 use Rattle.table.specs.Shape.{countsOf, axesOf, place, table}
-use Rattle.table.specs.Table.{frameFault, lengthFault, axesFault, valuesFault, directionsFault, readingsFault, rangesFault}
+use Rattle.table.specs.Table.{frameFault, lengthFault, axesFault, rangesFault}
+use Rattle.lists.specs.Lists.{valuesFault, directionsFault, readingsFault}
 use Rattle.table.specs.declared.Shape.{Shape}
 use Rattle.table.proofs.Shapes.{length-axes}
 use Rattle.table.proofs.Tables.{shape-four, length-passed}
 use Rattle.table.proofs.Layouts.{tabulate-same}
-use Rattle.table.proofs.Grids.{frame-shape, frame-values, frame-axes, grid-of, readings-finite}
+use Rattle.table.proofs.Grids.{frame-shape, frame-values, frame-axes, grid-of}
+use Rattle.lists.proofs.Rows.{readings-finite}
 use Rattle.axis.specs.Utils.{stepIndex}
 use Rattle.uniform.specs.Uniform.{axesUniformFault}
 use Rattle.order.specs.Lookups.{lookupFault, stepFault, linearUniformFault}

@@ -17,7 +17,8 @@ use Rattle.axis.specs.Utils.{axisLocation}
 use Rattle.axis.specs.Locations.{uniformLocation}
 use Rattle.ninterp.specs.Linears.{interpolated, linearAnswer, linearUniformAnswer}
 use Rattle.uniform.proofs.Bares.{bare-uniform}
-use Rattle.table.proofs.Bares.{bare-length, bare-frame, bare-axes, bare-values, bare-directions, bare-readings, bare-ranges}
+use Rattle.table.proofs.Bares.{bare-length, bare-frame, bare-axes, bare-ranges}
+use Rattle.lists.proofs.Bares.{bare-values, bare-directions, bare-readings}
 use Rattle.answer.proofs.Bares.{Bare, bare-or, row, after}
 
 pub nearest-refusal : (s : Shape) (nodes values readings : List Float) → good (nearestAnswer s nodes values readings) ≡ false → nearestAnswer s nodes values readings .value ≡ plusZero

@@ -8,7 +8,8 @@ use lib.Ieee.{Float}
 use Rattle.answer.specs.Answer.{refused, answered, when, _or_}
 use Rattle.answer.specs.declared.Answer.{Answer}
 use Rattle.table.specs.Shape.{countsOf}
-use Rattle.table.specs.Table.{frameFault, axesFault, valuesFault}
+use Rattle.table.specs.Table.{frameFault, axesFault}
+use Rattle.lists.specs.Lists.{valuesFault}
 use Rattle.table.specs.declared.Shape.{Shape}
 use Rattle.blend.specs.Blend.{computed}
 use Rattle.ninterp.specs.Tables.{picked}

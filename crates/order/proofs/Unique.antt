@@ -7,12 +7,6 @@ use Rattle.order.proofs.inside_fault.Reads as inside-fault
 use Rattle.order.proofs.lookup_fault.Reads as lookup-fault
 use Rattle.order.proofs.step_fault.Reads as step-fault
 use Rattle.order.proofs.linear_uniform_fault.Reads as linear-uniform-fault
-use Rattle.order.proofs.no_axis_fault.Reads as no-axis-fault
-use Rattle.order.proofs.not_first_fault.Reads as not-first-fault
-use Rattle.order.proofs.nearest_front.Reads as nearest-front
-use Rattle.order.proofs.step_front.Reads as step-front
-use Rattle.order.proofs.linear_front.Reads as linear-front
-use Rattle.order.proofs.linear_uniform_front.Reads as linear-uniform-front
 
 pub table-fault-unique : (κs : _) (a : _) (r s : Answer) (x y : _) → table-fault.Post κs a r x → table-fault.Post κs a s y → r ≡ s
 table-fault-unique κs a r s x y p q = one-outcome r s _ p q
@@ -28,21 +22,3 @@ step-fault-unique κs a r s x y p q = one-outcome r s _ p q
 
 pub linear-uniform-fault-unique : (κs : _) (a : _) (r s : Answer) (x y : _) → linear-uniform-fault.Post κs a r x → linear-uniform-fault.Post κs a s y → r ≡ s
 linear-uniform-fault-unique κs a r s x y p q = one-outcome r s _ p q
-
-pub no-axis-fault-unique : (κs : _) (a : _) (r s : Answer) (x y : _) → no-axis-fault.Post κs a r x → no-axis-fault.Post κs a s y → r ≡ s
-no-axis-fault-unique κs a r s x y p q = one-outcome r s _ p q
-
-pub not-first-fault-unique : (κs : _) (a : _) (r s : Answer) (x y : _) → not-first-fault.Post κs a r x → not-first-fault.Post κs a s y → r ≡ s
-not-first-fault-unique κs a r s x y p q = one-outcome r s _ p q
-
-pub nearest-front-unique : (κs : _) (a : _) (r s : Answer) (x y : _) → nearest-front.Post κs a r x → nearest-front.Post κs a s y → r ≡ s
-nearest-front-unique κs a r s x y p q = one-outcome r s _ p q
-
-pub step-front-unique : (κs : _) (a : _) (r s : Answer) (x y : _) → step-front.Post κs a r x → step-front.Post κs a s y → r ≡ s
-step-front-unique κs a r s x y p q = one-outcome r s _ p q
-
-pub linear-front-unique : (κs : _) (a : _) (r s : Answer) (x y : _) → linear-front.Post κs a r x → linear-front.Post κs a s y → r ≡ s
-linear-front-unique κs a r s x y p q = one-outcome r s _ p q
-
-pub linear-uniform-front-unique : (κs : _) (a : _) (r s : Answer) (x y : _) → linear-uniform-front.Post κs a r x → linear-uniform-front.Post κs a s y → r ≡ s
-linear-uniform-front-unique κs a r s x y p q = one-outcome r s _ p q

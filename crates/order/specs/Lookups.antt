@@ -6,7 +6,8 @@ use lib.Ieee.{Float}
 use Rattle.answer.specs.Answer.{_or_}
 use Rattle.answer.specs.declared.Answer.{Answer}
 use Rattle.table.specs.Shape.{countsOf}
-use Rattle.table.specs.Table.{frameFault, lengthFault, axesFault, valuesFault, directionsFault, readingsFault, rangesFault}
+use Rattle.table.specs.Table.{frameFault, lengthFault, axesFault, rangesFault}
+use Rattle.lists.specs.Lists.{valuesFault, directionsFault, readingsFault}
 use Rattle.table.specs.declared.Shape.{Shape}
 use Rattle.uniform.specs.Uniform.{axesUniformFault}
 

@@ -10,7 +10,8 @@ use lib.Ieee.{ofBits, toBits, lt, le, eq, add, sub, mul, div, ofInt, toUnsigned}
 use Rattle.answer.specs.Answer.{refused, answered, fine, good, when, _or_, firstOf, given}
 use Rattle.judge.specs.Check.{gap, countFault, finiteFault, riseFault, nodeFault, nodesFault, readingFault, resultFault}
 use Rattle.table.specs.Shape.{size, total, axesOf, strides, placeBy, table}
-use Rattle.table.specs.Table.{shapeFault, lengthFault, frameFault, axesFault, valueFault, valuesFault, readingsFault, rangeFault, rangesFault}
+use Rattle.table.specs.Table.{shapeFault, lengthFault, frameFault, axesFault, rangesFault}
+use Rattle.lists.specs.Lists.{valueFault, valuesFault, readingsFault, rangeFault}
 use Rattle.words.specs.Words.{ofBytes, wordAt, floatAt}
 use Rattle.order.specs.Lookups.{lookupFault}
 use Rattle.blend.specs.Blend.{blended, computed}

@@ -13,7 +13,8 @@ use Rattle.answer.specs.Answer.{fine, good}
 use Rattle.answer.proofs.Orders.{none-good, passed-fine, row-passed}
 use Rattle.table.specs.Shape.{size, place, table, tabulate, indicesAt, without, sliceValues}
 use Rattle.table.proofs.Layouts.{length-tabulate, getD-tabulate, tabulate-same, size-cons, place-cons, place-below, indices-place, indices-inside}
-use Rattle.blend.specs.Blend.{blended, sliced, blends, resultFaultAt, resultsFault, blendedInto}
+use Rattle.blend.specs.Blend.{blended, sliced}
+use Rattle.runs.specs.Runs.{blends, resultFaultAt, resultsFault, blendedInto}
 use Rattle.blend.specs.declared.AxisLocation.{AxisLocation}
 use Rattle.blend.specs.declared.AxisLocation.the-variants.{Exact, Between}
 use Rattle.slices.specs.LinearSlices.{alongFirst}

@@ -12,13 +12,14 @@ use Rattle.answer.proofs.Orders as orders
 use Rattle.judge.specs.Check.{readingFault}
 use Rattle.judge.proofs.Rows.{reading-fine}
 use Rattle.table.specs.Shape.{countsOf, size, axesOf, without, sliceValues, nodesWithout}
-use Rattle.table.specs.Table.{frameFault, lengthFault, axesFault, valuesFault, directionsFault, rangeFault}
+use Rattle.table.specs.Table.{frameFault, lengthFault, axesFault}
+use Rattle.lists.specs.Lists.{valuesFault, directionsFault, rangeFault}
 use Rattle.table.specs.declared.Shape.{Shape}
 use Rattle.table.proofs.Removals.{getD-without, getD-without-below, slices-comm}
 use Rattle.ninterp.specs.Tables.{nearestRule, stepRule}
-use Rattle.order.specs.Fronts.{noAxisFault, nearestFront, stepFront}
+use Rattle.fronts.specs.Fronts.{noAxisFault, nearestFront, stepFront}
 use Rattle.slices.specs.Slices.{axisOf, shapeWithout, pointFault, nearestSliceFault, stepSliceFault, ruleSlice}
-use Rattle.order.proofs.Fronts.{axis-there}
+use Rattle.fronts.proofs.Fronts.{axis-there}
 use Rattle.ninterp.proofs.Demands.{Accepted}
 use Rattle.slices.proofs.Lowered as low
 use Rattle.slices.proofs.SliceLaw as law

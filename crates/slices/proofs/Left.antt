@@ -17,12 +17,14 @@ use Rattle.answer.proofs.Orders as orders
 use Rattle.judge.specs.Check.{node, Axis, countFault, nodesFault, readingFault}
 use Rattle.judge.proofs.Rows.{count-fine, nodes-fine, reading-fine}
 use Rattle.table.specs.Shape.{countsOf, size, total, axesOf, tabulate, insert, without, nodesWithout}
-use Rattle.table.specs.Table.{shapeFault, lengthFault, frameFault, axesFault, valuesFault, readingsFault, rangeFault, rangesFault}
+use Rattle.table.specs.Table.{shapeFault, lengthFault, frameFault, axesFault, rangesFault}
+use Rattle.lists.specs.Lists.{valuesFault, readingsFault, rangeFault}
 use Rattle.table.specs.declared.Shape.{Shape}
 use Rattle.table.proofs.Tables.{product-fine, length-same, length-passed}
 use Rattle.table.proofs.Layouts.{length-tabulate, getD-tabulate}
 use Rattle.table.proofs.Removals.{size-split, size-without, length-without, getD-without, getD-without-below, axes-without, total-without, length-insert, getD-insert, getD-insert-below, getD-insert-above}
-use Rattle.table.proofs.Grids.{length-axis, readings-finite}
+use Rattle.table.proofs.Grids.{length-axis}
+use Rattle.lists.proofs.Rows.{readings-finite}
 use Rattle.uniform.specs.Uniform.{axesUniformFault}
 use Rattle.order.specs.Lookups.{lookupFault, linearUniformFault}
 use Rattle.slices.specs.Slices.{axisOf, shapeWithout, lowered}

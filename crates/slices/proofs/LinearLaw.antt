@@ -12,16 +12,18 @@ use Rattle.answer.proofs.Orders as orders
 use Rattle.judge.specs.Check.{Axis, gap, resultFault}
 use Rattle.judge.proofs.Rows.{not-false}
 use Rattle.table.specs.Shape.{countsOf, size, axesOf, place, table, tabulate, indicesAt, Inside, insert, without, nodesWithout}
-use Rattle.table.specs.Table.{frameFault, axesFault, valueFault, valuesFault}
+use Rattle.table.specs.Table.{frameFault, axesFault}
+use Rattle.lists.specs.Lists.{valueFault, valuesFault}
 use Rattle.table.specs.declared.Shape.{Shape}
 use Rattle.table.proofs.Shapes.{length-axes}
-use Rattle.table.proofs.Tables.{value-good}
+use Rattle.lists.proofs.Rows.{value-good}
 use Rattle.table.proofs.Layouts.{getD-tabulate, place-below}
 use Rattle.table.proofs.Removals.{indices-back, tabulate-insert, length-without, getD-insert-above}
 use Rattle.uniform.specs.Uniform.{apart, gapFault, uniformFault, toleranceOf, defaultFault, axesUniformFault}
 use Rattle.uniform.specs.declared.Tolerance.the-variants.{Default}
-use Rattle.order.specs.Fronts.{notFirstFault, linearFront, linearUniformFront}
-use Rattle.blend.specs.Blend.{blended, sliced, linear, computed, resultFaultAt, resultsFault}
+use Rattle.fronts.specs.Fronts.{notFirstFault, linearFront, linearUniformFront}
+use Rattle.blend.specs.Blend.{blended, sliced, linear, computed}
+use Rattle.runs.specs.Runs.{resultFaultAt, resultsFault}
 use Rattle.blend.specs.declared.AxisLocation.{AxisLocation}
 use Rattle.blend.specs.declared.AxisLocation.the-variants.{Exact, Between}
 use Rattle.axis.specs.Utils.{axisLocation}

@@ -10,15 +10,16 @@ use Rattle.answer.specs.Answer.{plusZero, good, given}
 use Rattle.answer.specs.declared.Answer.{Answer}
 use Rattle.answer.proofs.Orders as orders
 use Rattle.table.specs.declared.Shape.{Shape}
-use Rattle.order.specs.Fronts.{noAxisFault, notFirstFault, nearestFront, stepFront, linearFront, linearUniformFront}
-use Rattle.blend.specs.Blend.{resultFaultAt, resultsFault}
+use Rattle.fronts.specs.Fronts.{noAxisFault, notFirstFault, nearestFront, stepFront, linearFront, linearUniformFront}
+use Rattle.runs.specs.Runs.{resultFaultAt, resultsFault}
 use Rattle.blend.specs.declared.AxisLocation.{AxisLocation}
 use Rattle.axis.specs.Utils.{axisLocation}
 use Rattle.axis.specs.Locations.{uniformLocation}
 use Rattle.slices.specs.LinearSlices.{linearValues, linearRest, linearSliceFault, linearUniformSliceFault}
 use Rattle.slices.specs.Slices.{shapeWithout, noShape, pointFault, nearestSliceFault, stepSliceFault, sliceAnswer, slicedInto}
 use Rattle.uniform.proofs.Bares.{bare-uniform}
-use Rattle.table.proofs.Bares.{bare-length, bare-frame, bare-axes, bare-values, bare-directions, bare-reading, bare-range}
+use Rattle.table.proofs.Bares.{bare-length, bare-frame, bare-axes}
+use Rattle.lists.proofs.Bares.{bare-values, bare-directions, bare-reading, bare-range}
 use Rattle.answer.proofs.Bares.{Bare, bare-or, bare-first, row}
 use Rattle.judge.specs.Check.{roomFault}
 

@@ -13,15 +13,17 @@ use lib.Ieee.Scale.{finite}
 use Rattle.judge.specs.Check.{directionFault, readingFault}
 use Rattle.judge.proofs.Rows.{direction-passed, reading-finite}
 use Rattle.table.specs.Shape.{countsOf, size, without}
-use Rattle.table.specs.Table.{frameFault, lengthFault, axesFault, valuesFault, directionsFault, rangeFault, Grid}
+use Rattle.table.specs.Table.{frameFault, lengthFault, axesFault, Grid}
+use Rattle.lists.specs.Lists.{valuesFault, directionsFault, rangeFault}
 use Rattle.table.specs.declared.Shape.{Shape}
-use Rattle.table.proofs.Grids.{frame-shape, frame-values, grid-of, values-finite}
+use Rattle.table.proofs.Grids.{frame-shape, frame-values, grid-of}
+use Rattle.lists.proofs.Rows.{values-finite}
 use Rattle.table.proofs.Tables.{shape-four, length-passed}
-use Rattle.order.specs.Fronts.{noAxisFault, notFirstFault, nearestFront, stepFront, linearFront, linearUniformFront}
+use Rattle.fronts.specs.Fronts.{noAxisFault, notFirstFault, nearestFront, stepFront, linearFront, linearUniformFront}
 use Rattle.uniform.specs.Uniform.{axesUniformFault}
 use Rattle.slices.specs.Slices.{axisOf, shapeWithout, noShape, pointFault, sliceAnswer, slicedInto}
 use Rattle.slices.specs.declared.SliceAnswer.{SliceAnswer}
-use Rattle.order.proofs.Fronts.{axis-many, axis-in, first-many, first-axis}
+use Rattle.fronts.proofs.Fronts.{axis-many, axis-in, first-many, first-axis}
 use Rattle.judge.specs.Check.{roomFault}
 use Rattle.judge.proofs.Rows.{room-passed}
 

@@ -7,8 +7,9 @@ use Rattle.answer.specs.Answer.{_or_}
 use Rattle.answer.specs.declared.Answer.{Answer}
 use Rattle.table.specs.Shape.{countsOf, size, tabulate, table, indicesAt, without}
 use Rattle.table.specs.declared.Shape.{Shape}
-use Rattle.order.specs.Fronts.{linearFront, linearUniformFront}
-use Rattle.blend.specs.Blend.{sliced, resultsFault}
+use Rattle.fronts.specs.Fronts.{linearFront, linearUniformFront}
+use Rattle.blend.specs.Blend.{sliced}
+use Rattle.runs.specs.Runs.{resultsFault}
 use Rattle.blend.specs.declared.AxisLocation.{AxisLocation}
 use Rattle.axis.specs.Utils.{axisLocation}
 use Rattle.axis.specs.Locations.{uniformLocation}

@@ -9,9 +9,9 @@ use Rattle.answer.specs.Answer.{_or_, given}
 use Rattle.answer.specs.declared.Answer.{Answer}
 use Rattle.judge.specs.Check.{readingFault}
 use Rattle.table.specs.Shape.{countsOf, size, axesOf, tabulate, without, sliceValues}
-use Rattle.table.specs.Table.{rangeFault}
+use Rattle.lists.specs.Lists.{rangeFault}
 use Rattle.table.specs.declared.Shape.{Shape}
-use Rattle.order.specs.Fronts.{nearestFront, stepFront}
+use Rattle.fronts.specs.Fronts.{nearestFront, stepFront}
 use Rattle.ninterp.specs.Tables.{nearestRule, stepRule}
 use Rattle.slices.specs.declared.SliceAnswer.{SliceAnswer}
 use Rattle.judge.specs.Check.{roomFault}

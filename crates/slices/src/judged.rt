@@ -10,12 +10,12 @@ ghost use Rattle.table.specs.Shape.{countsOf, size, without, sliceValues};
 ghost use Rattle.table.specs.Table.{Grid};
 ghost use Rattle.axis.specs.Picks.{pickIndex};
 ghost use Rattle.slices.specs.Slices.{axisOf, pointFault, sliceAnswer, slicedInto};
-ghost use Rattle.blend.specs.Blend.{resultsFault};
+ghost use Rattle.runs.specs.Runs.{resultsFault};
 ghost use Rattle.axis.specs.Locations.{locationBy};
 ghost use Rattle.slices.specs.LinearSlices.{linearValues, linearRest};
 use crate::SliceAnswer;
 use crate::remaining;
-use crate::runs;
+use crate::written;
 use answer::Answer;
 use axis::locate;
 use axis::pick;
@@ -42,7 +42,7 @@ fn pick_slice(
     let i = pick::pick_index(pick, &nodes[start..end], point);
     let inner = remaining::stride(counts, shape.axes, axis);
     let count = values.len() / n;
-    runs::fill(values, n, inner, i, count, out);
+    written::fill(values, n, inner, i, count, out);
 }
 
 // Judges the one reading and the room, and writes.
@@ -91,10 +91,10 @@ fn along_first(
     let rest = values.len() / n;
     let node = locate::lower_node(location);
     let AxisLocation::Between { lower, frac } = location else {
-        runs::fill(values, n, rest, node, rest, out);
+        written::fill(values, n, rest, node, rest, out);
         return answer::pass();
     };
-    runs::blend_runs(values, rest, lower, frac, out)
+    written::blend_runs(values, rest, lower, frac, out)
 }
 
 // Judges the one reading and the room, then the values, and writes.

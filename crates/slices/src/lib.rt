@@ -7,7 +7,7 @@ ghost use Rattle.slices.specs.LinearSlices.{linearSlice, linearSliced, l
 
 pub(crate) mod judged;
 pub(crate) mod remaining;
-pub(crate) mod runs;
+pub(crate) mod written;
 
 use answer::Answer;
 use table::Shape;
@@ -29,7 +29,7 @@ pub fn nearest(
 ) -> SliceAnswer
     ensures { λ r. ⌜ (r ≡ nearestSlice shape (now (nodes .entry)) (now (values .entry)) axis point (length (now (out .entry)))) × (now (out .exit) ≡ nearestSliced shape (now (nodes .entry)) (now (values .entry)) axis point (now (out .entry))) ⌝ }
 {
-    let answer = order::nearest_front(shape, nodes, values, axis);
+    let answer = fronts::nearest_front(shape, nodes, values, axis);
     if answer.number != 0 {
         return SliceAnswer {
             answer,
@@ -51,7 +51,7 @@ pub fn step(
 ) -> SliceAnswer
     ensures { λ r. ⌜ (r ≡ stepSlice shape (now (nodes .entry)) (now (values .entry)) (now (directions .entry)) axis point (length (now (out .entry)))) × (now (out .exit) ≡ stepSliced shape (now (nodes .entry)) (now (values .entry)) (now (directions .entry)) axis point (now (out .entry))) ⌝ }
 {
-    let answer = order::step_front(shape, nodes, values, directions, axis);
+    let answer = fronts::step_front(shape, nodes, values, directions, axis);
     if answer.number != 0 {
         return SliceAnswer {
             answer,
@@ -73,7 +73,7 @@ pub fn linear(
 ) -> SliceAnswer
     ensures { λ r. ⌜ (r ≡ linearSlice shape (now (nodes .entry)) (now (values .entry)) axis point (length (now (out .entry)))) × (now (out .exit) ≡ linearSliced shape (now (nodes .entry)) (now (values .entry)) axis point (now (out .entry))) ⌝ }
 {
-    let answer = order::linear_front(shape, nodes, values, axis);
+    let answer = fronts::linear_front(shape, nodes, values, axis);
     if answer.number != 0 {
         return SliceAnswer {
             answer,
@@ -94,7 +94,7 @@ pub fn linear_uniform(
 ) -> SliceAnswer
     ensures { λ r. ⌜ (r ≡ linearUniformSlice shape (now (nodes .entry)) (now (values .entry)) axis point (length (now (out .entry)))) × (now (out .exit) ≡ linearUniformSliced shape (now (nodes .entry)) (now (values .entry)) axis point (now (out .entry))) ⌝ }
 {
-    let answer = order::linear_uniform_front(shape, nodes, values, axis);
+    let answer = fronts::linear_uniform_front(shape, nodes, values, axis);
     if answer.number != 0 {
         return SliceAnswer {
             answer,

@@ -1,22 +1,21 @@
 -- What is known of a table that was judged. Assumes nothing.
-use mathlib.Core.Path.{_≡_, refl, sym, ap, _∙_, subst}
-use mathlib.Core.Bool.{true, not}
+use mathlib.Core.Path.{_≡_, _∙_}
+use mathlib.Core.Bool.{true}
 use mathlib.Core.List.{List, [], _∷_}
-use Prim.Native.Nat.{ℕ, zero, suc, _+_, _-_, _≤_, _<_, min}
+use Prim.Native.Nat.{ℕ, zero, suc, _<_}
 use native.Mathlib.Omega.{arith}
-use lib.ListN.{length, take, drop, getD, length-take, length-drop}
+use lib.ListN.{length, drop, getD, length-drop}
 use lib.Seq.{length-take-le, getD-take}
 use lib.Ieee.{Float, nan}
-use lib.Ieee.Scale.{finite}
-use Rattle.answer.specs.Answer.{good, _or_, firstOf}
+use Rattle.answer.specs.Answer.{good, _or_}
 use Rattle.answer.proofs.Orders as orders
-use Rattle.judge.specs.Check.{nodesFault, readingFault, directionFault, Axis}
-use Rattle.judge.proofs.Rows.{not-false, nodes-axis, reading-finite}
+use Rattle.judge.specs.Check.{nodesFault}
+use Rattle.judge.proofs.Rows.{nodes-axis}
 use Rattle.table.specs.Shape.{countsOf, size, total, axesOf}
-use Rattle.table.specs.Table.{shapeFault, lengthFault, frameFault, axesFault, valueFault, valuesFault, readingsFault, rangeFault, rangesFault, Grid}
+use Rattle.table.specs.Table.{shapeFault, lengthFault, frameFault, axesFault, rangesFault, Grid}
+use Rattle.lists.specs.Lists.{rangeFault}
 use Rattle.table.specs.declared.Shape.{Shape}
-use Rattle.table.proofs.Shapes.{length-axes}
-use Rattle.table.proofs.Tables.{shape-some, shape-four, shape-enough, shape-few, shape-size, length-passed}
+use Rattle.table.proofs.Tables.{shape-four, shape-enough, shape-few, shape-size, length-passed}
 
 pub length-axis : (counts : List ℕ) (nodes : List Float) → length nodes ≡ total counts → (a : ℕ) → a < length counts → length (getD (axesOf counts nodes) a []) ≡ getD counts a 0
 unfolding axesOf total
@@ -61,16 +60,6 @@ module _ (s : Shape) (four : length (s .counts) ≡ 4) (nodes values : List Floa
           nodes-axis a (getD (axesOf (countsOf s) nodes) a []) (omega (arith, shape-enough s frame-shape a m)) (omega (arith, shape-few s frame-shape a m))
           (orders.all-passed (λ b. nodesFault b (getD (axesOf (countsOf s) nodes) b [])) 0 (length (countsOf s)) k a (omega arith) (omega arith));
     }
-
-pub readings-finite : (readings : List Float) → good (readingsFault readings) ≡ true → (a : ℕ) → a < length readings → finite (getD readings a nan) ≡ true
-unfolding readingsFault
-readings-finite readings h a l = reading-finite a (getD readings a nan) (orders.all-passed (λ b. readingFault b (getD readings b nan)) 0 (length readings) h a (omega arith) (omega arith))
-
-pub values-finite : (values : List Float) → good (valuesFault values) ≡ true → (i : ℕ) → i < length values → finite (getD values i nan) ≡ true
-unfolding valuesFault valueFault
-values-finite values h i l =
-    not-false (finite (getD values i nan))
-    (orders.row-good (not (finite (getD values i nan))) 6 0 i (orders.all-passed (λ j. valueFault values j) 0 (length values) h i (omega arith) (omega arith)))
 
 pub ranges-passed : (counts : List ℕ) (nodes readings : List Float) → good (rangesFault counts nodes readings) ≡ true → (a : ℕ) → a < length counts → good (rangeFault a (getD (axesOf counts nodes) a []) (getD readings a nan)) ≡ true
 unfolding rangesFault

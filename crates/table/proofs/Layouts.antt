@@ -1,14 +1,14 @@
 -- Where index lists lie, and that a flat list is determined by them. Assumes nothing.
-use mathlib.Core.Path.{_≡_, refl, sym, ap, ap₂, _∙_, subst}
+use mathlib.Core.Path.{_≡_, refl, sym, ap, ap₂, _∙_}
 use mathlib.Core.List.{List, [], _∷_, _++_}
-use Prim.Native.Nat.{ℕ, zero, suc, _+_, _-_, _*_, _/_, _%_, _≤_, _<_}
+use Prim.Native.Nat.{ℕ, zero, suc, _+_, _*_, _/_, _%_, _≤_, _<_}
 use native.Mathlib.Nat.{mul-le-mul-right, div-add-mod', div-lt-iff-lt-mul, mod-lt, mul-add-div-right, div-eq-of-lt, mul-add-mod-self-right, mod-eq-of-lt, mul-zero, suc-mul, add-mul, mul-assoc, one-mul, zero-mul, mul-comm}
 use native.Mathlib.Numerals.{add-one}
 use native.Mathlib.Omega.{arith}
-use lib.ListN.{length, take, drop, getD, set, drop-of-length-le}
+use lib.ListN.{length, drop, getD, set, drop-of-length-le}
 use lib.Seq.{ext-getD, drop-cons}
 use lib.Ieee.{Float, nan}
-use Rattle.table.specs.Shape.{size, total, axesOf, strides, placeBy, place, table, indicesAt, tabulate, Inside, insert, without}
+use Rattle.table.specs.Shape.{size, strides, placeBy, place, table, indicesAt, tabulate, Inside}
 
 -- ---- tabulated lists
 pub length-tabulate : {A : Type 0} (n : ℕ) (h : ℕ → A) → length (tabulate n h) ≡ n

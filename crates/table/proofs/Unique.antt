@@ -11,10 +11,6 @@ use Rattle.table.proofs.frame_fault.Reads as frame-fault
 use Rattle.table.proofs.least.Reads as least
 use Rattle.table.proofs.axis_end.Reads as axis-end
 use Rattle.table.proofs.axes_fault.Reads as axes-fault
-use Rattle.table.proofs.values_fault.Reads as values-fault
-use Rattle.table.proofs.directions_fault.Reads as directions-fault
-use Rattle.table.proofs.readings_fault.Reads as readings-fault
-use Rattle.table.proofs.range_fault.Reads as range-fault
 use Rattle.table.proofs.ranges_fault.Reads as ranges-fault
 
 pub shape-fault-unique : (κs : _) (a : _) (r s : Answer) (x y : _) → shape-fault.Post κs a r x → shape-fault.Post κs a s y → r ≡ s
@@ -37,18 +33,6 @@ axis-end-unique κs a r s x y p q = one-outcome r s _ p q
 
 pub axes-fault-unique : (κs : _) (a : _) (r s : Answer) (x y : _) → axes-fault.Post κs a r x → axes-fault.Post κs a s y → r ≡ s
 axes-fault-unique κs a r s x y p q = one-outcome r s _ p q
-
-pub values-fault-unique : (κs : _) (a : _) (r s : Answer) (x y : _) → values-fault.Post κs a r x → values-fault.Post κs a s y → r ≡ s
-values-fault-unique κs a r s x y p q = one-outcome r s _ p q
-
-pub directions-fault-unique : (κs : _) (a : _) (r s : Answer) (x y : _) → directions-fault.Post κs a r x → directions-fault.Post κs a s y → r ≡ s
-directions-fault-unique κs a r s x y p q = one-outcome r s _ p q
-
-pub readings-fault-unique : (κs : _) (a : _) (r s : Answer) (x y : _) → readings-fault.Post κs a r x → readings-fault.Post κs a s y → r ≡ s
-readings-fault-unique κs a r s x y p q = one-outcome r s _ p q
-
-pub range-fault-unique : (κs : _) (a : _) (r s : Answer) (x y : _) → range-fault.Post κs a r x → range-fault.Post κs a s y → r ≡ s
-range-fault-unique κs a r s x y p q = one-outcome r s _ p q
 
 pub ranges-fault-unique : (κs : _) (a : _) (r s : Answer) (x y : _) → ranges-fault.Post κs a r x → ranges-fault.Post κs a s y → r ≡ s
 ranges-fault-unique κs a r s x y p q = one-outcome r s _ p q

@@ -1,18 +1,18 @@
 -- "Numbers the technician sees": the rows that judge a table and a list of readings.
 use mathlib.Core.Path.{_≡_}
-use mathlib.Core.Bool.{Bool, true, false, not, _&&_, _||_}
+use mathlib.Core.Bool.{not, _&&_}
 use mathlib.Core.List.{List, []}
-use Prim.Native.Nat.{ℕ, _-_, _≤_, _<_}
+use Prim.Native.Nat.{ℕ, _≤_, _<_}
 use lib.Dec.{leb, ltb, eqb}
 use lib.ListN.{length, getD}
-use lib.Ieee.{Float, nan, lt}
-use lib.Ieee.Scale.{finite}
+use lib.Ieee.{Float, nan}
 use Rattle.answer.specs.Answer.{refused, when, _or_, firstOf, given}
 use Rattle.answer.specs.declared.Answer.{Answer}
-use Rattle.judge.specs.Check.{node, countFault, nodesFault, directionFault, readingFault, Axis}
+use Rattle.judge.specs.Check.{countFault, nodesFault, Axis}
 use Rattle.table.specs.Shape.{countsOf, size, total, axesOf}
 use Rattle.table.specs.declared.Shape.{Shape}
 use Rattle.table.specs.declared.Holding.{Holding}
+use Rattle.lists.specs.Lists.{rangeFault}
 
 -- 1: "axes not 1 to 4"; 2: "a count outside 2 to 64, else product above 4,096"
 unfoldable pub shapeFault : Shape → Answer
@@ -36,27 +36,6 @@ frameFault s nodes values = shapeFault s or lengthFault 0 (total (countsOf s)) n
 -- "then each axis node by node (4, 5, 6 at each node)"
 unfoldable pub axesFault : List ℕ → List Float → Answer
 axesFault counts nodes = firstOf (λ a. nodesFault a (getD (axesOf counts nodes) a [])) 0 (length counts)
-
--- 7: "value not finite", "0, flat place"
-unfoldable pub valueFault : List Float → ℕ → Answer
-valueFault values i = when (not (finite (getD values i nan))) (refused 7 0 i)
-
-unfoldable pub valuesFault : List Float → Answer
-valuesFault values = firstOf (valueFault values) 0 (length values)
-
--- "9 for Step, all axes"
-unfoldable pub directionsFault : List ℕ → Answer
-directionsFault directions = firstOf (λ a. directionFault a (getD directions a 0)) 0 (length directions)
-
--- "10 for all axes"
-unfoldable pub readingsFault : List Float → Answer
-readingsFault readings = firstOf (λ a. readingFault a (getD readings a nan)) 0 (length readings)
-
--- 11: "reading outside its axis", "axis; 0 below, 1 above"
-unfoldable pub rangeFault : ℕ → List Float → Float → Answer
-rangeFault axis nodes p =
-    when (lt p (node nodes 0)) (refused 11 axis 0)
-    or when (lt (node nodes (length nodes - 1)) p) (refused 11 axis 1)
 
 -- "11 for all axes"
 unfoldable pub rangesFault : List ℕ → List Float → List Float → Answer

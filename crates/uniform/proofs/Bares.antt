@@ -9,7 +9,7 @@ use Rattle.uniform.specs.Uniform.{gapFault, uniformFault, axesUniformFau
 use Rattle.uniform.specs.Calls.{uniformReadFault, locateLowerIndexUniform, lentFault, validateUniformGridEpsilon}
 use Rattle.uniform.specs.declared.Tolerance.{Tolerance}
 use Rattle.uniform.specs.declared.Tolerance.the-variants.{Lent, Default}
-use Rattle.table.proofs.Bares.{bare-reading, bare-axis}
+use Rattle.lists.proofs.Bares.{bare-reading, bare-axis}
 use Rattle.answer.proofs.Bares.{Bare, bare-fine, bare-or, bare-first, row}
 
 pub uniform-index-bare : (first step : Float) (n : ℕ) (p : Float) → locateLowerIndexUniform first step n p .answer .value ≡ plusZero

@@ -6,7 +6,7 @@ use lib.Ieee.{Float}
 use Rattle.answer.specs.Answer.{plusZero, indexAnswer}
 use Rattle.judge.specs.Check.{directionFault, resultFault}
 use Rattle.utils.specs.Calls.{exactAnswer, axisAnswer, axisReadingFault, locateLowerIndex, lowerFault, exactFault, exactIndex, locateAxis, directedFault, locateStepIndex}
-use Rattle.table.proofs.Bares.{bare-reading, bare-axis}
+use Rattle.lists.proofs.Bares.{bare-reading, bare-axis}
 use Rattle.answer.proofs.Bares.{Bare, bare-or, row}
 
 bare-axis-reading : (nodes : List Float) (p : Float) → Bare (axisReadingFault nodes p)

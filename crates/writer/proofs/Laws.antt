@@ -9,7 +9,8 @@ use Rattle.answer.specs.Answer.{good, _or_}
 use Rattle.answer.specs.declared.Answer.{Answer}
 use Rattle.answer.proofs.Orders as orders
 use Rattle.table.specs.Shape.{countsOf, size, total}
-use Rattle.table.specs.Table.{frameFault, axesFault, valuesFault}
+use Rattle.table.specs.Table.{frameFault, axesFault}
+use Rattle.lists.specs.Lists.{valuesFault}
 use Rattle.table.specs.declared.Shape.{Shape}
 use Rattle.writer.specs.Made.{imageLength}
 use Rattle.writer.specs.Write.{writeFault}

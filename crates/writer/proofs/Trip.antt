@@ -16,7 +16,8 @@ use Rattle.answer.proofs.Orders as orders
 use Rattle.judge.specs.Check.{countFault}
 use Rattle.judge.proofs.Rows.{count-fine}
 use Rattle.table.specs.Shape.{countsOf, size, total, tabulate}
-use Rattle.table.specs.Table.{shapeFault, lengthFault, frameFault, axesFault, valueFault, valuesFault}
+use Rattle.table.specs.Table.{shapeFault, lengthFault, frameFault, axesFault}
+use Rattle.lists.specs.Lists.{valueFault, valuesFault}
 use Rattle.table.specs.declared.Shape.{Shape}
 use Rattle.table.proofs.Layouts.{getD-tabulate, tabulate-same}
 use Rattle.table.proofs.Tables.{length-same, shape-some, shape-four, shape-enough, shape-few, shape-size}

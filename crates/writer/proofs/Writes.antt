@@ -10,7 +10,8 @@ use Rattle.answer.specs.Answer.{good, _or_, given}
 use Rattle.answer.specs.declared.Answer.{Answer}
 use Rattle.answer.proofs.Orders as orders
 use Rattle.table.specs.Shape.{countsOf, size, total}
-use Rattle.table.specs.Table.{shapeFault, lengthFault, frameFault, axesFault, valuesFault}
+use Rattle.table.specs.Table.{shapeFault, lengthFault, frameFault, axesFault}
+use Rattle.lists.specs.Lists.{valuesFault}
 use Rattle.table.specs.declared.Shape.{Shape}
 use Rattle.table.proofs.Grids.{frame-shape, frame-nodes, frame-values}
 use Rattle.writer.specs.Made.{imageLength, imageOf}

@@ -7,7 +7,8 @@ use Rattle.answer.specs.Answer.{_or_, given}
 use Rattle.answer.specs.declared.Answer.{Answer}
 use Rattle.image.specs.Load.{filledInto}
 use Rattle.table.specs.Shape.{countsOf, tabulate}
-use Rattle.table.specs.Table.{frameFault, axesFault, valuesFault}
+use Rattle.table.specs.Table.{frameFault, axesFault}
+use Rattle.lists.specs.Lists.{valuesFault}
 use Rattle.table.specs.declared.Shape.{Shape}
 use Rattle.writer.specs.Made.{imageLength, countIn, imageOf}
 use Rattle.writer.specs.declared.WriteAnswer.{WriteAnswer}

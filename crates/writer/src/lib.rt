@@ -43,7 +43,7 @@ fn write_fault(shape: Shape, nodes: &[f64], values: &[f64], room: usize) -> Answ
     if fault.number != 0 {
         return fault;
     }
-    let fault = table::values_fault(values);
+    let fault = lists::values_fault(values);
     if fault.number != 0 {
         return fault;
     }

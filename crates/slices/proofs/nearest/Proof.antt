@@ -9,7 +9,7 @@ use Rattle.answer.specs.declared.Answer.{Answer}
 use Rattle.answer.proofs.Orders.{passes}
 use Rattle.table.specs.Shape.{countsOf, sliceValues}
 use Rattle.table.proofs.Shapes.{length-ids}
-use Rattle.order.specs.Fronts.{nearestFront}
+use Rattle.fronts.specs.Fronts.{nearestFront}
 use Rattle.slices.specs.Slices.{axisOf, pointFault, nearestSliceFault, sliceAnswer, slicedInto, ruleSlice, nearestSlice, nearestSliced}
 use Rattle.ninterp.proofs.Lookups.{is-nearest}
 use Rattle.slices.proofs.Sliced.{Sliceable, nearest-sliceable, slice-refused, out-kept, front-passed, front-refused}

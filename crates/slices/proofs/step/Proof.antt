@@ -9,7 +9,7 @@ use Rattle.answer.specs.declared.Answer.{Answer}
 use Rattle.answer.proofs.Orders.{passes}
 use Rattle.table.specs.Shape.{countsOf, sliceValues}
 use Rattle.table.proofs.Shapes.{length-ids}
-use Rattle.order.specs.Fronts.{stepFront}
+use Rattle.fronts.specs.Fronts.{stepFront}
 use Rattle.slices.specs.Slices.{axisOf, pointFault, stepSliceFault, sliceAnswer, slicedInto, ruleSlice, stepSlice, stepSliced}
 use Rattle.ninterp.proofs.Lookups.{is-step}
 use Rattle.slices.proofs.Sliced.{Sliceable, step-sliceable, step-axis-lent, step-axis-direction, slice-refused, out-kept, front-passed, front-refused}

@@ -10,7 +10,8 @@ use lib.Seq.{length-take-le}
 use lib.Ieee.{nan}
 use Rattle.answer.proofs.Orders.{passes, fails, first-begin, first-step, first-stop, first-end}
 use Rattle.table.specs.Shape.{axesOf}
-use Rattle.table.specs.Table.{rangeFault, rangesFault}
+use Rattle.lists.specs.Lists.{rangeFault}
+use Rattle.table.specs.Table.{rangesFault}
 use Rattle.table.proofs.Shapes.{length-ids, counts-least, Walk, walk-axis, walk-on}
 use Rattle.table.proofs.ranges_fault.Statement.{statement}
 use Rattle.table.proofs.ranges_fault.Tie as tie

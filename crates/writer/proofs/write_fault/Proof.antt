@@ -19,7 +19,7 @@ use Rattle.writer.proofs.write_fault.Reads as reads
 use Rattle.writer.proofs.write_fault.Lts as lts
 use Rattle.table.proofs.axes_fault.Reads as axes-fault-reads
 use Rattle.table.proofs.frame_fault.Reads as frame-fault-reads
-use Rattle.table.proofs.values_fault.Reads as values-fault-reads
+use Rattle.lists.proofs.values_fault.Reads as values-fault-reads
 use Rattle.writer.proofs.image_length.Reads as image-length-reads
 use Rattle.judge.proofs.room_fault.Reads as room-fault-reads
 use Rattle.judge.specs.Check.{roomFault}

@@ -1,6 +1,7 @@
 use lib.Seq.{sets, length-sets}
 use Rattle.table.specs.Shape.{countsOf, size}
-use Rattle.table.specs.Table.{sizesOf, valuesFault}
+use Rattle.table.specs.Table.{sizesOf}
+use Rattle.lists.specs.Lists.{valuesFault}
 use Rattle.image.specs.Image.{shapeOf, valuesIn}
 use Rattle.image.proofs.Floats.{holds-values, values-size, front-read}
 use mathlib.Core.Path.{_≡_, refl, sym, ap, ap₂, _∙_, subst}
@@ -18,7 +19,7 @@ use Rattle.image.proofs.contents.values_fault.Lts as lts
 use Rattle.image.proofs.contents.read_values.Reads as read-values-reads
 use Rattle.image.proofs.header.shape_of.Reads as shape-of-reads
 use Rattle.table.proofs.sizes.Reads as sizes-reads
-use Rattle.table.proofs.values_fault.Reads as values-fault-reads
+use Rattle.lists.proofs.values_fault.Reads as values-fault-reads
 
 abbrev start : tie.After-sizes → tie.Start
 start z = z .before .before .before .before .before .before .before .before

@@ -6,7 +6,7 @@ use Prim.Native.Nat.{_/_}
 use Rattle.judge.specs.Check.{Axis}
 use Rattle.table.specs.Shape.{countsOf, size, total, without}
 use Rattle.table.proofs.Shapes.{length-ids}
-use Rattle.blend.specs.Blend.{resultsFault}
+use Rattle.runs.specs.Runs.{resultsFault}
 use Rattle.blend.specs.declared.AxisLocation.{AxisLocation}
 use Rattle.blend.specs.declared.AxisLocation.the-variants.{Exact, Between}
 use Rattle.axis.specs.Locations.{locationIndex}
@@ -33,8 +33,8 @@ use Rattle.slices.proofs.judged.along_first.Lts as lts
 use Rattle.answer.proofs.pass.Reads as pass-reads
 use Rattle.axis.proofs.locate.lower_node.Reads as lower-node-reads
 use Rattle.axis.proofs.locate.location_by.Reads as location-by-reads
-use Rattle.slices.proofs.runs.blend_runs.Reads as blend-runs-reads
-use Rattle.slices.proofs.runs.fill.Reads as fill-reads
+use Rattle.slices.proofs.written.blend_runs.Reads as blend-runs-reads
+use Rattle.slices.proofs.written.fill.Reads as fill-reads
 
 abbrev C : tie.Start → List ℕ
 C s = s .args .shape .counts

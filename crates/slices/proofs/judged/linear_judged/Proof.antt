@@ -1,6 +1,6 @@
 use Rattle.answer.specs.declared.Answer.{Answer}
 use Rattle.answer.proofs.Orders.{passes}
-use Rattle.blend.specs.Blend.{resultsFault}
+use Rattle.runs.specs.Runs.{resultsFault}
 use Rattle.axis.specs.Locations.{locationBy}
 use Rattle.slices.specs.Slices.{slicedInto}
 use Rattle.slices.specs.LinearSlices.{linearValues, linearRest}

@@ -6,7 +6,7 @@ use denote.Ref.{now}
 use mathlib.Core.List.{List}
 use Rattle.answer.proofs.Orders.{or-stops, or-goes-on}
 use Rattle.table.specs.Shape.{countsOf, size, without}
-use Rattle.table.specs.Table.{rangeFault}
+use Rattle.lists.specs.Lists.{rangeFault}
 use Rattle.table.proofs.Shapes.{length-ids}
 use Rattle.slices.specs.Slices.{pointFault}
 use Rattle.slices.proofs.Slices.{few-at, some-at, axis-ends, axis-lies, slice-count}

@@ -1,0 +1,48 @@
+use Rattle.answer.proofs.Orders.{or-goes-on, or-stops}
+use Rattle.fronts.specs.Fronts.{nearestFront}
+use borrow.Author.Needs.{needs}
+use Rattle.fronts.proofs.nearest_front.Statement.{statement}
+use Rattle.fronts.proofs.nearest_front.Tie as tie
+
+frame-fault-requires : tie.Need-frame-fault-requires
+frame-fault-requires c κs = search needs
+
+returns : tie.Need-returns
+unfolding nearestFront
+returns c =
+    let f0 = c .before .before in
+    or-stops _ _ (f0 .frame-fault .ensures) _ (c .if1 .taken)
+
+no-axis-fault-requires : tie.Need-no-axis-fault-requires
+no-axis-fault-requires c κs = search needs
+
+returns-2 : tie.Need-returns-2
+unfolding nearestFront
+returns-2 c =
+    let f1 = c .before .before in
+    let e0 = f1 .before in
+    let f0 = e0 .before .before in
+    or-goes-on _ _ (f0 .frame-fault .ensures) _ _ (e0 .if1 .left) (or-stops _ _ (f1 .no-axis-fault .ensures) _ (c .if2 .taken))
+
+table-fault-requires : tie.Need-table-fault-requires
+table-fault-requires c κs = search needs
+
+returns-3 : tie.Need-returns-3
+unfolding nearestFront
+returns-3 c =
+    let e1 = c .before in
+    let f1 = e1 .before .before in
+    let e0 = f1 .before in
+    let f0 = e0 .before .before in
+    or-goes-on _ _ (f0 .frame-fault .ensures) _ _ (e0 .if1 .left) (or-goes-on _ _ (f1 .no-axis-fault .ensures) _ _ (e1 .if2 .left) (c .table-fault .ensures))
+
+pub nearest-front-spec : {M : Type 1} → statement M
+nearest-front-spec =
+    tie.close
+    (tie.spec
+    frame-fault-requires
+    returns
+    no-axis-fault-requires
+    returns-2
+    table-fault-requires
+    returns-3)

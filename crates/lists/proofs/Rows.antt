@@ -1,0 +1,97 @@
+-- The rows of a list, each with when it is met and what passing it says. Assumes nothing.
+use mathlib.Core.Path.{_≡_, sym, ap, _∙_}
+use mathlib.Core.Bool.{Bool, true, false, not, _&&_}
+use mathlib.Core.List.{List}
+use Prim.Native.Nat.{ℕ, zero, suc, _+_, _-_, _<_}
+use native.Mathlib.Omega.{arith}
+use lib.ListN.{length, getD}
+use lib.Ieee.{Float, nan, lt}
+use lib.Ieee.Scale.{finite}
+use Rattle.answer.specs.Answer.{refused, fine, good, when}
+use Rattle.answer.specs.declared.Answer.{Answer}
+use Rattle.answer.proofs.Orders as orders
+use Rattle.judge.specs.Check.{node, readingFault}
+use Rattle.lists.specs.Lists.{valueFault, rangeFault, valuesFault, readingsFault}
+use Rattle.judge.proofs.Rows.{and-left, and-right, not-false, reading-finite}
+
+-- ---- 7
+module _ (values : List Float) (i : ℕ) where
+  pub value-wild : finite (getD values i nan) ≡ false → refused 7 0 i ≡ valueFault values i
+  unfolding valueFault
+  value-wild h = orders.row-met (not (finite (getD values i nan))) 6 0 i (ap not h)
+
+  pub value-fine : finite (getD values i nan) ≡ true → fine ≡ valueFault values i
+  unfolding valueFault
+  value-fine h = orders.row-passed (not (finite (getD values i nan))) 6 0 i (ap not h)
+
+  pub value-good : finite (getD values i nan) ≡ true → good (valueFault values i) ≡ true
+  value-good h = sym (ap good (value-fine h)) ∙ orders.good-fine
+
+  pub value-passed : good (valueFault values i) ≡ true → finite (getD values i nan) ≡ true
+  unfolding valueFault
+  value-passed h = not-false (finite (getD values i nan)) (orders.row-good (not (finite (getD values i nan))) 6 0 i h)
+
+-- eight at once
+module _ (f : ℕ → Bool) (at : ℕ) (b0 b1 b2 b3 b4 b5 b6 b7 : Bool) (h : ((b0 && b1) && (b2 && b3)) && ((b4 && b5) && (b6 && b7)) ≡ true)
+    (e0 : b0 ≡ f at) (e1 : b1 ≡ f (at + 1)) (e2 : b2 ≡ f (at + 2)) (e3 : b3 ≡ f (at + 3)) (e4 : b4 ≡ f (at + 4)) (e5 : b5 ≡ f (at + 5)) (e6 : b6 ≡ f (at + 6)) (e7 : b7 ≡ f (at + 7)) where
+  low : (b0 && b1) && (b2 && b3) ≡ true
+  low = and-left ((b0 && b1) && (b2 && b3)) ((b4 && b5) && (b6 && b7)) h
+
+  high : (b4 && b5) && (b6 && b7) ≡ true
+  high = and-right ((b0 && b1) && (b2 && b3)) ((b4 && b5) && (b6 && b7)) h
+
+  pub all-eight : (j : ℕ) → j < 8 → f (at + j) ≡ true
+  all-eight zero l = ap f (omega arith) ∙ sym e0 ∙ and-left b0 b1 (and-left (b0 && b1) (b2 && b3) low)
+  all-eight (suc zero) l = sym e1 ∙ and-right b0 b1 (and-left (b0 && b1) (b2 && b3) low)
+  all-eight (suc (suc zero)) l = sym e2 ∙ and-left b2 b3 (and-right (b0 && b1) (b2 && b3) low)
+  all-eight (suc (suc (suc zero))) l = sym e3 ∙ and-right b2 b3 (and-right (b0 && b1) (b2 && b3) low)
+  all-eight (suc (suc (suc (suc zero)))) l = sym e4 ∙ and-left b4 b5 (and-left (b4 && b5) (b6 && b7) high)
+  all-eight (suc (suc (suc (suc (suc zero))))) l = sym e5 ∙ and-right b4 b5 (and-left (b4 && b5) (b6 && b7) high)
+  all-eight (suc (suc (suc (suc (suc (suc zero)))))) l = sym e6 ∙ and-left b6 b7 (and-right (b4 && b5) (b6 && b7) high)
+  all-eight (suc (suc (suc (suc (suc (suc (suc zero))))))) l = sym e7 ∙ and-right b6 b7 (and-right (b4 && b5) (b6 && b7) high)
+  all-eight (suc (suc (suc (suc (suc (suc (suc (suc j)))))))) l = absurd (omega arith)
+
+-- ---- 11
+module _ (axis : ℕ) (nodes : List Float) (p : Float) where
+  abbrev first : Float
+  first = node nodes 0
+
+  abbrev last : Float
+  last = node nodes (length nodes - 1)
+
+  abbrev above : Answer
+  above = when (lt last p) (refused 11 axis 1)
+
+  pub range-under : lt p first ≡ true → refused 11 axis 0 ≡ rangeFault axis nodes p
+  unfolding rangeFault
+  range-under h = orders.row-stops (lt p first) 10 axis 0 above h
+
+  module _ (h : lt p first ≡ false) where
+    range-on : above ≡ rangeFault axis nodes p
+    unfolding rangeFault
+    range-on = orders.row-goes-on (lt p first) 10 axis 0 above h
+
+    pub range-over : lt last p ≡ true → refused 11 axis 1 ≡ rangeFault axis nodes p
+    range-over k = orders.row-met (lt last p) 10 axis 1 k ∙ range-on
+
+    pub range-inside : lt last p ≡ false → fine ≡ rangeFault axis nodes p
+    range-inside k = orders.row-passed (lt last p) 10 axis 1 k ∙ range-on
+
+  module _ (h : good (rangeFault axis nodes p) ≡ true) where
+    pub range-not-under : lt p first ≡ false
+    unfolding rangeFault
+    range-not-under = orders.row-good (lt p first) 10 axis 0 (orders.first-passed (when (lt p first) (refused 11 axis 0)) above h)
+
+    pub range-not-over : lt last p ≡ false
+    unfolding rangeFault
+    range-not-over = orders.row-good (lt last p) 10 axis 1 (orders.second-passed (when (lt p first) (refused 11 axis 0)) above h)
+
+pub readings-finite : (readings : List Float) → good (readingsFault readings) ≡ true → (a : ℕ) → a < length readings → finite (getD readings a nan) ≡ true
+unfolding readingsFault
+readings-finite readings h a l = reading-finite a (getD readings a nan) (orders.all-passed (λ b. readingFault b (getD readings b nan)) 0 (length readings) h a (omega arith) (omega arith))
+
+pub values-finite : (values : List Float) → good (valuesFault values) ≡ true → (i : ℕ) → i < length values → finite (getD values i nan) ≡ true
+unfolding valuesFault valueFault
+values-finite values h i l =
+    not-false (finite (getD values i nan))
+    (orders.row-good (not (finite (getD values i nan))) 6 0 i (orders.all-passed (λ j. valueFault values j) 0 (length values) h i (omega arith) (omega arith)))

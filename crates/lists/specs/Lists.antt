@@ -1,0 +1,31 @@
+-- "Numbers the technician sees": the rows that judge a list by itself, and a reading in the range of an axis.
+use mathlib.Core.Bool.{not}
+use mathlib.Core.List.{List}
+use Prim.Native.Nat.{ℕ, _-_}
+use lib.ListN.{length, getD}
+use lib.Ieee.{Float, nan, lt}
+use lib.Ieee.Scale.{finite}
+use Rattle.answer.specs.Answer.{refused, when, _or_, firstOf}
+use Rattle.answer.specs.declared.Answer.{Answer}
+use Rattle.judge.specs.Check.{node, directionFault, readingFault}
+
+-- 7: "value not finite", "0, flat place"
+unfoldable pub valueFault : List Float → ℕ → Answer
+valueFault values i = when (not (finite (getD values i nan))) (refused 7 0 i)
+
+unfoldable pub valuesFault : List Float → Answer
+valuesFault values = firstOf (valueFault values) 0 (length values)
+
+-- "9 for Step, all axes"
+unfoldable pub directionsFault : List ℕ → Answer
+directionsFault directions = firstOf (λ a. directionFault a (getD directions a 0)) 0 (length directions)
+
+-- "10 for all axes"
+unfoldable pub readingsFault : List Float → Answer
+readingsFault readings = firstOf (λ a. readingFault a (getD readings a nan)) 0 (length readings)
+
+-- 11: "reading outside its axis", "axis; 0 below, 1 above"
+unfoldable pub rangeFault : ℕ → List Float → Float → Answer
+rangeFault axis nodes p =
+    when (lt p (node nodes 0)) (refused 11 axis 0)
+    or when (lt (node nodes (length nodes - 1)) p) (refused 11 axis 1)

@@ -1,7 +1,9 @@
 -- "Numbers the technician sees": what an answer holds, and that the first fault found is answered.
 use mathlib.Core.Bool.{Bool, true, false, cond}
+use mathlib.Core.List.{List, _++_}
 use Prim.Native.Nat.{ℕ, zero, suc}
 use lib.Dec.{eqb}
+use lib.ListN.{length, drop}
 use lib.IntN.{pos}
 use lib.Ieee.{Float, fin}
 use Rattle.answer.specs.declared.Answer.{Answer}
@@ -48,3 +50,7 @@ given a x zeros = cond (good a) x zeros
 -- an answer with an index
 unfoldable pub indexAnswer : Answer → ℕ → IndexAnswer
 indexAnswer a i = record { answer = a; index = given a i 0 }
+
+-- an output after a call: filled from its front, its rest as it was; on a refusal as it was
+unfoldable pub filledInto : {A : Type 0} → Answer → List A → List A → List A
+filledInto a xs out = given a (xs ++ drop (length xs) out) out

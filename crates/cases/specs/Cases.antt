@@ -17,7 +17,8 @@ use Rattle.utils.specs.Calls.{axisAnswer, axisReadingFault, directedFault, loca
 use Rattle.axis.specs.Picks.{nearestIndex}
 use Rattle.ninterp.specs.Tables.{indices, picked, nearestAnswer}
 use Rattle.ninterp.specs.Linears.{locations, interpolated, linearAnswer}
-use Rattle.slices.specs.Slices.{shapeWithout, pointFault, sliceAnswer, slicedInto}
+use Rattle.slices.specs.Slices.{shapeWithout, pointFault, sliceAnswer}
+use Rattle.answer.specs.Answer.{filledInto}
 use Rattle.slices.specs.LinearSlices.{alongFirst, linearValues, linearRest, linearSliceFault, linearSlice, linearSliced}
 use Rattle.table.specs.Shape.{size, total, axesOf, strides, placeBy, table, indicesAt}
 use Rattle.table.specs.Table.{shapeFault, lengthFault, frameFault, axesFault, rangesFault}
@@ -135,5 +136,5 @@ cases =
 
 -- the claim over all of it
 pub cases-hold : map (λ c. c .tells) cases ≡ map (λ c. c .paper) cases
-unfolding cases locateLowerIndex locateAxis locateStepIndex locateLowerIndexUniform validateUniformGridEpsilon indexAnswer axisAnswer axisReadingFault directedFault uniformReadFault nearestIndex indices picked nearestAnswer howMany lowerIndex exactNode fraction axisLocation lowerStep upperStep stepIndex uniformCell uniformIndex gap apart gapFault uniformFault toleranceOf countFault riseFault nodeFault nodesFault axisFault finiteFault lentStepFault directionFault readingFault resultFault refused answered fine good when _or_ firstOf given ofInt toUnsigned lt le eq add sub mul div locations interpolated linearAnswer shapeWithout pointFault sliceAnswer slicedInto alongFirst linearValues linearRest linearSliceFault linearSlice linearSliced size total axesOf strides placeBy table indicesAt shapeFault lengthFault frameFault axesFault valueFault valuesFault readingsFault rangeFault rangesFault lookupFault notFirstFault roomFault linearFront blended computed resultFaultAt resultsFault
+unfolding cases locateLowerIndex locateAxis locateStepIndex locateLowerIndexUniform validateUniformGridEpsilon indexAnswer axisAnswer axisReadingFault directedFault uniformReadFault nearestIndex indices picked nearestAnswer howMany lowerIndex exactNode fraction axisLocation lowerStep upperStep stepIndex uniformCell uniformIndex gap apart gapFault uniformFault toleranceOf countFault riseFault nodeFault nodesFault axisFault finiteFault lentStepFault directionFault readingFault resultFault refused answered fine good when _or_ firstOf given ofInt toUnsigned lt le eq add sub mul div locations interpolated linearAnswer shapeWithout pointFault sliceAnswer filledInto alongFirst linearValues linearRest linearSliceFault linearSlice linearSliced size total axesOf strides placeBy table indicesAt shapeFault lengthFault frameFault axesFault valueFault valuesFault readingsFault rangeFault rangesFault lookupFault notFirstFault roomFault linearFront blended computed resultFaultAt resultsFault
 cases-hold = refl

@@ -1,21 +1,18 @@
 -- Loading: accepted exactly where every check is passed, and nothing else is touched. Assumes nothing.
 use mathlib.Core.Path.{_≡_, refl, ap}
-use mathlib.Core.Bool.{Bool, true, false, cond}
-use mathlib.Core.List.{List, _++_}
+use mathlib.Core.Bool.{Bool, true, false}
+use mathlib.Core.List.{List}
 use Prim.Native.Nat.{ℕ, _≤_}
 use native.Mathlib.Omega.{arith}
-use lib.ListN.{length, drop}
-use lib.Seq.{drop-at}
 use Rattle.answer.specs.Answer.{good, given}
-use Rattle.answer.specs.declared.Answer.{Answer}
 use Rattle.answer.proofs.Orders as orders
-use Rattle.table.specs.Shape.{countsOf}
+use Rattle.table.specs.Shape.{countsOf, noShape}
 use Rattle.table.specs.Table.{shapeFault, axesFault}
 use Rattle.lists.specs.Lists.{valuesFault}
 use Rattle.table.specs.declared.Shape.{Shape}
 use Rattle.table.proofs.Tables.{shape-four}
 use Rattle.image.specs.Image.{shapeOf, nodesIn, valuesIn}
-use Rattle.image.specs.Load.{headFault, areasFault, roomsFault, contentsFault, loadFault, noShape, loadAnswer, filledInto}
+use Rattle.image.specs.Load.{headFault, areasFault, roomsFault, contentsFault, loadFault, loadAnswer}
 use Rattle.image.proofs.Heads.{head-shape}
 
 -- every condition of the paper, in its order
@@ -59,16 +56,3 @@ given-four img nodes values = go (good (loadFault img nodes values)) refl
     go : (b : Bool) → good (loadFault img nodes values) ≡ b → given (loadFault img nodes values) (shapeOf img) noShape .axes ≤ 4
     go true e = omega (arith, ap (λ (s : Shape). s .axes) (orders.given-good (loadFault img nodes values) (shapeOf img) noShape e), shape-four (shapeOf img) (loaded-shape img nodes values e))
     go false e = omega (arith, ap (λ (s : Shape). s .axes) (orders.given-bad (loadFault img nodes values) (shapeOf img) noShape e))
-
--- a refusal leaves an output as it was; what lies beyond what is written is never touched
-pub refused-keeps : {A : Type 0} (a : Answer) (xs out : List A) → good a ≡ false → filledInto a xs out ≡ out
-unfolding filledInto given
-refused-keeps a xs out h = ap (λ (t : Bool). cond t (xs ++ drop (length xs) out) out) h
-
-pub beyond-kept : {A : Type 0} (a : Answer) (xs out : List A) → drop (length xs) (filledInto a xs out) ≡ drop (length xs) out
-unfolding filledInto given
-beyond-kept a xs out = go (good a)
-  where
-    go : (t : Bool) → drop (length xs) (cond t (xs ++ drop (length xs) out) out) ≡ drop (length xs) out
-    go true = drop-at xs (drop (length xs) out) (length xs) refl
-    go false = refl

@@ -6,14 +6,14 @@ use Prim.Native.Nat.{ℕ, _≤_}
 use native.Mathlib.Omega.{arith}
 use lib.ListN.{length, drop}
 use lib.Seq.{sets}
-use Rattle.answer.specs.Answer.{good}
+use Rattle.answer.specs.Answer.{good, filledInto}
 use Rattle.answer.specs.declared.Answer.{Answer}
 use Rattle.answer.proofs.Orders as orders
-use Rattle.table.specs.Shape.{countsOf, size, total}
+use Rattle.table.specs.Shape.{countsOf, size, total, noShape}
 use Rattle.table.specs.Table.{shapeFault}
 use Rattle.table.specs.declared.Shape.{Shape}
 use Rattle.image.specs.Image.{shapeOf, nodesIn, valuesIn}
-use Rattle.image.specs.Load.{headFault, areasFault, roomsFault, loadFault, noShape, loadAnswer, filledInto}
+use Rattle.image.specs.Load.{headFault, areasFault, roomsFault, loadFault, loadAnswer}
 use Rattle.image.specs.declared.LoadAnswer.{LoadAnswer}
 use Rattle.image.proofs.Heads.{head-shape}
 use Rattle.image.proofs.Floats.{nodes-total, values-size, sets-front}

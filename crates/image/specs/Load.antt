@@ -1,13 +1,13 @@
 -- "Loading checks", in their order, and what loading answers and writes for every input.
 use mathlib.Core.Bool.{not, _&&_, cond}
-use mathlib.Core.List.{List, [], _∷_, _++_}
+use mathlib.Core.List.{List}
 use Prim.Native.Nat.{ℕ, _+_, _-_, _*_, _%_}
 use lib.Dec.{leb, ltb, eqb}
-use lib.ListN.{length, drop}
+use lib.ListN.{length}
 use Rattle.answer.specs.Answer.{refused, when, _or_, firstOf, given}
 use Rattle.answer.specs.declared.Answer.{Answer}
 use Rattle.judge.specs.Check.{countFault, roomFault}
-use Rattle.table.specs.Shape.{countsOf, size, total}
+use Rattle.table.specs.Shape.{countsOf, size, total, noShape}
 use Rattle.table.specs.Table.{axesFault}
 use Rattle.lists.specs.Lists.{valuesFault}
 use Rattle.table.specs.declared.Shape.{Shape}
@@ -82,13 +82,6 @@ contentsFault img = axesFault (countsOf (shapeOf img)) (nodesIn img) or valuesFa
 unfoldable pub loadFault : List ℕ → ℕ → ℕ → Answer
 loadFault img nodes values = headFault img or areasFault img or roomsFault (shapeOf img) nodes values or contentsFault img
 
-abbrev pub noShape : Shape
-noShape = record { axes = 0; counts = 0 ∷ 0 ∷ 0 ∷ 0 ∷ [] }
-
 -- the answer with the shape; "any .. shape it would give is zero" on a refusal
 unfoldable pub loadAnswer : List ℕ → ℕ → ℕ → LoadAnswer
 loadAnswer img nodes values = record { answer = loadFault img nodes values; shape = given (loadFault img nodes values) (shapeOf img) noShape }
-
--- an output after a call: filled from its front, its rest as it was; on a refusal as it was
-unfoldable pub filledInto : {A : Type 0} → Answer → List A → List A → List A
-filledInto a xs out = given a (xs ++ drop (length xs) out) out

@@ -2,7 +2,8 @@
 ghost use mathlib.Core.Path.{_≡_};
 ghost use lib.ListN.{length};
 ghost use Rattle.image.specs.Image.{nodesIn, valuesIn};
-ghost use Rattle.image.specs.Load.{loadFault, loadAnswer, filledInto, noShape};
+ghost use Rattle.image.specs.Load.{loadFault, loadAnswer};
+ghost use Rattle.answer.specs.Answer.{filledInto};
 
 pub(crate) mod areas;
 pub(crate) mod contents;
@@ -15,15 +16,6 @@ use table::Shape;
 pub struct LoadAnswer {
     pub answer: Answer,
     pub shape: Shape,
-}
-
-fn no_shape() -> Shape
-    ensures { λ r. ⌜ r ≡ noShape ⌝ }
-{
-    Shape {
-        axes: 0,
-        counts: [0; 4],
-    }
 }
 
 // Every check, before anything is written.
@@ -53,7 +45,7 @@ pub fn load(img: &[u8], nodes: &mut [f64], values: &mut [f64]) -> LoadAnswer
     if answer.number != 0 {
         return LoadAnswer {
             answer,
-            shape: no_shape(),
+            shape: table::no_shape(),
         };
     }
     contents::read_nodes(img, nodes);

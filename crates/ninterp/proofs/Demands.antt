@@ -1,7 +1,7 @@
 -- Demand 2 for Step and Nearest, and stored bits at nodes. Assumes nothing.
 use mathlib.Core.Path.{_≡_, ap, _∙_}
 use mathlib.Core.Bool.{true}
-use mathlib.Core.List.{List, []}
+use mathlib.Core.List.{List}
 use Prim.Native.Nat.{ℕ, _+_, _-_, _≤_, _<_}
 use native.Mathlib.Omega.{arith}
 use lib.Dec.{T}
@@ -14,7 +14,7 @@ use Rattle.answer.proofs.Orders as orders
 use Rattle.binary64.proofs.Order as order
 use Rattle.judge.specs.Check.{node, Axis, readingFault, directionFault}
 use Rattle.judge.proofs.Rows.{reading-fine, direction-fine}
-use Rattle.table.specs.Shape.{countsOf, axesOf, table}
+use Rattle.table.specs.Shape.{countsOf, axesOf, table, axisOf}
 use Rattle.table.specs.Table.{frameFault, lengthFault, axesFault, rangesFault}
 use Rattle.lists.specs.Lists.{valuesFault, directionsFault, readingsFault, rangeFault}
 use Rattle.table.specs.declared.Shape.{Shape}
@@ -34,9 +34,6 @@ pub record Accepted (s : Shape) (nodes values : List Float) : Type 0 where
   pub frame : good (frameFault s (length nodes) (length values)) ≡ true
   pub axes : good (axesFault (countsOf s) nodes) ≡ true
   pub stored : good (valuesFault values) ≡ true
-
-abbrev pub axisOf : Shape → List Float → ℕ → List Float
-axisOf s nodes a = getD (axesOf (countsOf s) nodes) a []
 
 pub record InRange (s : Shape) (nodes readings : List Float) : Type 0 where
   pub count : length readings ≡ s .axes

@@ -11,7 +11,7 @@ use Rattle.answer.specs.Answer.{good, refused, answered, _or_}
 use Rattle.answer.proofs.Orders as orders
 use Rattle.judge.specs.Check.{node, resultFault}
 use Rattle.judge.proofs.Rows.{result-wild, result-fine}
-use Rattle.table.specs.Shape.{countsOf, size, axesOf, place, table, tabulate}
+use Rattle.table.specs.Shape.{countsOf, size, axesOf, place, table, tabulate, axisOf}
 use Rattle.table.specs.Table.{frameFault, lengthFault, axesFault, rangesFault}
 use Rattle.lists.specs.Lists.{valuesFault, readingsFault}
 use Rattle.table.specs.declared.Shape.{Shape}
@@ -33,7 +33,7 @@ use Rattle.ninterp.specs.Linears.{locations, interpolated, linearAnswer,
 use Rattle.axis.proofs.Laws.{node-located}
 use Rattle.ninterp.proofs.Picks.{list-inside}
 use Rattle.ninterp.proofs.Demands as demands
-use Rattle.ninterp.proofs.Demands.{Accepted, InRange, axisOf}
+use Rattle.ninterp.proofs.Demands.{Accepted, InRange}
 
 -- ---- a computed result: the value where it is finite, 12 exactly where it is not
 pub computed-finite : (x : Float) → finite x ≡ true → computed x ≡ answered x

@@ -7,26 +7,20 @@ use native.Mathlib.Omega.{arith}
 use lib.ListN.{length, getD, length-take}
 use lib.Ieee.{Float}
 use lib.Ieee.Scale.{finite}
-use Rattle.answer.specs.Answer.{good, _or_}
-use Rattle.answer.proofs.Orders as orders
-use Rattle.judge.specs.Check.{readingFault}
-use Rattle.judge.proofs.Rows.{reading-fine}
-use Rattle.table.specs.Shape.{countsOf, size, axesOf, without, sliceValues, nodesWithout}
-use Rattle.table.specs.Table.{frameFault, lengthFault, axesFault}
-use Rattle.lists.specs.Lists.{valuesFault, directionsFault, rangeFault}
+use Rattle.answer.specs.Answer.{good}
+use Rattle.table.specs.Shape.{countsOf, size, axesOf, tabulate, without, sliceValues, nodesWithout, axisOf}
+use Rattle.table.specs.Table.{lengthFault}
+use Rattle.lists.specs.Lists.{directionsFault, rangeFault}
 use Rattle.table.specs.declared.Shape.{Shape}
-use Rattle.table.proofs.Removals.{getD-without, getD-without-below, slices-comm}
+use Rattle.table.proofs.Removals.{without-comm, getD-without, getD-without-below, slices-comm, nodes-comm}
 use Rattle.ninterp.specs.Tables.{nearestRule, stepRule}
-use Rattle.fronts.specs.Fronts.{noAxisFault, nearestFront, stepFront}
-use Rattle.slices.specs.Slices.{axisOf, shapeWithout, pointFault, nearestSliceFault, stepSliceFault, ruleSlice}
-use Rattle.fronts.proofs.Fronts.{axis-there}
+use Rattle.slices.specs.Slices.{shapeWithout, nearestSliceFault, stepSliceFault, ruleSlice}
 use Rattle.ninterp.proofs.Demands.{Accepted}
 use Rattle.slices.proofs.Lowered as low
 use Rattle.slices.proofs.SliceLaw as law
 use Rattle.slices.proofs.Left as over
 use Rattle.slices.proofs.SliceLaw.{Made}
-use Rattle.judge.specs.Check.{roomFault}
-use Rattle.judge.proofs.Rows.{room-enough}
+use Rattle.slices.proofs.Makes.{nearest-slice-made, step-slice-made}
 
 -- ---- the second slice, after one on axis k
 module _ (s : Shape) (four : length (s .counts) ≡ 4) (nodes values : List Float) (k : ℕ) (p : Float) (rule : ℕ → List Float → Float → ℕ) (made : Made s nodes values k p rule) where
@@ -61,32 +55,19 @@ module _ (s : Shape) (four : length (s .counts) ≡ 4) (nodes values : List Floa
     unfolding ruleSlice
     left-over = law.slice-accepted s four nodes values k p rule made
 
-    has-axis : good (noAxisFault s' m) ≡ true
+    many : 1 < s' .axes
     unfolding shapeWithout
-    has-axis = orders.passed-fine (noAxisFault s' m) (axis-there s' m (omega arith) there)
+    many = omega (arith, three)
 
-    point : good (pointFault s' nodes' m q room) ≡ true
-    unfolding pointFault
-    point =
-        orders.both-passed (readingFault m q) (rangeFault m (axisOf s' nodes' m) q or roomFault 1 (size (without m (countsOf s'))) room) (orders.passed-fine (readingFault m q) (reading-fine m q fq))
-        (orders.both-passed (rangeFault m (axisOf s' nodes' m) q) (roomFault 1 (size (without m (countsOf s'))) room) r (orders.passed-fine (roomFault 1 (size (without m (countsOf s'))) room) (room-enough 1 (size (without m (countsOf s'))) room w)))
+    within : m < s' .axes
+    unfolding shapeWithout
+    within = there
 
     nearest-again : good (nearestSliceFault s' nodes' values' m q room) ≡ true
-    unfolding nearestSliceFault nearestFront
-    nearest-again =
-        orders.both-passed (frameFault s' (length nodes') (length values') or noAxisFault s' m or axesFault (countsOf s') nodes' or valuesFault values') (pointFault s' nodes' m q room)
-        (orders.both-passed (frameFault s' (length nodes') (length values')) (noAxisFault s' m or axesFault (countsOf s') nodes' or valuesFault values') (left-over .frame)
-        (orders.both-passed (noAxisFault s' m) (axesFault (countsOf s') nodes' or valuesFault values') has-axis
-        (orders.both-passed (axesFault (countsOf s') nodes') (valuesFault values') (left-over .axes) (left-over .stored)))) point
+    nearest-again = nearest-slice-made s' nodes' values' left-over many q room fq m within r w
 
     step-again : (ds : List ℕ) → good (lengthFault 3 (s' .axes) (length ds)) ≡ true → good (directionsFault ds) ≡ true → good (stepSliceFault s' nodes' values' ds m q room) ≡ true
-    unfolding stepSliceFault stepFront
-    step-again ds l d =
-        orders.both-passed (frameFault s' (length nodes') (length values') or lengthFault 3 (s' .axes) (length ds) or noAxisFault s' m or axesFault (countsOf s') nodes' or valuesFault values' or directionsFault ds) (pointFault s' nodes' m q room)
-        (orders.both-passed (frameFault s' (length nodes') (length values')) (lengthFault 3 (s' .axes) (length ds) or noAxisFault s' m or axesFault (countsOf s') nodes' or valuesFault values' or directionsFault ds) (left-over .frame)
-        (orders.both-passed (lengthFault 3 (s' .axes) (length ds)) (noAxisFault s' m or axesFault (countsOf s') nodes' or valuesFault values' or directionsFault ds) l
-        (orders.both-passed (noAxisFault s' m) (axesFault (countsOf s') nodes' or valuesFault values' or directionsFault ds) has-axis
-        (orders.both-passed (axesFault (countsOf s') nodes') (valuesFault values' or directionsFault ds) (left-over .axes) (orders.both-passed (valuesFault values') (directionsFault ds) (left-over .stored) d))))) point
+    step-again ds l d = step-slice-made s' nodes' values' left-over many q room fq m within r w ds l d
 
 -- ---- axis k first, then the axis that was suc m; or suc m first, then k
 module _ (s : Shape) (four : length (s .counts) ≡ 4) (nodes values : List Float) (k m : ℕ) (km : k ≤ m) (p q : Float) (rule : ℕ → List Float → Float → ℕ)
@@ -98,6 +79,21 @@ module _ (s : Shape) (four : length (s .counts) ≡ 4) (nodes values : List Floa
       second s four nodes values k p rule one ruleK m q (rule (suc m)) (axisOf s nodes (suc m)) above (axis-above s four nodes values k p rule one m km)
       ∙ slices-comm k m (rule k (axisOf s nodes k) p) (rule (suc m) (axisOf s nodes (suc m)) q) (countsOf s) values km (let f : s .axes ≤ 4 = other .sliceable .four in omega (arith, length-take (s .axes) (s .counts), other .sliceable .within)) (one .index-in) (other .index-in)
       ∙ sym (second s four nodes values (suc m) q rule other ruleM k p (rule k) (axisOf s nodes k) below (axis-below s four nodes values (suc m) q rule other k (omega arith)))
+
+  -- the shape and the nodes that are left are the same too
+  pub shapes-commute : shapeWithout (shapeWithout s k) m ≡ shapeWithout (shapeWithout s (suc m)) k
+  unfolding shapeWithout
+  shapes-commute = ap (λ (ns : List ℕ). record { axes = s .axes - 1 - 1; counts = tabulate 4 (λ a. getD ns a 0) }) counts-commute
+    where
+      counts-commute : without m (countsOf (shapeWithout s k)) ≡ without k (countsOf (shapeWithout s (suc m)))
+      counts-commute =
+          ap (without m) (law.counts-left s four nodes values k p rule one) ∙ without-comm k m (countsOf s) km ∙ sym (ap (without k) (law.counts-left s four nodes values (suc m) q rule other))
+
+  pub nodes-commute : nodesWithout m (countsOf (shapeWithout s k)) (nodesWithout k (countsOf s) nodes) ≡ nodesWithout k (countsOf (shapeWithout s (suc m))) (nodesWithout (suc m) (countsOf s) nodes)
+  nodes-commute =
+      ap (λ (ns : List ℕ). nodesWithout m ns (nodesWithout k (countsOf s) nodes)) (law.counts-left s four nodes values k p rule one)
+      ∙ nodes-comm k m (countsOf s) nodes km (one .sliceable .grid .flat)
+      ∙ sym (ap (λ (ns : List ℕ). nodesWithout k ns (nodesWithout (suc m) (countsOf s) nodes)) (law.counts-left s four nodes values (suc m) q rule other))
 
   range-after : good (rangeFault m (axisOf (shapeWithout s k) (nodesWithout k (countsOf s) nodes) m) q) ≡ true
   range-after =

@@ -16,7 +16,7 @@ use Rattle.answer.specs.declared.Answer.{Answer}
 use Rattle.answer.proofs.Orders as orders
 use Rattle.judge.specs.Check.{node, Axis, countFault, nodesFault, readingFault}
 use Rattle.judge.proofs.Rows.{count-fine, nodes-fine, reading-fine}
-use Rattle.table.specs.Shape.{countsOf, size, total, axesOf, tabulate, insert, without, nodesWithout}
+use Rattle.table.specs.Shape.{countsOf, size, total, axesOf, tabulate, insert, without, nodesWithout, axisOf}
 use Rattle.table.specs.Table.{shapeFault, lengthFault, frameFault, axesFault, rangesFault}
 use Rattle.lists.specs.Lists.{valuesFault, readingsFault, rangeFault}
 use Rattle.table.specs.declared.Shape.{Shape}
@@ -27,7 +27,7 @@ use Rattle.table.proofs.Grids.{length-axis}
 use Rattle.lists.proofs.Rows.{readings-finite}
 use Rattle.uniform.specs.Uniform.{axesUniformFault}
 use Rattle.order.specs.Lookups.{lookupFault, linearUniformFault}
-use Rattle.slices.specs.Slices.{axisOf, shapeWithout, lowered}
+use Rattle.slices.specs.Slices.{shapeWithout, lowered}
 use Rattle.slices.proofs.Sliced.{Sliceable}
 use Rattle.slices.proofs.Lowered as low
 use Rattle.ninterp.proofs.Demands.{Accepted}

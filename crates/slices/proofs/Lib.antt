@@ -3,6 +3,7 @@ pub mod Sliced
 pub mod Lowered
 pub mod Left
 pub mod SliceLaw
+pub mod Makes
 pub mod Commutes
 pub mod Alongs
 pub mod LinearLaw

@@ -11,7 +11,7 @@ use Rattle.answer.specs.Answer.{refused, answered, good, _or_}
 use Rattle.answer.proofs.Orders as orders
 use Rattle.judge.specs.Check.{Axis, gap, resultFault}
 use Rattle.judge.proofs.Rows.{not-false}
-use Rattle.table.specs.Shape.{countsOf, size, axesOf, place, table, tabulate, indicesAt, Inside, insert, without, nodesWithout}
+use Rattle.table.specs.Shape.{countsOf, size, axesOf, place, table, tabulate, indicesAt, Inside, insert, without, nodesWithout, axisOf}
 use Rattle.table.specs.Table.{frameFault, axesFault}
 use Rattle.lists.specs.Lists.{valueFault, valuesFault}
 use Rattle.table.specs.declared.Shape.{Shape}
@@ -30,7 +30,7 @@ use Rattle.axis.specs.Utils.{axisLocation}
 use Rattle.axis.specs.Locations.{uniformLocation, upperOf}
 use Rattle.ninterp.specs.Linears.{locations, interpolated, linearAnswer, linearUniformAnswer}
 use Rattle.ninterp.specs.Locations.{Within}
-use Rattle.slices.specs.Slices.{axisOf, shapeWithout, pointFault, lowered}
+use Rattle.slices.specs.Slices.{shapeWithout, pointFault, lowered}
 use Rattle.slices.specs.LinearSlices.{alongFirst, linearValues, linearRest, linearSliceFault, linearUniformSliceFault}
 use Rattle.slices.proofs.Alongs.{length-along}
 use Rattle.axis.proofs.Located.{location-fits}

@@ -1,12 +1,10 @@
 -- Demand 1: a refused slice has value +0.0 and leaves the output as it was; what lies beyond the shape is never touched. Assumes nothing.
-use mathlib.Core.Path.{_≡_, refl, ap}
-use mathlib.Core.Bool.{Bool, true, false, cond}
-use mathlib.Core.List.{List, _++_}
+use mathlib.Core.Path.{_≡_}
+use mathlib.Core.Bool.{true, false}
+use mathlib.Core.List.{List}
 use Prim.Native.Nat.{ℕ}
-use lib.ListN.{length, drop}
-use lib.Seq.{drop-at}
 use lib.Ieee.{Float}
-use Rattle.answer.specs.Answer.{plusZero, good, given}
+use Rattle.answer.specs.Answer.{plusZero, good}
 use Rattle.answer.specs.declared.Answer.{Answer}
 use Rattle.answer.proofs.Orders as orders
 use Rattle.table.specs.declared.Shape.{Shape}
@@ -16,7 +14,8 @@ use Rattle.blend.specs.declared.AxisLocation.{AxisLocation}
 use Rattle.axis.specs.Utils.{axisLocation}
 use Rattle.axis.specs.Locations.{uniformLocation}
 use Rattle.slices.specs.LinearSlices.{linearValues, linearRest, linearSliceFault, linearUniformSliceFault}
-use Rattle.slices.specs.Slices.{shapeWithout, noShape, pointFault, nearestSliceFault, stepSliceFault, sliceAnswer, slicedInto}
+use Rattle.slices.specs.Slices.{shapeWithout, pointFault, nearestSliceFault, stepSliceFault, sliceAnswer}
+use Rattle.table.specs.Shape.{noShape}
 use Rattle.uniform.proofs.Bares.{bare-uniform}
 use Rattle.table.proofs.Bares.{bare-length, bare-frame, bare-axes}
 use Rattle.lists.proofs.Bares.{bare-values, bare-directions, bare-reading, bare-range}
@@ -62,15 +61,7 @@ pub no-shape : (a : Answer) (s : Shape) (axis : ℕ) → good a ≡ false → sl
 unfolding sliceAnswer
 no-shape a s axis h = orders.given-bad a (shapeWithout s axis) noShape h
 
--- ---- the output
-pub refused-keeps : (a : Answer) (values out : List Float) → good a ≡ false → slicedInto a values out ≡ out
-unfolding slicedInto given
-refused-keeps a values out h = ap (λ (t : Bool). cond t (values ++ drop (length values) out) out) h
-
-pub beyond-kept : (a : Answer) (values out : List Float) → drop (length values) (slicedInto a values out) ≡ drop (length values) out
-unfolding slicedInto given
-beyond-kept a values out = go (good a)
-  where
-    go : (t : Bool) → drop (length values) (cond t (values ++ drop (length values) out) out) ≡ drop (length values) out
-    go true = drop-at values (drop (length values) out) (length values) refl
-    go false = refl
+-- ---- a slice that is made has the shape that is left
+pub made-shape : (a : Answer) (s : Shape) (axis : ℕ) → good a ≡ true → sliceAnswer a s axis .shape ≡ shapeWithout s axis
+unfolding sliceAnswer
+made-shape a s axis h = orders.given-good a (shapeWithout s axis) noShape h

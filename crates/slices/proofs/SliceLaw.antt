@@ -14,23 +14,22 @@ use Rattle.answer.specs.declared.Answer.{Answer}
 use Rattle.answer.proofs.Orders as orders
 use Rattle.judge.specs.Check.{Axis, directionFault}
 use Rattle.judge.proofs.Rows.{direction-fine, direction-passed}
-use Rattle.table.specs.Shape.{countsOf, size, axesOf, place, table, indicesAt, tabulate, Inside, insert, without, sliceValues, nodesWithout}
+use Rattle.table.specs.Shape.{countsOf, size, axesOf, place, table, indicesAt, tabulate, Inside, insert, without, sliceValues, nodesWithout, axisOf}
 use Rattle.table.specs.Table.{lengthFault, frameFault, axesFault, rangesFault}
 use Rattle.lists.specs.Lists.{valueFault, valuesFault, directionsFault, readingsFault, rangeFault}
 use Rattle.table.specs.declared.Shape.{Shape}
 use Rattle.table.proofs.Shapes.{length-axes}
 use Rattle.table.proofs.Tables.{length-same}
-use Rattle.lists.proofs.Rows.{value-good}
+use Rattle.lists.proofs.Rows.{value-good, values-finite}
 use Rattle.table.proofs.Layouts.{getD-tabulate, place-below, indices-inside}
 use Rattle.table.proofs.Removals.{length-without, getD-without, getD-without-below, length-slice, insert-inside, getD-insert, getD-insert-below, getD-insert-above, tabulate-insert, slice-law}
 use Rattle.table.proofs.Grids.{length-axis}
-use Rattle.lists.proofs.Rows.{values-finite}
 use Rattle.axis.specs.Utils.{stepIndex}
 use Rattle.order.specs.Lookups.{stepFault}
 use Rattle.axis.specs.Picks.{nearestIndex}
 use Rattle.ninterp.specs.Tables.{indices, picked, nearestRule, stepRule, nearestAnswer, stepAnswer}
 use Rattle.fronts.specs.Fronts.{noAxisFault, nearestFront, stepFront}
-use Rattle.slices.specs.Slices.{axisOf, shapeWithout, pointFault, nearestSliceFault, stepSliceFault, ruleSlice, lowered}
+use Rattle.slices.specs.Slices.{shapeWithout, pointFault, nearestSliceFault, stepSliceFault, ruleSlice, lowered}
 use Rattle.axis.proofs.Picks.{step-fits, nearest-fits}
 use Rattle.ninterp.proofs.Picks.{list-inside}
 use Rattle.slices.proofs.Sliced.{Sliceable, nearest-sliceable, step-sliceable, step-axis-lent, point-finite, point-range}

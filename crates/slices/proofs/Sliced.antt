@@ -6,13 +6,13 @@ use Prim.Native.Nat.{ℕ, _≤_, _<_}
 use native.Mathlib.Omega.{arith}
 use lib.ListN.{length, drop, getD}
 use lib.Ieee.{Float, nan}
-use Rattle.answer.specs.Answer.{good, _or_}
+use Rattle.answer.specs.Answer.{good, _or_, filledInto}
 use Rattle.answer.specs.declared.Answer.{Answer}
 use Rattle.answer.proofs.Orders as orders
 use lib.Ieee.Scale.{finite}
-use Rattle.judge.specs.Check.{directionFault, readingFault}
-use Rattle.judge.proofs.Rows.{direction-passed, reading-finite}
-use Rattle.table.specs.Shape.{countsOf, size, without}
+use Rattle.judge.specs.Check.{directionFault, readingFault, roomFault}
+use Rattle.judge.proofs.Rows.{direction-passed, reading-finite, room-passed}
+use Rattle.table.specs.Shape.{countsOf, size, without, axisOf, noShape}
 use Rattle.table.specs.Table.{frameFault, lengthFault, axesFault, Grid}
 use Rattle.lists.specs.Lists.{valuesFault, directionsFault, rangeFault}
 use Rattle.table.specs.declared.Shape.{Shape}
@@ -21,11 +21,9 @@ use Rattle.lists.proofs.Rows.{values-finite}
 use Rattle.table.proofs.Tables.{shape-four, length-passed}
 use Rattle.fronts.specs.Fronts.{noAxisFault, notFirstFault, nearestFront, stepFront, linearFront, linearUniformFront}
 use Rattle.uniform.specs.Uniform.{axesUniformFault}
-use Rattle.slices.specs.Slices.{axisOf, shapeWithout, noShape, pointFault, sliceAnswer, slicedInto}
+use Rattle.slices.specs.Slices.{shapeWithout, pointFault, sliceAnswer}
 use Rattle.slices.specs.declared.SliceAnswer.{SliceAnswer}
 use Rattle.fronts.proofs.Fronts.{axis-many, axis-in, first-many, first-axis}
-use Rattle.judge.specs.Check.{roomFault}
-use Rattle.judge.proofs.Rows.{room-passed}
 
 -- ---- a table that can be sliced on an axis
 pub record Sliceable (s : Shape) (nodes values : List Float) (axis : ℕ) : Type 0 where
@@ -134,12 +132,12 @@ module _ (s : Shape) (axis : ℕ) (r a : Answer) (e : r ≡ a) where
   slice-made h z q = ap₂ (λ (b : Answer) (x : Shape). record { answer = b; shape = x }) e (orders.given-kept r a e (shapeWithout s axis) noShape z h q)
 
   module _ (values out : List Float) where
-    pub out-kept : (r .number ≡ 0 → ⊥) → out ≡ slicedInto a values out
-    unfolding slicedInto
+    pub out-kept : (r .number ≡ 0 → ⊥) → out ≡ filledInto a values out
+    unfolding filledInto
     out-kept h = orders.given-refused r a e (values ++ drop (length values) out) out h
 
-    pub out-written : (n : ℕ) → n ≡ length values → (after : List Float) → r .number ≡ 0 → after ≡ values ++ drop n out → after ≡ slicedInto a values out
-    unfolding slicedInto
+    pub out-written : (n : ℕ) → n ≡ length values → (after : List Float) → r .number ≡ 0 → after ≡ values ++ drop n out → after ≡ filledInto a values out
+    unfolding filledInto
     out-written n l after h q = orders.given-kept r a e (values ++ drop (length values) out) out after h (q ∙ ap (λ (k : ℕ). values ++ drop k out) l)
 
 -- ---- a front that was passed, or not, before the rest of the checks

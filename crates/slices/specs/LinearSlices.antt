@@ -3,9 +3,9 @@ use mathlib.Core.List.{List}
 use Prim.Native.Nat.{ℕ}
 use lib.ListN.{length}
 use lib.Ieee.{Float}
-use Rattle.answer.specs.Answer.{_or_}
+use Rattle.answer.specs.Answer.{_or_, filledInto}
 use Rattle.answer.specs.declared.Answer.{Answer}
-use Rattle.table.specs.Shape.{countsOf, size, tabulate, table, indicesAt, without}
+use Rattle.table.specs.Shape.{countsOf, size, tabulate, table, indicesAt, without, axisOf}
 use Rattle.table.specs.declared.Shape.{Shape}
 use Rattle.fronts.specs.Fronts.{linearFront, linearUniformFront}
 use Rattle.blend.specs.Blend.{sliced}
@@ -13,7 +13,7 @@ use Rattle.runs.specs.Runs.{resultsFault}
 use Rattle.blend.specs.declared.AxisLocation.{AxisLocation}
 use Rattle.axis.specs.Utils.{axisLocation}
 use Rattle.axis.specs.Locations.{uniformLocation}
-use Rattle.slices.specs.Slices.{axisOf, pointFault, sliceAnswer, slicedInto}
+use Rattle.slices.specs.Slices.{pointFault, sliceAnswer}
 use Rattle.slices.specs.declared.SliceAnswer.{SliceAnswer}
 
 -- "Each of its values is what the same rule gives along that axis alone.", at each index list of the other axes
@@ -37,10 +37,10 @@ unfoldable pub linearSlice : Shape → List Float → List Float → ℕ → Flo
 linearSlice s nodes values axis p room = sliceAnswer (linearSliceFault s nodes values axis p room) s axis
 
 unfoldable pub linearSliced : Shape → List Float → List Float → ℕ → Float → List Float → List Float
-linearSliced s nodes values axis p out = slicedInto (linearSliceFault s nodes values axis p (length out)) (linearValues axisLocation s nodes values p) out
+linearSliced s nodes values axis p out = filledInto (linearSliceFault s nodes values axis p (length out)) (linearValues axisLocation s nodes values p) out
 
 unfoldable pub linearUniformSlice : Shape → List Float → List Float → ℕ → Float → ℕ → SliceAnswer
 linearUniformSlice s nodes values axis p room = sliceAnswer (linearUniformSliceFault s nodes values axis p room) s axis
 
 unfoldable pub linearUniformSliced : Shape → List Float → List Float → ℕ → Float → List Float → List Float
-linearUniformSliced s nodes values axis p out = slicedInto (linearUniformSliceFault s nodes values axis p (length out)) (linearValues uniformLocation s nodes values p) out
+linearUniformSliced s nodes values axis p out = filledInto (linearUniformSliceFault s nodes values axis p (length out)) (linearValues uniformLocation s nodes values p) out

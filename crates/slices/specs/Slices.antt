@@ -1,31 +1,23 @@
 -- "A slice removes one axis": the slices of Nearest and Step on any axis, and what they answer and write for every input.
 use mathlib.Core.Bool.{_&&_, _||_, cond}
-use mathlib.Core.List.{List, [], _∷_, _++_}
+use mathlib.Core.List.{List}
 use Prim.Native.Nat.{ℕ, _-_}
 use lib.Dec.{ltb, eqb}
-use lib.ListN.{length, drop, getD}
+use lib.ListN.{length, getD}
 use lib.Ieee.{Float}
-use Rattle.answer.specs.Answer.{_or_, given}
+use Rattle.answer.specs.Answer.{_or_, given, filledInto}
 use Rattle.answer.specs.declared.Answer.{Answer}
-use Rattle.judge.specs.Check.{readingFault}
-use Rattle.table.specs.Shape.{countsOf, size, axesOf, tabulate, without, sliceValues}
+use Rattle.judge.specs.Check.{readingFault, roomFault}
+use Rattle.table.specs.Shape.{countsOf, size, tabulate, without, sliceValues, axisOf, noShape}
 use Rattle.lists.specs.Lists.{rangeFault}
 use Rattle.table.specs.declared.Shape.{Shape}
 use Rattle.fronts.specs.Fronts.{nearestFront, stepFront}
 use Rattle.ninterp.specs.Tables.{nearestRule, stepRule}
 use Rattle.slices.specs.declared.SliceAnswer.{SliceAnswer}
-use Rattle.judge.specs.Check.{roomFault}
-
--- the nodes of one axis
-abbrev pub axisOf : Shape → List Float → ℕ → List Float
-axisOf s nodes axis = getD (axesOf (countsOf s) nodes) axis []
 
 -- "the other axes .. stay, in their order": the shape of what is left, its unused counts zero
 unfoldable pub shapeWithout : Shape → ℕ → Shape
 shapeWithout s axis = record { axes = s .axes - 1; counts = tabulate 4 (λ a. getD (without axis (countsOf s)) a 0) }
-
-abbrev pub noShape : Shape
-noShape = record { axes = 0; counts = 0 ∷ 0 ∷ 0 ∷ 0 ∷ [] }
 
 -- "applies 10 and 11 only to its one reading", then 15
 unfoldable pub pointFault : Shape → List Float → ℕ → Float → ℕ → Answer
@@ -40,12 +32,9 @@ nearestSliceFault s nodes values axis p room = nearestFront s nodes values axis 
 unfoldable pub stepSliceFault : Shape → List Float → List Float → List ℕ → ℕ → Float → ℕ → Answer
 stepSliceFault s nodes values directions axis p room = stepFront s nodes values directions axis or pointFault s nodes axis p room
 
--- the answer with the new shape; the values, and the output's rest as it was; on a refusal nothing is written
+-- the answer with the new shape
 unfoldable pub sliceAnswer : Answer → Shape → ℕ → SliceAnswer
 sliceAnswer a s axis = record { answer = a; shape = given a (shapeWithout s axis) noShape }
-
-unfoldable pub slicedInto : Answer → List Float → List Float → List Float
-slicedInto a values out = given a (values ++ drop (length values) out) out
 
 -- "Each of its values is what the same rule gives along that axis alone."
 unfoldable pub ruleSlice : (ℕ → List Float → Float → ℕ) → Shape → List Float → List Float → ℕ → Float → List Float
@@ -55,14 +44,14 @@ unfoldable pub nearestSlice : Shape → List Float → List Float → ℕ → Fl
 nearestSlice s nodes values axis p room = sliceAnswer (nearestSliceFault s nodes values axis p room) s axis
 
 unfoldable pub nearestSliced : Shape → List Float → List Float → ℕ → Float → List Float → List Float
-nearestSliced s nodes values axis p out = slicedInto (nearestSliceFault s nodes values axis p (length out)) (ruleSlice nearestRule s nodes values axis p) out
+nearestSliced s nodes values axis p out = filledInto (nearestSliceFault s nodes values axis p (length out)) (ruleSlice nearestRule s nodes values axis p) out
 
 unfoldable pub stepSlice : Shape → List Float → List Float → List ℕ → ℕ → Float → ℕ → SliceAnswer
 stepSlice s nodes values directions axis p room = sliceAnswer (stepSliceFault s nodes values directions axis p room) s axis
 
 unfoldable pub stepSliced : Shape → List Float → List Float → List ℕ → ℕ → Float → List Float → List Float
 stepSliced s nodes values directions axis p out =
-    slicedInto (stepSliceFault s nodes values directions axis p (length out)) (ruleSlice (stepRule directions) s nodes values axis p) out
+    filledInto (stepSliceFault s nodes values directions axis p (length out)) (ruleSlice (stepRule directions) s nodes values axis p) out
 
 -- demand 3: "axes in 10 and 11 one lower", those above the removed one
 unfoldable pub lowered : ℕ → Answer → Answer

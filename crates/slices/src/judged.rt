@@ -6,10 +6,11 @@ ghost use Prim.Native.Nat.{ℕ, _+_, _/_, _<_, _≤_};
 ghost use lib.ListN.{length, drop, getD};
 ghost use lib.Ieee.{nan};
 ghost use lib.Ieee.Scale.{finite};
-ghost use Rattle.table.specs.Shape.{countsOf, size, without, sliceValues};
+ghost use Rattle.table.specs.Shape.{countsOf, size, without, sliceValues, axisOf};
 ghost use Rattle.table.specs.Table.{Grid};
 ghost use Rattle.axis.specs.Picks.{pickIndex};
-ghost use Rattle.slices.specs.Slices.{axisOf, pointFault, sliceAnswer, slicedInto};
+ghost use Rattle.slices.specs.Slices.{pointFault, sliceAnswer};
+ghost use Rattle.answer.specs.Answer.{filledInto};
 ghost use Rattle.runs.specs.Runs.{resultsFault};
 ghost use Rattle.axis.specs.Locations.{locationBy};
 ghost use Rattle.slices.specs.LinearSlices.{linearValues, linearRest};
@@ -56,13 +57,13 @@ pub(crate) fn pick_judged(
     out: &mut [f64],
 ) -> SliceAnswer
     requires { ⌜ (Grid (countsOf shape) (now nodes) × ((shape .axes ≤ 4) × (axis < shape .axes))) × ((1 < shape .axes) × (length (now values) ≡ size (countsOf shape))) ⌝ }
-    ensures { λ r. ⌜ (r ≡ sliceAnswer (pointFault shape (now (nodes .entry)) axis point (length (now (out .entry)))) shape axis) × (now (out .exit) ≡ slicedInto (pointFault shape (now (nodes .entry)) axis point (length (now (out .entry)))) (sliceValues axis (pickIndex pick (axisOf shape (now (nodes .entry)) axis) point) (countsOf shape) (now (values .entry))) (now (out .entry))) ⌝ }
+    ensures { λ r. ⌜ (r ≡ sliceAnswer (pointFault shape (now (nodes .entry)) axis point (length (now (out .entry)))) shape axis) × (now (out .exit) ≡ filledInto (pointFault shape (now (nodes .entry)) axis point (length (now (out .entry)))) (sliceValues axis (pickIndex pick (axisOf shape (now (nodes .entry)) axis) point) (countsOf shape) (now (values .entry))) (now (out .entry))) ⌝ }
 {
     let answer = remaining::point_fault(shape, nodes, values.len(), axis, point, out.len());
     if answer.number != 0 {
         return SliceAnswer {
             answer,
-            shape: remaining::no_shape(),
+            shape: table::no_shape(),
         };
     }
     pick_slice(shape, nodes, values, pick, axis, point, out);
@@ -83,7 +84,7 @@ fn along_first(
 ) -> Answer
     requires { ⌜ (Grid (countsOf shape) (now nodes) × ((shape .axes ≤ 4) × (1 < shape .axes))) × ((finite point ≡ true) × ((length (now values) ≡ size (countsOf shape)) × (size (without 0 (countsOf shape)) ≤ length (now out)))) ⌝ }
     requires { ⌜ ((t : ℕ) → t < length (now values) → finite (getD (now values) t nan) ≡ true) ⌝ }
-    ensures { λ r. ⌜ (r ≡ resultsFault (linearValues (locationBy uniform) shape (now (nodes .entry)) (now (values .entry)) point)) × (now (out .exit) ≡ slicedInto (resultsFault (linearValues (locationBy uniform) shape (now (nodes .entry)) (now (values .entry)) point)) (linearValues (locationBy uniform) shape (now (nodes .entry)) (now (values .entry)) point) (now (out .entry))) ⌝ }
+    ensures { λ r. ⌜ (r ≡ resultsFault (linearValues (locationBy uniform) shape (now (nodes .entry)) (now (values .entry)) point)) × (now (out .exit) ≡ filledInto (resultsFault (linearValues (locationBy uniform) shape (now (nodes .entry)) (now (values .entry)) point)) (linearValues (locationBy uniform) shape (now (nodes .entry)) (now (values .entry)) point) (now (out .entry))) ⌝ }
 {
     let counts = shape.counts;
     let n = counts[0];
@@ -107,20 +108,20 @@ pub(crate) fn linear_judged(
     out: &mut [f64],
 ) -> SliceAnswer
     requires { ⌜ (Grid (countsOf shape) (now nodes) × ((shape .axes ≤ 4) × (1 < shape .axes))) × ((length (now values) ≡ size (countsOf shape)) × ((t : ℕ) → t < length (now values) → finite (getD (now values) t nan) ≡ true)) ⌝ }
-    ensures { λ r. ⌜ (r ≡ sliceAnswer (linearRest (locationBy uniform) shape (now (nodes .entry)) (now (values .entry)) 0 point (length (now (out .entry)))) shape 0) × (now (out .exit) ≡ slicedInto (linearRest (locationBy uniform) shape (now (nodes .entry)) (now (values .entry)) 0 point (length (now (out .entry)))) (linearValues (locationBy uniform) shape (now (nodes .entry)) (now (values .entry)) point) (now (out .entry))) ⌝ }
+    ensures { λ r. ⌜ (r ≡ sliceAnswer (linearRest (locationBy uniform) shape (now (nodes .entry)) (now (values .entry)) 0 point (length (now (out .entry)))) shape 0) × (now (out .exit) ≡ filledInto (linearRest (locationBy uniform) shape (now (nodes .entry)) (now (values .entry)) 0 point (length (now (out .entry)))) (linearValues (locationBy uniform) shape (now (nodes .entry)) (now (values .entry)) point) (now (out .entry))) ⌝ }
 {
     let fault = remaining::point_fault(shape, nodes, values.len(), 0, point, out.len());
     if fault.number != 0 {
         return SliceAnswer {
             answer: fault,
-            shape: remaining::no_shape(),
+            shape: table::no_shape(),
         };
     }
     let answer = along_first(uniform, shape, nodes, values, point, out);
     if answer.number != 0 {
         return SliceAnswer {
             answer,
-            shape: remaining::no_shape(),
+            shape: table::no_shape(),
         };
     }
     SliceAnswer {

@@ -33,7 +33,7 @@ pub fn nearest(
     if answer.number != 0 {
         return SliceAnswer {
             answer,
-            shape: remaining::no_shape(),
+            shape: table::no_shape(),
         };
     }
     judged::pick_judged(shape, nodes, values, 2, axis, point, out)
@@ -55,7 +55,7 @@ pub fn step(
     if answer.number != 0 {
         return SliceAnswer {
             answer,
-            shape: remaining::no_shape(),
+            shape: table::no_shape(),
         };
     }
     let pick = directions[axis];
@@ -77,7 +77,7 @@ pub fn linear(
     if answer.number != 0 {
         return SliceAnswer {
             answer,
-            shape: remaining::no_shape(),
+            shape: table::no_shape(),
         };
     }
     judged::linear_judged(false, shape, nodes, values, point, out)
@@ -98,7 +98,7 @@ pub fn linear_uniform(
     if answer.number != 0 {
         return SliceAnswer {
             answer,
-            shape: remaining::no_shape(),
+            shape: table::no_shape(),
         };
     }
     judged::linear_judged(true, shape, nodes, values, point, out)

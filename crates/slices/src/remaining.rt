@@ -6,7 +6,7 @@ ghost use lib.Dec.{ltb};
 ghost use lib.ListN.{take, drop, getD};
 ghost use Rattle.table.specs.Shape.{countsOf, size, total, without};
 ghost use Rattle.table.specs.Table.{Grid};
-ghost use Rattle.slices.specs.Slices.{shapeWithout, noShape, pointFault};
+ghost use Rattle.slices.specs.Slices.{shapeWithout, pointFault};
 use answer::Answer;
 use table::Shape;
 
@@ -39,15 +39,6 @@ pub(crate) fn shape_without(shape: Shape, axis: usize) -> Shape
     Shape {
         axes: shape.axes - 1,
         counts: [a, b, c, d],
-    }
-}
-
-pub(crate) fn no_shape() -> Shape
-    ensures { λ r. ⌜ r ≡ noShape ⌝ }
-{
-    Shape {
-        axes: 0,
-        counts: [0; 4],
     }
 }
 

@@ -7,7 +7,7 @@ ghost use lib.Dec.{eqb};
 ghost use lib.ListN.{length, take, drop, getD};
 ghost use lib.Ieee.{nan};
 ghost use Rattle.table.specs.Shape.{tabulate};
-ghost use Rattle.slices.specs.Slices.{slicedInto};
+ghost use Rattle.answer.specs.Answer.{filledInto};
 ghost use Rattle.runs.specs.Runs.{blends, resultsFault};
 use answer::Answer;
 
@@ -58,7 +58,7 @@ pub(crate) fn blend_runs(
     out: &mut [f64],
 ) -> Answer
     requires { ⌜ (lower * rest + rest + rest ≤ length (now values)) × ((length (now values) ≤ 4096) × (rest ≤ length (now out))) ⌝ }
-    ensures { λ r. ⌜ (r ≡ resultsFault (blends frac (take rest (drop (lower * rest) (now (values .entry)))) (take rest (drop (lower * rest + rest) (now (values .entry)))))) × (now (out .exit) ≡ slicedInto (resultsFault (blends frac (take rest (drop (lower * rest) (now (values .entry)))) (take rest (drop (lower * rest + rest) (now (values .entry)))))) (blends frac (take rest (drop (lower * rest) (now (values .entry)))) (take rest (drop (lower * rest + rest) (now (values .entry))))) (now (out .entry))) ⌝ }
+    ensures { λ r. ⌜ (r ≡ resultsFault (blends frac (take rest (drop (lower * rest) (now (values .entry)))) (take rest (drop (lower * rest + rest) (now (values .entry)))))) × (now (out .exit) ≡ filledInto (resultsFault (blends frac (take rest (drop (lower * rest) (now (values .entry)))) (take rest (drop (lower * rest + rest) (now (values .entry)))))) (blends frac (take rest (drop (lower * rest) (now (values .entry)))) (take rest (drop (lower * rest + rest) (now (values .entry))))) (now (out .entry))) ⌝ }
 {
     let start = lower * rest;
     let middle = start + rest;

@@ -1,6 +1,6 @@
 -- Index lists with one axis put in or left out: where a slice's values lie, the slice law, and that two slices commute. Assumes nothing.
 use mathlib.Core.Path.{_≡_, refl, sym, ap, ap₂, _∙_, subst}
-use mathlib.Core.List.{List, [], _∷_}
+use mathlib.Core.List.{List, [], _∷_, _++_}
 use Prim.Native.Nat.{ℕ, zero, suc, _+_, _*_, _/_, _%_, _≤_, _<_}
 use native.Mathlib.Nat.{div-add-mod', mod-lt, mul-assoc, one-mul, zero-mul}
 use native.Mathlib.Omega.{arith}
@@ -223,3 +223,20 @@ tabulate-insert n zero f g h b a = ap (λ r. f 0 ∷ r) (tabulate-same n (λ j. 
 tabulate-insert zero (suc k) f g h b a = absurd (omega arith)
 tabulate-insert (suc n) (suc k) f g h b a =
     ap₂ (λ x xs. x ∷ xs) (b 0 (omega arith)) (tabulate-insert n k (λ j. f (suc j)) (λ j. g (suc j)) (omega arith) (λ j l. b (suc j) (omega arith)) (λ j l m. a (suc j) (omega arith) (omega arith)))
+
+-- ---- the nodes that two slices leave
+pub nodes-comm : (k m : ℕ) (ns : List ℕ) (xs : List Float) → k ≤ m → length xs ≡ total ns → nodesWithout m (without k ns) (nodesWithout k ns xs) ≡ nodesWithout k (without (suc m) ns) (nodesWithout (suc m) ns xs)
+unfolding nodesWithout total
+nodes-comm k m [] xs a h = refl
+nodes-comm zero m (n ∷ ns) xs a h = sym (drop-at (take n xs) (nodesWithout m ns (drop n xs)) n (length-take-le n xs (omega arith)))
+nodes-comm (suc k) zero (n ∷ ns) xs a h = absurd (omega arith)
+nodes-comm (suc k) (suc m) (n ∷ ns) xs a h =
+    beside (nodesWithout k ns (drop n xs)) (λ ys. nodesWithout m (without k ns) ys)
+    ∙ ap (λ ys. take n xs ++ ys) (nodes-comm k m ns (drop n xs) (omega arith) (omega (arith, length-drop n xs)))
+    ∙ sym (beside (nodesWithout (suc m) ns (drop n xs)) (λ ys. nodesWithout k (without (suc m) ns) ys))
+  where
+    first : length (take n xs) ≡ n
+    first = length-take-le n xs (omega arith)
+
+    beside : (ys : List Float) (f : List Float → List Float) → take n (take n xs ++ ys) ++ f (drop n (take n xs ++ ys)) ≡ take n xs ++ f ys
+    beside ys f = ap₂ (λ us vs. us ++ f vs) (take-at (take n xs) ys n first) (drop-at (take n xs) ys n first)

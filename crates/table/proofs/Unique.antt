@@ -3,6 +3,8 @@ use mathlib.Core.Path.{_≡_}
 use Prim.Native.Nat.{ℕ}
 use Rattle.answer.proofs.Outcome.{one-outcome}
 use Rattle.answer.specs.declared.Answer.{Answer}
+use Rattle.table.specs.declared.Shape.{Shape}
+use Rattle.table.proofs.no_shape.Reads as no-shape
 use Rattle.table.proofs.shape_fault.Reads as shape-fault
 use Rattle.table.proofs.sizes.Reads as sizes
 use Rattle.table.specs.declared.Holding.{Holding}
@@ -36,3 +38,6 @@ axes-fault-unique κs a r s x y p q = one-outcome r s _ p q
 
 pub ranges-fault-unique : (κs : _) (a : _) (r s : Answer) (x y : _) → ranges-fault.Post κs a r x → ranges-fault.Post κs a s y → r ≡ s
 ranges-fault-unique κs a r s x y p q = one-outcome r s _ p q
+
+pub no-shape-unique : (κs : _) (a : _) (r s : Shape) (x y : _) → no-shape.Post κs a r x → no-shape.Post κs a s y → r ≡ s
+no-shape-unique κs a r s x y p q = one-outcome r s _ p q

@@ -24,6 +24,14 @@ unfoldable pub axesOf : List ℕ → List Float → List (List Float)
 axesOf [] nodes = []
 axesOf (n ∷ ns) nodes = take n nodes ∷ axesOf ns (drop n nodes)
 
+-- the nodes of one axis
+abbrev pub axisOf : Shape → List Float → ℕ → List Float
+axisOf s nodes axis = getD (axesOf (countsOf s) nodes) axis []
+
+-- "any .. shape it would give is zero"
+abbrev pub noShape : Shape
+noShape = record { axes = 0; counts = 0 ∷ 0 ∷ 0 ∷ 0 ∷ [] }
+
 -- "values lie flat, last axis fastest": the strides, and where an index list lies by them
 unfoldable pub strides : List ℕ → List ℕ
 strides [] = []

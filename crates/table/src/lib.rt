@@ -4,7 +4,7 @@ ghost use Prim.Native.Nat.{ℕ, _+_, _-_, _<_, _≤_, min};
 ghost use lib.ListN.{getD};
 ghost use Rattle.answer.specs.Answer.{firstOf};
 ghost use Rattle.judge.specs.Check.{countFault};
-ghost use Rattle.table.specs.Shape.{countsOf, size, total};
+ghost use Rattle.table.specs.Shape.{countsOf, noShape, size, total};
 ghost use Rattle.table.specs.Table.{shapeFault, sizesOf, lengthFault, frameFault, axesFault, rangesFault};
 use answer::Answer;
 
@@ -12,6 +12,16 @@ use answer::Answer;
 pub struct Shape {
     pub axes: usize,
     pub counts: [usize; 4],
+}
+
+// The shape that a refusal gives.
+pub fn no_shape() -> Shape
+    ensures { λ r. ⌜ r ≡ noShape ⌝ }
+{
+    Shape {
+        axes: 0,
+        counts: [0; 4],
+    }
 }
 
 // ---- 1, 2, 3

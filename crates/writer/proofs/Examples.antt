@@ -1,15 +1,14 @@
 -- The image of the paper's example, written, and bits that are kept, by computation.
 use mathlib.Core.Path.{_≡_, refl}
 use mathlib.Core.Bool.{false, true}
-use mathlib.Core.List.{List, [], _∷_}
-use Prim.Native.Nat.{ℕ}
+use mathlib.Core.List.{[], _∷_}
 use lib.IntN.{pos, negsuc}
-use lib.Ieee.{Float, fin, toBits}
+use lib.Ieee.{fin, toBits}
 use Rattle.table.specs.Shape.{size, total}
 use Rattle.table.specs.declared.Shape.{Shape}
 use Rattle.words.specs.Words.{toBytes}
 use Rattle.image.proofs.Examples.{img}
-use Rattle.writer.specs.Made.{axisAt, valuesAt, imageLength, countIn, offsetIn, headerFields, fieldBytes, floatBytes, imageOf}
+use Rattle.writer.specs.Made.{axisAt, valuesAt, imageLength, countIn, offsetIn, floatBytes, imageOf}
 
 -- one axis of two nodes; what stands past the axis is not looked at
 abbrev shape : Shape

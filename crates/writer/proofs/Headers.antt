@@ -1,14 +1,12 @@
 -- The header of a judged shape: its counts and offsets, one axis after the other. Assumes nothing.
 use mathlib.Core.Path.{_≡_, refl, sym, ap, ap₂, _∙_}
 use mathlib.Core.Bool.{Bool, true, false, cond}
-use mathlib.Core.Logic.{_⊎_, inl, inr}
-use mathlib.Core.List.{List, [], _∷_, _++_}
+use mathlib.Core.List.{List, [], _∷_}
 use Prim.Native.Nat.{ℕ, zero, suc, _+_, _*_, _%_, _≤_, _<_, zero-le}
 use native.Mathlib.Omega.{arith}
-use lib.ListN.{length, take, drop, getD, length-take, length-append}
+use lib.ListN.{length, take, getD, length-take, List·getD-eq-default}
 use borrow.Author.Tests.{ltb-true, ltb-false}
 use lib.Dec.{ltb}
-use lib.ListN.{List·getD-eq-default}
 use lib.Seq.{getD-take, take-all, ext-getD}
 use Rattle.answer.specs.Answer.{good}
 use Rattle.table.specs.Shape.{countsOf, size, total, tabulate}
@@ -16,10 +14,8 @@ use Rattle.table.specs.Table.{shapeFault}
 use Rattle.table.specs.declared.Shape.{Shape}
 use Rattle.table.proofs.Tables.{shape-four, shape-few, shape-size}
 use Rattle.table.proofs.Layouts.{getD-tabulate, length-tabulate}
-use Rattle.words.proofs.Bytes.{length-bytes}
-use Rattle.words.specs.Words.{toBytes}
 use Rattle.image.proofs.Floats.{total-small}
-use Rattle.writer.specs.Made.{axisAt, valuesAt, imageLength, countIn, offsetIn, headerFields, fieldBytes}
+use Rattle.writer.specs.Made.{axisAt, valuesAt, imageLength, countIn, offsetIn, headerFields}
 use Rattle.writer.specs.Fields.{pairs, widths}
 use Rattle.writer.specs.Write.{plain}
 

@@ -1,14 +1,13 @@
 -- Writing: accepted exactly where every check is passed. Assumes nothing.
-use mathlib.Core.Path.{_≡_, refl, sym, ap, _∙_}
+use mathlib.Core.Path.{_≡_}
 use mathlib.Core.Bool.{true}
 use mathlib.Core.List.{List}
 use Prim.Native.Nat.{ℕ, _≤_}
 use lib.ListN.{length}
 use lib.Ieee.{Float}
-use Rattle.answer.specs.Answer.{good, _or_}
-use Rattle.answer.specs.declared.Answer.{Answer}
+use Rattle.answer.specs.Answer.{good}
 use Rattle.answer.proofs.Orders as orders
-use Rattle.table.specs.Shape.{countsOf, size, total}
+use Rattle.table.specs.Shape.{countsOf}
 use Rattle.table.specs.Table.{frameFault, axesFault}
 use Rattle.lists.specs.Lists.{valuesFault}
 use Rattle.table.specs.declared.Shape.{Shape}

@@ -1,26 +1,25 @@
 -- The image of a judged table, read: its fields, its shape, its nodes and values. Assumes nothing.
-use mathlib.Core.Path.{_≡_, refl, sym, ap, ap₂, _∙_, subst}
+use mathlib.Core.Path.{_≡_, refl, sym, ap, ap₂, _∙_}
 use mathlib.Core.Bool.{Bool, true, false, cond}
 use mathlib.Core.List.{List, [], _∷_, _++_, append-assoc, append-nil}
-use Prim.Native.Nat.{ℕ, zero, suc, _+_, _-_, _*_, _^_, _≤_, _<_}
+use Prim.Native.Nat.{ℕ, zero, suc, _+_, _*_, _≤_, _<_}
 use native.Mathlib.Omega.{arith}
 use borrow.Author.Tests.{lt-ltb, le-ltb}
 use lib.Dec.{ltb}
-use lib.ListN.{List·getD-eq-default}
-use lib.ListN.{length, take, drop, getD, length-take, length-append, drop-of-length-le}
-use lib.Seq.{take-all, drop-cons}
+use lib.ListN.{List·getD-eq-default, length, drop, getD, length-take, length-append, drop-of-length-le}
+use lib.Seq.{drop-cons}
 use lib.Ieee.{Float}
 use Rattle.answer.specs.Answer.{good}
 use Rattle.table.specs.Shape.{countsOf, size, total, tabulate}
 use Rattle.table.specs.Table.{shapeFault}
 use Rattle.table.specs.declared.Shape.{Shape}
-use Rattle.table.proofs.Tables.{shape-some, shape-four, shape-few}
+use Rattle.table.proofs.Tables.{shape-four}
 use Rattle.image.specs.Image.{axesField, countField, offsetField, valuesField, shapeOf, floatsAt, nodesFrom, nodesIn, valuesIn}
 use Rattle.words.specs.Words.{wordAt}
 use Rattle.writer.specs.Made.{axisAt, valuesAt, imageLength, countIn, offsetIn, headerFields, fieldBytes, floatBytes, imageOf}
 use Rattle.writer.specs.Write.{plain}
-use Rattle.writer.proofs.Headers.{count-in, next-at, values-after, length-small, at-before, values-before, count-in-few}
-use Rattle.writer.proofs.Images.{length-header, length-floats, length-image}
+use Rattle.writer.proofs.Headers.{count-in, next-at, length-small, at-before, values-before, count-in-few}
+use Rattle.writer.proofs.Images.{length-header, length-floats}
 use Rattle.writer.proofs.Back.{Fit, Fields, fields-back, Held, floats-back, floats-add}
 
 pub count-some-of : (s : Shape) (a : ℕ) → countIn s a ≡ getD (countsOf s) a 0

@@ -1,21 +1,20 @@
 -- "Writing and loading returns the table; loading and writing gives an image that loads the same." Assumes nothing.
 use mathlib.Core.Path.{_≡_, refl, sym, ap, ap₂, _∙_, subst}
-use mathlib.Core.Bool.{Bool, true, false, cond}
-use mathlib.Core.List.{List, [], _∷_, _++_}
+use mathlib.Core.Bool.{Bool, true, false}
+use mathlib.Core.List.{List, _++_}
 use Prim.Native.Nat.{ℕ, zero, suc, _+_, _-_, _*_, _%_, _≤_, _<_}
 use native.Mathlib.Omega.{arith}
 use borrow.Author.Tests.{ltb-true, ltb-false, le-ltb}
 use lib.Dec.{ltb}
-use lib.ListN.{length, take, drop, getD, length-take}
+use lib.ListN.{length, take, drop, getD}
 use lib.Seq.{getD-take, take-at}
 use lib.Ieee.{Float, binary64}
 use lib.Ieee.Fits.{nan-fits}
-use Rattle.answer.specs.Answer.{fine, good, _or_, firstOf, given}
+use Rattle.answer.specs.Answer.{fine, good, _or_, firstOf, given, filledInto}
 use Rattle.answer.specs.declared.Answer.{Answer}
 use Rattle.answer.proofs.Orders as orders
-use Rattle.judge.specs.Check.{countFault}
-use Rattle.judge.proofs.Rows.{count-fine}
-use Rattle.table.specs.Shape.{countsOf, size, total, tabulate}
+use Rattle.judge.proofs.Rows.{count-fine, room-enough}
+use Rattle.table.specs.Shape.{countsOf, size, total, tabulate, noShape}
 use Rattle.table.specs.Table.{shapeFault, lengthFault, frameFault, axesFault}
 use Rattle.lists.specs.Lists.{valueFault, valuesFault}
 use Rattle.table.specs.declared.Shape.{Shape}
@@ -23,22 +22,19 @@ use Rattle.table.proofs.Layouts.{getD-tabulate, tabulate-same}
 use Rattle.table.proofs.Tables.{length-same, shape-some, shape-four, shape-enough, shape-few, shape-size}
 use Rattle.words.specs.Words.{wordAt}
 use Rattle.image.specs.Image.{axesField, countField, offsetField, valuesField, shapeOf, floatsAt, nodesFrom, nodesIn, valuesIn}
-use Rattle.image.specs.Load.{fieldFault, shortFault, axesRow, lengthRow, startFault, countRow, productRow, offsetRow, headFault, areaFault, areasFault, roomsFault, contentsFault, loadFault, noShape, loadAnswer, filledInto}
-use Rattle.image.specs.declared.LoadAnswer.{LoadAnswer}
+use Rattle.image.specs.Load.{fieldFault, shortFault, axesRow, startFault, countRow, productRow, offsetRow, headFault, areaFault, areasFault, roomsFault, contentsFault, loadFault, loadAnswer}
 use Rattle.image.proofs.Floats.{nodes-total, values-size}
 use Rattle.image.proofs.Heads.{unused-zero}
 use Rattle.image.proofs.Laws.{Loadable, load-means, loaded-shape}
 use Rattle.image.proofs.Rows.{field-right, short-right, axes-right, length-right, area-right, count-used, count-unused}
-use Rattle.writer.specs.Made.{axisAt, valuesAt, imageLength, countIn, offsetIn, imageOf}
+use Rattle.writer.specs.Made.{axisAt, imageLength, countIn, imageOf}
 use Rattle.writer.specs.Write.{writeFault, writeAnswer, plain, written}
-use Rattle.writer.specs.declared.WriteAnswer.{WriteAnswer}
 use Rattle.writer.proofs.Headers.{first-at, next-at, axis-after, at-before, values-after, values-end, values-before, length-small, count-in}
 use Rattle.writer.proofs.Images.{length-image}
-use Rattle.writer.proofs.Writes.{written-shape, written-nodes, written-values, written-axes, written-stored, written-room, written-fits}
+use Rattle.writer.proofs.Writes.{written-shape, written-nodes, written-values, written-axes, written-stored}
 use Rattle.writer.proofs.Back.{Held, floats-held, held-append}
 use Rattle.writer.proofs.Made as made
 use Rattle.judge.specs.Check.{roomFault}
-use Rattle.judge.proofs.Rows.{room-enough}
 
 passed : (a : Answer) → fine ≡ a → good a ≡ true
 passed a e = orders.passed-fine a e

@@ -1,16 +1,16 @@
 -- What writing answers and writes, put together. Assumes nothing.
-use mathlib.Core.Path.{_≡_, refl, sym, ap, ap₂, _∙_}
+use mathlib.Core.Path.{_≡_, ap₂}
 use mathlib.Core.Bool.{true}
 use mathlib.Core.List.{List}
 use Prim.Native.Nat.{ℕ, _≤_}
 use native.Mathlib.Omega.{arith}
 use lib.ListN.{length}
 use lib.Ieee.{Float}
-use Rattle.answer.specs.Answer.{good, _or_, given}
+use Rattle.answer.specs.Answer.{good, _or_}
 use Rattle.answer.specs.declared.Answer.{Answer}
 use Rattle.answer.proofs.Orders as orders
 use Rattle.table.specs.Shape.{countsOf, size, total}
-use Rattle.table.specs.Table.{shapeFault, lengthFault, frameFault, axesFault}
+use Rattle.table.specs.Table.{shapeFault, frameFault, axesFault}
 use Rattle.lists.specs.Lists.{valuesFault}
 use Rattle.table.specs.declared.Shape.{Shape}
 use Rattle.table.proofs.Grids.{frame-shape, frame-nodes, frame-values}

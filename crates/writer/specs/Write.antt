@@ -3,9 +3,8 @@ use mathlib.Core.List.{List}
 use Prim.Native.Nat.{ℕ}
 use lib.ListN.{length, take}
 use lib.Ieee.{Float}
-use Rattle.answer.specs.Answer.{_or_, given}
+use Rattle.answer.specs.Answer.{_or_, given, filledInto}
 use Rattle.answer.specs.declared.Answer.{Answer}
-use Rattle.image.specs.Load.{filledInto}
 use Rattle.table.specs.Shape.{countsOf, tabulate}
 use Rattle.table.specs.Table.{frameFault, axesFault}
 use Rattle.lists.specs.Lists.{valuesFault}

@@ -5,7 +5,7 @@ ghost use Prim.Native.Nat.{_≤_};
 ghost use lib.ListN.{length};
 ghost use lib.Seq.{sets};
 ghost use Rattle.answer.specs.Answer.{good};
-ghost use Rattle.image.specs.Load.{filledInto};
+ghost use Rattle.answer.specs.Answer.{filledInto};
 ghost use Rattle.table.specs.Shape.{countsOf, size, total};
 ghost use Rattle.table.specs.Table.{shapeFault};
 ghost use Rattle.writer.specs.Made.{imageLength, imageOf};

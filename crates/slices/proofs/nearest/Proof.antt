@@ -10,7 +10,9 @@ use Rattle.answer.proofs.Orders.{passes}
 use Rattle.table.specs.Shape.{countsOf, sliceValues}
 use Rattle.table.proofs.Shapes.{length-ids}
 use Rattle.fronts.specs.Fronts.{nearestFront}
-use Rattle.slices.specs.Slices.{axisOf, pointFault, nearestSliceFault, sliceAnswer, slicedInto, ruleSlice, nearestSlice, nearestSliced}
+use Rattle.table.specs.Shape.{axisOf}
+use Rattle.slices.specs.Slices.{pointFault, nearestSliceFault, sliceAnswer, ruleSlice, nearestSlice, nearestSliced}
+use Rattle.answer.specs.Answer.{filledInto}
 use Rattle.ninterp.proofs.Lookups.{is-nearest}
 use Rattle.slices.proofs.Sliced.{Sliceable, nearest-sliceable, slice-refused, out-kept, front-passed, front-refused}
 use borrow.Author.Needs.{needs}
@@ -60,7 +62,7 @@ returns-2 c =
     let f = e .before .before in
     let s = start f in
     let p = front-passed (s .args .shape) (s .args .axis) _ _ (pointFault (s .args .shape) (now (s .args .nodes)) (s .args .axis) (s .args .point) (length (now (s .args .out)))) (f .nearest-front .ensures) (e .if1 .left) in
-    (z .pick-judged .ensures .0 ∙ ap (λ (a : Answer). sliceAnswer a (s .args .shape) (s .args .axis)) p, z .pick-judged .ensures .1 ∙ ap₂ (λ (a : Answer) (i : ℕ). slicedInto a (sliceValues (s .args .axis) i (countsOf (s .args .shape)) (now (s .args .values))) (now (s .args .out))) p (is-nearest 2 (axisOf (s .args .shape) (now (s .args .nodes)) (s .args .axis)) (s .args .point) (omega arith)))
+    (z .pick-judged .ensures .0 ∙ ap (λ (a : Answer). sliceAnswer a (s .args .shape) (s .args .axis)) p, z .pick-judged .ensures .1 ∙ ap₂ (λ (a : Answer) (i : ℕ). filledInto a (sliceValues (s .args .axis) i (countsOf (s .args .shape)) (now (s .args .values))) (now (s .args .out))) p (is-nearest 2 (axisOf (s .args .shape) (now (s .args .nodes)) (s .args .axis)) (s .args .point) (omega arith)))
 
 pub nearest-spec : {M : Type 1} → statement M
 nearest-spec =

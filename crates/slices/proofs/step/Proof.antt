@@ -10,7 +10,9 @@ use Rattle.answer.proofs.Orders.{passes}
 use Rattle.table.specs.Shape.{countsOf, sliceValues}
 use Rattle.table.proofs.Shapes.{length-ids}
 use Rattle.fronts.specs.Fronts.{stepFront}
-use Rattle.slices.specs.Slices.{axisOf, pointFault, stepSliceFault, sliceAnswer, slicedInto, ruleSlice, stepSlice, stepSliced}
+use Rattle.table.specs.Shape.{axisOf}
+use Rattle.slices.specs.Slices.{pointFault, stepSliceFault, sliceAnswer, ruleSlice, stepSlice, stepSliced}
+use Rattle.answer.specs.Answer.{filledInto}
 use Rattle.ninterp.proofs.Lookups.{is-step}
 use Rattle.slices.proofs.Sliced.{Sliceable, step-sliceable, step-axis-lent, step-axis-direction, slice-refused, out-kept, front-passed, front-refused}
 use borrow.Author.Needs.{needs}
@@ -63,7 +65,7 @@ returns-2 c =
     let f = e .before .before in
     let s = start f in
     let p = front-passed (s .args .shape) (s .args .axis) _ _ (pointFault (s .args .shape) (now (s .args .nodes)) (s .args .axis) (s .args .point) (length (now (s .args .out)))) (f .step-front .ensures) (e .if1 .left) in
-    (z .pick-judged .ensures .0 ∙ ap (λ (a : Answer). sliceAnswer a (s .args .shape) (s .args .axis)) p, z .pick-judged .ensures .1 ∙ ap₂ (λ (a : Answer) (i : ℕ). slicedInto a (sliceValues (s .args .axis) i (countsOf (s .args .shape)) (now (s .args .values))) (now (s .args .out))) p (is-step (getD (now (s .args .directions)) (s .args .axis) 0) (axisOf (s .args .shape) (now (s .args .nodes)) (s .args .axis)) (s .args .point) (step-axis-direction (s .args .shape) (four s) (now (s .args .nodes)) (now (s .args .values)) (s .args .axis) (now (s .args .directions)) (passed e))))
+    (z .pick-judged .ensures .0 ∙ ap (λ (a : Answer). sliceAnswer a (s .args .shape) (s .args .axis)) p, z .pick-judged .ensures .1 ∙ ap₂ (λ (a : Answer) (i : ℕ). filledInto a (sliceValues (s .args .axis) i (countsOf (s .args .shape)) (now (s .args .values))) (now (s .args .out))) p (is-step (getD (now (s .args .directions)) (s .args .axis) 0) (axisOf (s .args .shape) (now (s .args .nodes)) (s .args .axis)) (s .args .point) (step-axis-direction (s .args .shape) (four s) (now (s .args .nodes)) (now (s .args .values)) (s .args .axis) (now (s .args .directions)) (passed e))))
 
 pub step-spec : {M : Type 1} → statement M
 step-spec =

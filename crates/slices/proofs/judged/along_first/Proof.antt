@@ -11,7 +11,8 @@ use Rattle.blend.specs.declared.AxisLocation.{AxisLocation}
 use Rattle.blend.specs.declared.AxisLocation.the-variants.{Exact, Between}
 use Rattle.axis.specs.Locations.{locationIndex}
 use Rattle.axis.specs.Locations.{locationBy, upperOf}
-use Rattle.slices.specs.Slices.{axisOf, noShape, slicedInto}
+use Rattle.table.specs.Shape.{axisOf, noShape}
+use Rattle.answer.specs.Answer.{filledInto}
 use Rattle.slices.specs.LinearSlices.{alongFirst, linearValues}
 use Rattle.slices.proofs.Slices.{few-at, some-at, axis-ends, axis-lies, slice-count, part-axis, part-index, inner-some, inner-few, fill-room, fill-reads, fill-result}
 use Rattle.slices.proofs.Sliced.{out-written}
@@ -196,7 +197,7 @@ returns-2 c =
     let same =
     along-between cs (now (s .args .values)) (rest s) _ _ (omega (arith, length-take-le (s .args .shape .axes) (C s) (long s), first s)) (rest-is s) (runs-there k)
     ∙ ap (λ (q : AxisLocation). alongFirst q (countsOf (s .args .shape)) (now (s .args .values))) (sym (k .before .location .given .1) ∙ found b) in
-    (z .blend-runs .ensures .0 ∙ ap resultsFault same, z .blend-runs .ensures .1 ∙ ap (λ (xs : List Float). slicedInto (resultsFault xs) xs (now (s .args .out))) same)
+    (z .blend-runs .ensures .0 ∙ ap resultsFault same, z .blend-runs .ensures .1 ∙ ap (λ (xs : List Float). filledInto (resultsFault xs) xs (now (s .args .out))) same)
 
 pub along-first-spec : {M : Type 1} → statement M
 along-first-spec =

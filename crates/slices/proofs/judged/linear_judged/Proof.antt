@@ -2,7 +2,7 @@ use Rattle.answer.specs.declared.Answer.{Answer}
 use Rattle.answer.proofs.Orders.{passes}
 use Rattle.runs.specs.Runs.{resultsFault}
 use Rattle.axis.specs.Locations.{locationBy}
-use Rattle.slices.specs.Slices.{slicedInto}
+use Rattle.answer.specs.Answer.{filledInto}
 use Rattle.slices.specs.LinearSlices.{linearValues, linearRest}
 use Rattle.slices.proofs.Sliced.{slice-refused, slice-made, out-kept, front-passed, front-refused, point-finite, point-room}
 use mathlib.Core.Path.{_≡_, refl, sym, ap, ap₂, _∙_, subst}
@@ -18,7 +18,7 @@ use Rattle.slices.proofs.judged.linear_judged.Tie as tie
 use Rattle.slices.proofs.judged.linear_judged.Reads as reads
 use Rattle.slices.proofs.judged.linear_judged.Lts as lts
 use Rattle.slices.proofs.judged.along_first.Reads as along-first-reads
-use Rattle.slices.proofs.remaining.no_shape.Reads as no-shape-reads
+use Rattle.table.proofs.no_shape.Reads as no-shape-reads
 use Rattle.slices.proofs.remaining.point_fault.Reads as point-fault-reads
 use Rattle.slices.proofs.remaining.shape_without.Reads as shape-without-reads
 
@@ -68,7 +68,7 @@ returns-2 c =
     let f = e .before .before in
     let s = start f in
     let p = front-passed (s .args .shape) 0 _ _ (results f) (f .point-fault .ensures) (e .if1 .left) in
-    (slice-refused _ _ _ _ (z .along-first .ensures .0 ∙ p) (h .if2 .taken) _ (c .no-shape2 .ensures), z .along-first .ensures .1 ∙ ap (λ (a : Answer). slicedInto a (blended-values f) (now (s .args .out))) p)
+    (slice-refused _ _ _ _ (z .along-first .ensures .0 ∙ p) (h .if2 .taken) _ (c .no-shape2 .ensures), z .along-first .ensures .1 ∙ ap (λ (a : Answer). filledInto a (blended-values f) (now (s .args .out))) p)
 
 shape-without-requires : tie.Need-shape-without-requires
 shape-without-requires c κs = search needs
@@ -85,7 +85,7 @@ returns-3 c =
     let f = e .before .before in
     let s = start f in
     let p = front-passed (s .args .shape) 0 _ _ (results f) (f .point-fault .ensures) (e .if1 .left) in
-    (slice-made _ _ _ _ (z .along-first .ensures .0 ∙ p) (h .if2 .left) _ (c .shape-without .ensures), z .along-first .ensures .1 ∙ ap (λ (a : Answer). slicedInto a (blended-values f) (now (s .args .out))) p)
+    (slice-made _ _ _ _ (z .along-first .ensures .0 ∙ p) (h .if2 .left) _ (c .shape-without .ensures), z .along-first .ensures .1 ∙ ap (λ (a : Answer). filledInto a (blended-values f) (now (s .args .out))) p)
 
 pub linear-judged-spec : {M : Type 1} → statement M
 linear-judged-spec =

@@ -7,7 +7,8 @@ use Rattle.answer.proofs.Orders.{passes}
 use Rattle.table.specs.Shape.{countsOf, size, without, sliceValues}
 use Rattle.table.proofs.Removals.{length-slice}
 use Rattle.axis.specs.Picks.{pickIndex}
-use Rattle.slices.specs.Slices.{axisOf, pointFault}
+use Rattle.table.specs.Shape.{axisOf}
+use Rattle.slices.specs.Slices.{pointFault}
 use Rattle.slices.proofs.Sliced.{slice-refused, slice-made, out-kept, out-written, point-finite, point-room}
 use borrow.Author.Needs.{needs}
 use Rattle.slices.proofs.judged.pick_judged.Statement.{statement}

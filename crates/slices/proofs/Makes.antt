@@ -1,0 +1,90 @@
+-- A slice of an accepted table at a reading in range is made, given room; a slice of the two linears is made or refused 12. Assumes nothing.
+use mathlib.Core.Path.{_≡_, refl, _∙_}
+use mathlib.Core.Bool.{true}
+use mathlib.Core.List.{List}
+use Prim.Native.Nat.{ℕ, _≤_, _<_}
+use native.Mathlib.Omega.{arith}
+use lib.ListN.{length}
+use lib.Ieee.{Float}
+use lib.Ieee.Scale.{finite}
+use Rattle.answer.specs.Answer.{good, _or_}
+use Rattle.answer.specs.declared.Answer.{Answer}
+use Rattle.answer.proofs.Orders as orders
+use Rattle.judge.specs.Check.{readingFault, roomFault}
+use Rattle.judge.proofs.Rows.{reading-fine, room-enough}
+use Rattle.lists.specs.Lists.{valuesFault, directionsFault, rangeFault}
+use Rattle.table.specs.Shape.{countsOf, size, without, axisOf}
+use Rattle.table.specs.Table.{frameFault, lengthFault, axesFault}
+use Rattle.table.specs.declared.Shape.{Shape}
+use Rattle.uniform.specs.Uniform.{axesUniformFault}
+use Rattle.runs.specs.Runs.{resultsFault}
+use Rattle.blend.specs.declared.AxisLocation.{AxisLocation}
+use Rattle.axis.specs.Utils.{axisLocation}
+use Rattle.axis.specs.Locations.{uniformLocation}
+use Rattle.fronts.specs.Fronts.{noAxisFault, notFirstFault, nearestFront, stepFront, linearFront, linearUniformFront}
+use Rattle.fronts.proofs.Fronts.{axis-there, first-there}
+use Rattle.ninterp.proofs.Demands.{Accepted}
+use Rattle.slices.specs.Slices.{pointFault, nearestSliceFault, stepSliceFault}
+use Rattle.slices.specs.LinearSlices.{linearValues, linearRest, linearSliceFault, linearUniformSliceFault}
+
+module _ (s : Shape) (nodes values : List Float) (t : Accepted s nodes values) (many : 1 < s .axes) (p : Float) (room : ℕ) (fp : finite p ≡ true) where
+  abbrev frame : Answer
+  frame = frameFault s (length nodes) (length values)
+
+  abbrev axes : Answer
+  axes = axesFault (countsOf s) nodes
+
+  stored : good (axesFault (countsOf s) nodes or valuesFault values) ≡ true
+  stored = orders.both-passed (axesFault (countsOf s) nodes) (valuesFault values) (t .axes) (t .stored)
+
+  module _ (axis : ℕ) (there : axis < s .axes) (inside : good (rangeFault axis (axisOf s nodes axis) p) ≡ true) (w : size (without axis (countsOf s)) ≤ room) where
+    point-good : good (pointFault s nodes axis p room) ≡ true
+    unfolding pointFault
+    point-good =
+        orders.both-passed (readingFault axis p) (rangeFault axis (axisOf s nodes axis) p or roomFault 1 (size (without axis (countsOf s))) room) (orders.passed-fine (readingFault axis p) (reading-fine axis p fp))
+        (orders.both-passed (rangeFault axis (axisOf s nodes axis) p) (roomFault 1 (size (without axis (countsOf s))) room) inside
+        (orders.passed-fine (roomFault 1 (size (without axis (countsOf s))) room) (room-enough 1 (size (without axis (countsOf s))) room w)))
+
+    has-axis : good (noAxisFault s axis) ≡ true
+    has-axis = orders.passed-fine (noAxisFault s axis) (axis-there s axis many there)
+
+    pub nearest-slice-made : good (nearestSliceFault s nodes values axis p room) ≡ true
+    unfolding nearestSliceFault nearestFront
+    nearest-slice-made =
+        orders.both-passed (frame or noAxisFault s axis or axes or valuesFault values) (pointFault s nodes axis p room)
+        (orders.both-passed frame (noAxisFault s axis or axes or valuesFault values) (t .frame)
+        (orders.both-passed (noAxisFault s axis) (axes or valuesFault values) has-axis stored)) point-good
+
+    pub step-slice-made : (directions : List ℕ) → good (lengthFault 3 (s .axes) (length directions)) ≡ true → good (directionsFault directions) ≡ true
+        → good (stepSliceFault s nodes values directions axis p room) ≡ true
+    unfolding stepSliceFault stepFront
+    step-slice-made directions l d =
+        orders.both-passed (frame or lengthFault 3 (s .axes) (length directions) or noAxisFault s axis or axes or valuesFault values or directionsFault directions) (pointFault s nodes axis p room)
+        (orders.both-passed frame (lengthFault 3 (s .axes) (length directions) or noAxisFault s axis or axes or valuesFault values or directionsFault directions) (t .frame)
+        (orders.both-passed (lengthFault 3 (s .axes) (length directions)) (noAxisFault s axis or axes or valuesFault values or directionsFault directions) l
+        (orders.both-passed (noAxisFault s axis) (axes or valuesFault values or directionsFault directions) has-axis
+        (orders.both-passed axes (valuesFault values or directionsFault directions) (t .axes) (orders.both-passed (valuesFault values) (directionsFault directions) (t .stored) d))))) point-good
+
+  -- ---- the two linears, on their first axis
+  module _ (inside : good (rangeFault 0 (axisOf s nodes 0) p) ≡ true) (w : size (without 0 (countsOf s)) ≤ room) where
+    front-good : good (linearFront s nodes values 0) ≡ true
+    unfolding linearFront
+    front-good =
+        orders.both-passed frame (notFirstFault s 0 or axes or valuesFault values) (t .frame)
+        (orders.both-passed (notFirstFault s 0) (axes or valuesFault values) (orders.passed-fine (notFirstFault s 0) (first-there s 0 many refl)) stored)
+
+    rest-is : (rule : List Float → Float → AxisLocation) → linearRest rule s nodes values 0 p room ≡ resultsFault (linearValues rule s nodes values p)
+    unfolding linearRest
+    rest-is rule = orders.or-good (pointFault s nodes 0 p room) (resultsFault (linearValues rule s nodes values p)) (point-good 0 (omega (arith, many)) inside w)
+
+    -- 12 is all that can still refuse it
+    pub linear-slice-made : linearSliceFault s nodes values 0 p room ≡ resultsFault (linearValues axisLocation s nodes values p)
+    unfolding linearSliceFault
+    linear-slice-made = orders.or-good (linearFront s nodes values 0) (linearRest axisLocation s nodes values 0 p room) front-good ∙ rest-is axisLocation
+
+    pub linear-uniform-slice-made : good (axesUniformFault (countsOf s) nodes) ≡ true → linearUniformSliceFault s nodes values 0 p room ≡ resultsFault (linearValues uniformLocation s nodes values p)
+    unfolding linearUniformSliceFault linearUniformFront
+    linear-uniform-slice-made u =
+        orders.or-good (linearFront s nodes values 0 or axesUniformFault (countsOf s) nodes) (linearRest uniformLocation s nodes values 0 p room)
+        (orders.both-passed (linearFront s nodes values 0) (axesUniformFault (countsOf s) nodes) front-good u)
+        ∙ rest-is uniformLocation

@@ -22,11 +22,11 @@ abbrev pub locationBy : Bool → List Float → Float → AxisLocation
 locationBy true = uniformLocation
 locationBy false = axisLocation
 
--- the same of any list at all: on a good axis it is `locationBy` (`location-found`)
+-- what the code gives, of any list at all: node 0 where there is no cell. On a good axis it is `locationBy` (`location-found`)
 unfoldable pub locationFound : Bool → List Float → Float → AxisLocation
 locationFound uniform nodes p = cond (ltb (length nodes) 2) (Exact 0) (locationBy uniform nodes p)
 
--- the node of an exact axis, the lower one of any other
+-- "When an answer is an enum, a definition gives this paper's number and values for each of its cases."
 abbrev pub locationIndex : AxisLocation → ℕ
 locationIndex (Exact node) = node
 locationIndex (Between lower frac) = lower

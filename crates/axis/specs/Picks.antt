@@ -19,6 +19,6 @@ nearestIndex nodes p = nearer nodes (lowerIndex nodes p) p
 unfoldable pub pickIndex : ℕ → List Float → Float → ℕ
 pickIndex pick nodes p = cond (ltb pick 2) (stepIndex pick nodes p) (nearestIndex nodes p)
 
--- the same of any list at all, with the Rust's expressions for Step: on a good axis it is `pickIndex` (`pick-found`)
+-- what the code gives, of any list at all: `rustStep` for Step, and 0 where there is no cell. On a good axis it is `pickIndex` (`pick-found`)
 unfoldable pub pickFound : ℕ → List Float → Float → ℕ
 pickFound pick nodes p = cond (ltb (length nodes) 2) 0 (cond (ltb pick 2) (rustStep pick nodes p) (nearestIndex nodes p))

@@ -1,4 +1,4 @@
--- The Rust's own expressions, where the paper's words stand in the rules: `locate_step_index`.
+-- The Rust's own expressions in `locate_step_index`, over the lower index as the paper counts it: on a good axis its search gives that count.
 use mathlib.Core.Bool.{cond}
 use mathlib.Core.List.{List}
 use Prim.Native.Nat.{ℕ, _+_, _-_}
@@ -8,7 +8,7 @@ use lib.Ieee.{Float, eq}
 use Rattle.judge.specs.Check.{node}
 use Rattle.axis.specs.Utils.{lowerIndex}
 
--- StepDirection::Lower, with x_l of `locate_lower_index`
+-- StepDirection::Lower, with x_l the lower index
 abbrev pub lowerBy : List Float → ℕ → Float → ℕ
 lowerBy grid x_l point = cond (eq point (node grid (length grid - 1))) (length grid - 1) (cond (eq point (node grid (x_l + 1))) (x_l + 1) x_l)
 

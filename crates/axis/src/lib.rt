@@ -1,5 +1,5 @@
-// Where a reading lies on one axis. The table rules and the primitives share this: it judges nothing and takes any nodes at all, so whoever calls it
-// has judged the axis first. On fewer than two nodes there is no cell, and the answer is 0.
+// Where a reading lies on one axis. The primitives, the table rules and the slices share this. It judges nothing and takes any nodes and any reading
+// at all: a board calls `utils`, `ninterp` and `slices`, which judge first.
 pub(crate) mod cell;
 pub mod locate;
 pub mod pick;

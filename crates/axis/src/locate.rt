@@ -60,6 +60,7 @@ fn uniform_location(grid: &[f64], point: f64) -> AxisLocation
     AxisLocation::Between { lower, frac }
 }
 
+// The location by either rule; node 0 on fewer than two nodes, which have no cell.
 pub fn location_by(uniform: bool, grid: &[f64], point: f64) -> AxisLocation
     ensures { λ r. ⌜ r ≡ locationFound uniform (now (grid .entry)) point ⌝ }
 {

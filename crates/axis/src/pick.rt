@@ -7,7 +7,7 @@ ghost use Rattle.axis.specs.Rust.{lowerBy, upperBy, rustStep};
 ghost use Rattle.axis.specs.Picks.{nearestIndex, pickFound};
 use crate::cell;
 
-// The search names the cell below a node, so a reading on a node is one further up.
+// A reading on a node lies in the cell below it, so the node is one further up.
 fn lower_step(grid: &[f64], point: f64) -> usize
     requires { ⌜ 2 ≤ length (now grid) ⌝ }
     ensures { λ r. ⌜ r ≡ lowerBy (now (grid .entry)) (lowerIndex (now (grid .entry)) point) point ⌝ }
@@ -58,6 +58,7 @@ fn nearest_index(grid: &[f64], point: f64) -> usize
     }
 }
 
+// The index that a pick gives; 0 on fewer than two nodes, which have no cell.
 pub fn pick_index(pick: u8, grid: &[f64], point: f64) -> usize
     ensures { λ r. ⌜ r ≡ pickFound pick (now (grid .entry)) point ⌝ }
 {

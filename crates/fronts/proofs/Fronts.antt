@@ -10,7 +10,7 @@ use Rattle.judge.proofs.Rows.{or-right, not-false}
 use Rattle.table.specs.declared.Shape.{Shape}
 use Rattle.fronts.specs.Fronts.{noAxisFault, notFirstFault}
 
--- ---- 16, 15
+-- ---- 16
 neither-left : (p q : Bool) → p || q ≡ false → p ≡ false
 neither-left true q e = e
 neither-left false q e = refl

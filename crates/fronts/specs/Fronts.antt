@@ -21,7 +21,7 @@ noAxisFault s axis = when (leb (s .axes) 1 || not (ltb axis (s .axes))) (refused
 unfoldable pub notFirstFault : Shape → ℕ → Answer
 notFirstFault s axis = when (leb (s .axes) 1 || not (eqb axis 0)) (refused 16 0 0)
 
--- "A slice inserts 16 after 3 and 15 (place 1) before 12"
+-- "A slice inserts 16 after 3 .."
 unfoldable pub nearestFront : Shape → List Float → List Float → ℕ → Answer
 nearestFront s nodes values axis =
     frameFault s (length nodes) (length values)

@@ -1,4 +1,4 @@
--- "Numbers the technician sees": the rows that judge one axis, its reading, a direction, a step and a tolerance.
+-- "Numbers the technician sees": the rows that judge one axis, its reading, a direction, a step, a tolerance, a result and the room for an output.
 use mathlib.Core.Path.{_≡_}
 use mathlib.Core.Bool.{Bool, true, false, not, _&&_, _||_}
 use mathlib.Core.List.{List}

@@ -24,8 +24,7 @@ use Rattle.table.proofs.Layouts.{length-tabulate, getD-tabulate}
 use Rattle.uniform.specs.Uniform.{axesUniformFault}
 use Rattle.order.specs.Lookups.{lookupFault, stepFault, linearUniformFault}
 use Rattle.blend.specs.Blend.{computed}
-use Rattle.ninterp.specs.Tables.{picked, nearestRule, stepRule, nearestAnswer, stepAnswer, Judged}
-use Rattle.ninterp.specs.Picks.{pickRule}
+use Rattle.ninterp.specs.Tables.{picked, nearestRule, stepRule, nearestAnswer, stepAnswer, Judged, pickRule}
 use Rattle.ninterp.specs.Linears.{interpolated, linearAnswer, linearUniformAnswer}
 use Rattle.axis.specs.Locations.{locationBy}
 use Rattle.ninterp.specs.Records.{allOf, kindAnswer, recordSize, recordReadings, recordAnswer}
@@ -169,11 +168,11 @@ module _ (s : Shape) (nodes values readings : List Float) (read : length reading
           (orders.first-passed (axesFault (countsOf s) nodes) (valuesFault values) (orders.second-passed frame (axesFault (countsOf s) nodes or valuesFault values) table)) h
 
 -- ---- what is found
-pub pick-nearest : (kind : ℕ) → kind ≡ 2 → 2 ≡ pickOf kind
-pick-nearest kind e = rw (eq-eqb kind 2 e)
+pub kind-nearest : (kind : ℕ) → kind ≡ 2 → 2 ≡ pickOf kind
+kind-nearest kind e = rw (eq-eqb kind 2 e)
 
-pub pick-step : (kind : ℕ) → (kind ≡ 2 → ⊥) → kind - 3 ≡ pickOf kind
-pick-step kind n = rw (ne-eqb kind 2 n)
+pub kind-step : (kind : ℕ) → (kind ≡ 2 → ⊥) → kind - 3 ≡ pickOf kind
+kind-step kind n = rw (ne-eqb kind 2 n)
 
 module _ (kind : ℕ) (s : Shape) (nodes values readings : List Float) where
   pub found-linear : kind < 2 → computed (interpolated (locationBy (eqb kind 1)) (countsOf s) nodes values readings) ≡ kindFound kind s nodes values readings

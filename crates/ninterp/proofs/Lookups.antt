@@ -25,8 +25,7 @@ use Rattle.axis.specs.Utils.{stepIndex}
 use Rattle.uniform.specs.Uniform.{axesUniformFault}
 use Rattle.order.specs.Lookups.{lookupFault, stepFault, linearUniformFault}
 use Rattle.axis.specs.Picks.{nearestIndex, pickIndex}
-use Rattle.ninterp.specs.Tables.{indices, picked, nearestRule, stepRule, Judged}
-use Rattle.ninterp.specs.Picks.{pickRule}
+use Rattle.ninterp.specs.Tables.{indices, picked, nearestRule, stepRule, Judged, pickRule}
 use Rattle.ninterp.specs.Kinds.{fourOf}
 
 -- ---- a judged table and reading

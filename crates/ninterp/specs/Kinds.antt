@@ -12,8 +12,7 @@ use Rattle.table.specs.Table.{frameFault, axesFault}
 use Rattle.lists.specs.Lists.{valuesFault}
 use Rattle.table.specs.declared.Shape.{Shape}
 use Rattle.blend.specs.Blend.{computed}
-use Rattle.ninterp.specs.Tables.{picked}
-use Rattle.ninterp.specs.Picks.{pickRule}
+use Rattle.ninterp.specs.Tables.{picked, pickRule}
 use Rattle.ninterp.specs.Linears.{interpolated}
 use Rattle.axis.specs.Locations.{locationBy}
 

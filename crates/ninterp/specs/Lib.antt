@@ -1,5 +1,4 @@
 pub mod Tables
-pub mod Picks
 pub mod Linears
 pub mod Locations
 pub mod Records

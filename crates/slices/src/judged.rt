@@ -23,7 +23,7 @@ use axis::pick;
 use blend::AxisLocation;
 use table::Shape;
 
-// The slice at a pick's index on one axis: 0 Lower, 1 Upper, 2 Nearest.
+// The slice at a pick's index on one axis: 0 Lower, 1 Upper, anything else Nearest.
 fn pick_slice(
     shape: Shape,
     nodes: &[f64],

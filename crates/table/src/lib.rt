@@ -1,4 +1,4 @@
-// The checks of a table and of a list of readings, for every input: lists that are too short are judged as far as they go.
+// The checks of a table and of the range of its readings, for every input: lists that are too short are judged as far as they go.
 ghost use mathlib.Core.Path.{_≡_};
 ghost use Prim.Native.Nat.{ℕ, _+_, _-_, _<_, _≤_, min};
 ghost use lib.ListN.{getD};

@@ -1,5 +1,5 @@
 // Uniform axes: three of the seven axis primitives of the Rust's strategy/utils.rs under their names, total, with the checks in front.
-// They share no search with the other four. And the uniform check of a whole table.
+// They share no search with the other four. And the uniform check of a whole table, and the index alone, for tables that are judged.
 ghost use mathlib.Core.Path.{_≡_};
 ghost use Prim.Native.Nat.{_+_, _<_, _≤_};
 ghost use lib.ListN.{length};
@@ -16,7 +16,7 @@ pub enum Tolerance {
     Default,
 }
 
-// The cell of t on a uniform axis: its whole part, at most the last cell; 0 where t is 2^64 or more, and where there is no cell.
+// The cell of t on a uniform axis: its whole part, at most the last cell; 0 where t is below 0, 2^64 or more or no number, and where there is no cell.
 fn uniform_cell(n: usize, t: f64) -> usize
     ensures { λ r. ⌜ r ≡ uniformCell n t ⌝ }
 {

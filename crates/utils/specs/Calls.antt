@@ -1,4 +1,4 @@
--- What each public call on an axis answers, for every input: "Primitives on one axis use 2, 4, 5, 6, 9 (`locate_step_index`), 10 in that order".
+-- What each of the four primitives answers, for every input: "Primitives on one axis use 2, 4, 5, 6, 9 (`locate_step_index`), 10 in that order".
 use mathlib.Core.Bool.{not}
 use mathlib.Core.List.{List}
 use Prim.Native.Nat.{ℕ, _-_}

@@ -1,5 +1,5 @@
 use native.Mathlib.Omega.{arith}
-use Rattle.ninterp.proofs.KindOrder.{pick-nearest, pick-step}
+use Rattle.ninterp.proofs.KindOrder.{kind-nearest, kind-step}
 use borrow.Author.Needs.{needs}
 use Rattle.ninterp.proofs.records.pick_of.Statement.{statement}
 use Rattle.ninterp.proofs.records.pick_of.Tie as tie
@@ -8,10 +8,10 @@ sub-result : tie.Need-sub-result
 sub-result c = search needs
 
 returns : tie.Need-returns
-returns c = pick-nearest (c .before .args .kind) (c .if1 .taken)
+returns c = kind-nearest (c .before .args .kind) (c .if1 .taken)
 
 returns-2 : tie.Need-returns-2
-returns-2 c = pick-step (c .before .args .kind) (c .if1 .left)
+returns-2 c = kind-step (c .before .args .kind) (c .if1 .left)
 
 pub pick-of-spec : {M : Type 1} → statement M
 pick-of-spec =

@@ -1,4 +1,4 @@
-// What Step and Nearest share: one index for each axis, and one stored value. A pick of 0 is Lower, of 1 Upper, of 2 Nearest.
+// What Step and Nearest share: one index for each axis, and one stored value. A pick of 0 is Lower, of 1 Upper, of anything else Nearest.
 ghost use mathlib.Core.Path.{_≡_};
 ghost use mathlib.Core.Bool.{true};
 ghost use Prim.Native.Nat.{ℕ, _<_, _≤_};
@@ -8,8 +8,7 @@ ghost use lib.Ieee.Scale.{finite};
 ghost use Rattle.table.specs.Shape.{countsOf, size, axesOf, place};
 ghost use Rattle.table.specs.Table.{Grid};
 ghost use Rattle.answer.specs.Answer.{answered};
-ghost use Rattle.ninterp.specs.Tables.{indices, picked, Judged};
-ghost use Rattle.ninterp.specs.Picks.{pickRule};
+ghost use Rattle.ninterp.specs.Tables.{indices, picked, Judged, pickRule};
 use answer::Answer;
 use axis::pick;
 use table::Shape;

@@ -1,4 +1,4 @@
-use mathlib.Core.Path.{_≡_, ap, _∙_}
+use mathlib.Core.Path.{ap, _∙_}
 use Prim.Native.Nat.{_≤_, _<_}
 use native.Mathlib.Omega.{arith}
 use lib.ListN.{length, take, length-take}
@@ -12,11 +12,6 @@ use Rattle.ninterp.proofs.Corners.{corner-inside, gathered}
 use borrow.Author.Needs.{needs}
 use Rattle.ninterp.proofs.interpolator.n.corners.compute.Statement.{statement}
 use Rattle.ninterp.proofs.interpolator.n.corners.compute.Tie as tie
-use Rattle.ninterp.proofs.interpolator.n.corners.compute.Reads as reads
-use Rattle.ninterp.proofs.interpolator.n.corners.compute.Lts as lts
-use Rattle.blend.proofs.compute.Reads as compute-reads
-use Rattle.ninterp.proofs.interpolator.n.corners.corner_places.Reads as corner-places-reads
-use Rattle.ninterp.proofs.interpolator.n.corners.gather.Reads as gather-reads
 
 slice-aggregate-places : tie.Need-slice-aggregate-places
 slice-aggregate-places c = search needs

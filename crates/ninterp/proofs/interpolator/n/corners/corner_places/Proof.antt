@@ -1,8 +1,7 @@
 use Rattle.table.proofs.Layouts.{size-cons}
 use Rattle.ninterp.proofs.Corners.{Spreading, spread-none, spread-step, lower-small, upper-few, upper-small, within-at, small-at, few-at, eight-at, placed-small, closed-at}
 use Rattle.blend.specs.declared.AxisLocation.the-variants.{Exact}
-use Rattle.axis.specs.Locations.{locationIndex}
-use Rattle.axis.specs.Locations.{upperOf}
+use Rattle.axis.specs.Locations.{locationIndex, upperOf}
 use mathlib.Core.Path.{_≡_, refl, sym, ap, _∙_, subst}
 use Prim.Native.Nat.{ℕ, _-_, _*_, _≤_}
 use native.Mathlib.Omega.{arith}
@@ -10,12 +9,6 @@ use lib.ListN.{length, take, drop, getD}
 use borrow.Author.Needs.{needs}
 use Rattle.ninterp.proofs.interpolator.n.corners.corner_places.Statement.{statement}
 use Rattle.ninterp.proofs.interpolator.n.corners.corner_places.Tie as tie
-use Rattle.ninterp.proofs.interpolator.n.corners.corner_places.Reads as reads
-use Rattle.ninterp.proofs.interpolator.n.corners.corner_places.Lts as lts
-use Rattle.blend.proofs.grow.Reads as grow-reads
-use Rattle.axis.proofs.locate.lower_node.Reads as lower-node-reads
-use Rattle.ninterp.proofs.interpolator.n.corners.spread.Reads as spread-reads
-use Rattle.ninterp.proofs.interpolator.n.corners.upper_node.Reads as upper-node-reads
 
 abbrev Inv-loop : tie.InvT-loop
 Inv-loop n places₀ counts locations count₀ stride₀ d₀ places count stride d = ((d ≤ n) × (length places ≡ 16)) × Spreading (drop d (take n locations)) (drop d (take n counts)) places count stride

@@ -8,8 +8,6 @@ use Rattle.ninterp.proofs.Corners.{put-step}
 use borrow.Author.Needs.{needs}
 use Rattle.ninterp.proofs.interpolator.n.corners.gather.Statement.{statement}
 use Rattle.ninterp.proofs.interpolator.n.corners.gather.Tie as tie
-use Rattle.ninterp.proofs.interpolator.n.corners.gather.Reads as reads
-use Rattle.ninterp.proofs.interpolator.n.corners.gather.Lts as lts
 
 abbrev Inv-loop : tie.InvT-loop
 Inv-loop values places count vals₀ i₀ vals i = (i ≤ count) × ((length vals ≡ 16) × ((k : ℕ) → k < i → getD vals k nan ≡ getD values (getD places k 0) nan))

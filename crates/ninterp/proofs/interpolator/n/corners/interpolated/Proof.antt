@@ -1,10 +1,9 @@
-use mathlib.Core.Path.{_≡_, ap, _∙_}
+use mathlib.Core.Path.{ap, _∙_}
 use native.Mathlib.Omega.{arith}
 use denote.Ref.{now}
 use Rattle.table.specs.Shape.{countsOf, table}
 use Rattle.blend.specs.Blend.{linear, computed}
 use Rattle.ninterp.specs.Linears.{interpolated}
-use borrow.Author.Needs.{needs}
 use Rattle.ninterp.proofs.interpolator.n.corners.interpolated.Statement.{statement}
 use Rattle.ninterp.proofs.interpolator.n.corners.interpolated.Tie as tie
 

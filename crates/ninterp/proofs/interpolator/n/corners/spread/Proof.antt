@@ -5,8 +5,6 @@ use Rattle.ninterp.proofs.Corners.{Spreaded, spread-turn}
 use borrow.Author.Needs.{needs, below-set}
 use Rattle.ninterp.proofs.interpolator.n.corners.spread.Statement.{statement}
 use Rattle.ninterp.proofs.interpolator.n.corners.spread.Tie as tie
-use Rattle.ninterp.proofs.interpolator.n.corners.spread.Reads as reads
-use Rattle.ninterp.proofs.interpolator.n.corners.spread.Lts as lts
 
 abbrev Inv-loop : tie.InvT-loop
 Inv-loop places₀ count low high i₀ places i = (i ≤ count) × Spreaded places₀ count low high i places

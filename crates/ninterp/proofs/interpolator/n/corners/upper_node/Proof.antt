@@ -1,16 +1,9 @@
 use Rattle.axis.specs.Locations.{upperOf}
-use mathlib.Core.Path.{_≡_, refl, sym, ap, ap₂, _∙_, subst}
-use mathlib.Core.List.{List, [], _∷_, _++_}
-use Prim.Native.Nat.{ℕ, _+_, _-_, _*_, _^_, _≤_, _<_, min}
+use mathlib.Core.Path.{sym, ap}
 use native.Mathlib.Omega.{arith}
-use lib.ListN.{length, take, drop, getD}
-use lib.Ieee.{Float, nan}
-use denote.Ref.{now}
 use borrow.Author.Needs.{needs}
 use Rattle.ninterp.proofs.interpolator.n.corners.upper_node.Statement.{statement}
 use Rattle.ninterp.proofs.interpolator.n.corners.upper_node.Tie as tie
-use Rattle.ninterp.proofs.interpolator.n.corners.upper_node.Reads as reads
-use Rattle.ninterp.proofs.interpolator.n.corners.upper_node.Lts as lts
 
 enum-known-location : tie.Need-enum-known-location
 enum-known-location c = search needs

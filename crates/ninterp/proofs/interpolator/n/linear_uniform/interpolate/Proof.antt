@@ -3,19 +3,12 @@ use Rattle.table.proofs.Shapes.{length-ids}
 use Rattle.ninterp.specs.Linears.{linearUniformAnswer}
 use Rattle.ninterp.specs.Tables.{Judged}
 use Rattle.ninterp.proofs.Lookups.{linear-uniform-judged}
-use mathlib.Core.Path.{_≡_, refl, sym, ap, ap₂, _∙_, subst}
-use mathlib.Core.List.{List, [], _∷_, _++_}
-use Prim.Native.Nat.{ℕ, _+_, _-_, _*_, _^_, _≤_, _<_, min}
-use native.Mathlib.Omega.{arith}
-use lib.ListN.{length, take, drop, getD}
-use lib.Ieee.{Float, nan}
+use mathlib.Core.Path.{_≡_}
+use lib.ListN.{length}
 use denote.Ref.{now}
 use borrow.Author.Needs.{needs}
 use Rattle.ninterp.proofs.interpolator.n.linear_uniform.interpolate.Statement.{statement}
 use Rattle.ninterp.proofs.interpolator.n.linear_uniform.interpolate.Tie as tie
-use Rattle.ninterp.proofs.interpolator.n.linear_uniform.interpolate.Reads as reads
-use Rattle.ninterp.proofs.interpolator.n.linear_uniform.interpolate.Lts as lts
-use Rattle.order.proofs.linear_uniform_fault.Reads as linear-uniform-fault-reads
 
 four : (s : tie.Start) → length (s .args .shape .counts) ≡ 4
 four s = length-ids (s .args .shape .counts) (s .good .0 .1 .1 .1 .0 .1 .0 .1)

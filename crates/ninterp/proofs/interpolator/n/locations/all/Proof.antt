@@ -1,4 +1,4 @@
-use lib.ListN.{length-set}
+use lib.ListN.{length-set, length, take, getD}
 use lib.Seq.{length-take-le}
 use Rattle.table.specs.Shape.{axesOf, tabulate}
 use Rattle.table.proofs.Shapes.{length-ids, length-axes, Walk}
@@ -10,19 +10,15 @@ use Rattle.ninterp.proofs.Picks.{axis-within, axis-read, axis-good, axi
 use Rattle.ninterp.proofs.Corners.{put-step}
 use Rattle.ninterp.proofs.Located.{take-filled, locations-within}
 use Rattle.axis.proofs.Located.{location-fits, location-found}
-use mathlib.Core.Path.{_≡_, refl, sym, ap, ap₂, _∙_, subst}
-use mathlib.Core.List.{List, [], _∷_, _++_}
-use Prim.Native.Nat.{ℕ, _+_, _-_, _*_, _^_, _≤_, _<_, min}
+use mathlib.Core.Path.{_≡_, refl, sym, ap, _∙_, subst}
+use mathlib.Core.List.{List, []}
+use Prim.Native.Nat.{ℕ, _-_, _≤_, _<_}
 use native.Mathlib.Omega.{arith}
-use lib.ListN.{length, take, drop, getD}
-use lib.Ieee.{Float, nan}
+use lib.Ieee.{nan}
 use denote.Ref.{now}
 use borrow.Author.Needs.{needs}
 use Rattle.ninterp.proofs.interpolator.n.locations.all.Statement.{statement}
 use Rattle.ninterp.proofs.interpolator.n.locations.all.Tie as tie
-use Rattle.ninterp.proofs.interpolator.n.locations.all.Reads as reads
-use Rattle.ninterp.proofs.interpolator.n.locations.all.Lts as lts
-use Rattle.axis.proofs.locate.location_by.Reads as location-by-reads
 
 abbrev Inv-loop : tie.InvT-loop
 Inv-loop uniform nodes point counts axes found₀ at₀ a₀ found at a = ((a ≤ axes) × (at ≤ length nodes)) × (Walk (take axes counts) nodes a at × ((length found ≡ 4) × ((k : ℕ) → k < a → getD found k (Exact 0) ≡ locationBy uniform (getD (axesOf (take axes counts) nodes) k []) (getD point k nan))))

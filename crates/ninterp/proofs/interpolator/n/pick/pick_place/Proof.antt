@@ -1,17 +1,14 @@
-use mathlib.Core.Path.{_≡_, refl, sym, ap, _∙_, subst}
-use Prim.Native.Nat.{ℕ, _+_, _-_, _*_, _≤_, _<_}
+use mathlib.Core.Path.{_≡_, refl}
+use Prim.Native.Nat.{ℕ, _+_, _-_, _*_, _≤_}
 use native.Mathlib.Omega.{arith}
-use lib.ListN.{length, take, drop, getD}
+use lib.ListN.{length, take, drop}
 use denote.Ref.{now}
 use borrow.Author.Needs.{needs}
-use mathlib.Core.List.{List, []}
-use native.Mathlib.Nat.{lt-of-le-of-lt}
-use lib.Dec.{lit<}
+use mathlib.Core.List.{List}
 use Rattle.table.specs.Shape.{size, axesOf, place}
 use Rattle.table.proofs.Shapes.{length-ids, Walk}
 use Rattle.table.proofs.Layouts.{place-start}
-use Rattle.ninterp.specs.Tables.{indices}
-use Rattle.ninterp.specs.Picks.{pickRule}
+use Rattle.ninterp.specs.Tables.{indices, pickRule}
 use Rattle.ninterp.proofs.Picks.{axis-within, axis-next, flat-next, flat-fits, flat-done}
 use Rattle.ninterp.proofs.interpolator.n.pick.pick_place.Statement.{statement}
 use Rattle.ninterp.proofs.interpolator.n.pick.pick_place.Tie as tie

@@ -1,9 +1,9 @@
-use mathlib.Core.Path.{_≡_, ap, _∙_}
+use mathlib.Core.Path.{ap, _∙_}
 use native.Mathlib.Omega.{arith}
 use denote.Ref.{now}
 use Rattle.answer.specs.Answer.{answered}
 use Rattle.table.specs.Shape.{countsOf}
-use Rattle.ninterp.specs.Picks.{pickRule}
+use Rattle.ninterp.specs.Tables.{pickRule}
 use Rattle.ninterp.proofs.Lookups.{stored-at}
 use borrow.Author.Needs.{needs}
 use Rattle.ninterp.proofs.interpolator.n.pick.stored.Statement.{statement}

@@ -1,9 +1,8 @@
-use mathlib.Core.Path.{_≡_, refl, sym, ap, _∙_}
-use Prim.Native.Nat.{ℕ, _<_, _≤_}
+use mathlib.Core.Path.{_≡_, refl, ap, _∙_}
 use native.Mathlib.Omega.{arith}
 use denote.Ref.{now}
-use lib.ListN.{length, getD}
-use Rattle.answer.specs.Answer.{answered}
+use lib.ListN.{length}
+use Rattle.answer.specs.Answer.{answered, good}
 use Rattle.answer.proofs.Orders.{passes, or-stops, or-goes-on}
 use Rattle.table.specs.Shape.{countsOf}
 use Rattle.table.proofs.Shapes.{length-ids}
@@ -11,7 +10,6 @@ use Rattle.order.specs.Lookups.{stepFault}
 use Rattle.ninterp.specs.Tables.{stepAnswer, Judged}
 use Rattle.ninterp.proofs.Lookups.{step-judged, step-lent, step-directions, picks-step}
 use mathlib.Core.Bool.{true}
-use Rattle.answer.specs.Answer.{good}
 use borrow.Author.Needs.{needs}
 use Rattle.ninterp.proofs.interpolator.n.step.interpolate.Statement.{statement}
 use Rattle.ninterp.proofs.interpolator.n.step.interpolate.Tie as tie

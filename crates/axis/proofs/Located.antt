@@ -54,15 +54,15 @@ module _ (xs : List Float) (p : Float) (ax : Axis xs) (fp : finite p ≡ true) w
   -- what `location_by` gives, of any list at all, is the location on a good axis
   pub location-found : (uniform : Bool) → locationFound uniform xs p ≡ locationBy uniform xs p
   unfolding locationFound
-  location-found uniform = ap (λ (b : Bool). cond b (Exact 0) (locationBy uniform xs p)) (le-ltb (length xs) 2 (ax .enough))
+  location-found uniform = ap (λ (b : Bool). cond b (Between 0 plusZero) (locationBy uniform xs p)) (le-ltb (length xs) 2 (ax .enough))
 
 -- ---- of any list at all
 module _ (uniform : Bool) (xs : List Float) (p : Float) where
-  pub location-none : length xs < 2 → Exact 0 ≡ locationFound uniform xs p
+  pub location-none : length xs < 2 → Between 0 plusZero ≡ locationFound uniform xs p
   unfolding locationFound
-  location-none h = sym (ap (λ (b : Bool). cond b (Exact 0) (locationBy uniform xs p)) (lt-ltb (length xs) 2 h))
+  location-none h = sym (ap (λ (b : Bool). cond b (Between 0 plusZero) (locationBy uniform xs p)) (lt-ltb (length xs) 2 h))
 
   pub location-some : 2 ≤ length xs → (given : Bool) → uniform ≡ given → (l : AxisLocation) → l ≡ locationBy given xs p → l ≡ locationFound uniform xs p
   unfolding locationFound
   location-some n given e l q =
-      q ∙ sym (ap (λ (b : Bool). cond b (Exact 0) (locationBy uniform xs p)) (le-ltb (length xs) 2 n) ∙ ap (λ (b : Bool). locationBy b xs p) e)
+      q ∙ sym (ap (λ (b : Bool). cond b (Between 0 plusZero) (locationBy uniform xs p)) (le-ltb (length xs) 2 n) ∙ ap (λ (b : Bool). locationBy b xs p) e)

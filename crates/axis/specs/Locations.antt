@@ -5,6 +5,7 @@ use Prim.Native.Nat.{ℕ, _+_}
 use lib.Dec.{ltb}
 use lib.ListN.{length}
 use lib.Ieee.{Float, binary64, sub, div}
+use Rattle.answer.specs.Answer.{plusZero}
 use Rattle.judge.specs.Check.{node, gap}
 use Rattle.uniform.specs.Uniform.{uniformIndex}
 use Rattle.blend.specs.declared.AxisLocation.{AxisLocation}
@@ -22,9 +23,9 @@ abbrev pub locationBy : Bool → List Float → Float → AxisLocation
 locationBy true = uniformLocation
 locationBy false = axisLocation
 
--- what the code gives, of any list at all: node 0 where there is no cell. On a good axis it is `locationBy` (`location-found`)
+-- what the code gives, of any list at all: 0 and +0.0 where there is no cell. On a good axis it is `locationBy` (`location-found`)
 unfoldable pub locationFound : Bool → List Float → Float → AxisLocation
-locationFound uniform nodes p = cond (ltb (length nodes) 2) (Exact 0) (locationBy uniform nodes p)
+locationFound uniform nodes p = cond (ltb (length nodes) 2) (Between 0 plusZero) (locationBy uniform nodes p)
 
 -- "When an answer is an enum, a definition gives this paper's number and values for each of its cases."
 abbrev pub locationIndex : AxisLocation → ℕ

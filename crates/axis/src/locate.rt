@@ -60,12 +60,15 @@ fn uniform_location(grid: &[f64], point: f64) -> AxisLocation
     AxisLocation::Between { lower, frac }
 }
 
-// The location by either rule; node 0 on fewer than two nodes, which have no cell.
+// The location by either rule; 0 and +0.0 on fewer than two nodes, which have no cell.
 pub fn location_by(uniform: bool, grid: &[f64], point: f64) -> AxisLocation
     ensures { λ r. ⌜ r ≡ locationFound uniform (now (grid .entry)) point ⌝ }
 {
     if grid.len() < 2 {
-        return AxisLocation::Exact(0);
+        return AxisLocation::Between {
+            lower: 0,
+            frac: 0.0,
+        };
     }
     if uniform {
         uniform_location(grid, point)

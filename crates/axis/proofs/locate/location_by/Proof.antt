@@ -1,4 +1,5 @@
 use mathlib.Core.Bool.{true, false}
+use lib.Ieee.{ofBits}
 use Rattle.axis.proofs.Located.{location-none, location-some}
 use borrow.Author.Needs.{needs}
 use Rattle.axis.proofs.locate.location_by.Statement.{statement}
@@ -15,6 +16,7 @@ axis-location-requires : tie.Need-axis-location-requires
 axis-location-requires c κs = search needs
 
 returns : tie.Need-returns
+unfolding ofBits
 returns c = location-none _ _ _ (c .if1 .taken)
 
 returns-2 : tie.Need-returns-2

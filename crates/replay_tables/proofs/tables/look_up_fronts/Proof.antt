@@ -1,0 +1,34 @@
+use mathlib.Core.Path.{sym}
+use lib.Seq.{length-take-le}
+use borrow.Author.Needs.{needs}
+use Rattle.replay_tables.proofs.tables.look_up_fronts.Statement.{statement}
+use Rattle.replay_tables.proofs.tables.look_up_fronts.Tie as tie
+
+returns : tie.Need-returns
+returns c = search needs
+
+slice-aggregate-look-up : tie.Need-slice-aggregate-look-up
+slice-aggregate-look-up c = sym (length-take-le _ _ (search needs))
+
+slice-aggregate-look-up-2 : tie.Need-slice-aggregate-look-up-2
+slice-aggregate-look-up-2 c = sym (length-take-le _ _ (search needs))
+
+slice-aggregate-look-up-3 : tie.Need-slice-aggregate-look-up-3
+slice-aggregate-look-up-3 c = sym (length-take-le _ _ (search needs))
+
+look-up-requires : tie.Need-look-up-requires
+look-up-requires c κs = search needs
+
+returns-2 : tie.Need-returns-2
+returns-2 c = search needs
+
+pub look-up-fronts-spec : {M : Type 1} → statement M
+look-up-fronts-spec =
+    tie.close
+    (tie.spec
+    returns
+    slice-aggregate-look-up
+    slice-aggregate-look-up-2
+    slice-aggregate-look-up-3
+    look-up-requires
+    returns-2)

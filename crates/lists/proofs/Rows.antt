@@ -1,18 +1,19 @@
 -- The rows of a list, each with when it is met and what passing it says. Assumes nothing.
 use mathlib.Core.Path.{_≡_, sym, ap, _∙_}
-use mathlib.Core.Bool.{Bool, true, false, not, _&&_}
+use mathlib.Core.Bool.{true, false, not}
 use mathlib.Core.List.{List}
 use Prim.Native.Nat.{ℕ, zero, suc, _+_, _-_, _<_}
 use native.Mathlib.Omega.{arith}
 use lib.ListN.{length, getD}
-use lib.Ieee.{Float, nan, lt}
+use lib.Ieee.{Float, nan, binary64, lt, add, mul}
 use lib.Ieee.Scale.{finite}
 use Rattle.answer.specs.Answer.{refused, fine, good, when}
 use Rattle.answer.specs.declared.Answer.{Answer}
 use Rattle.answer.proofs.Orders as orders
+use Rattle.binary64.proofs.Finite.{add-finite, mul-finite}
 use Rattle.judge.specs.Check.{node, readingFault}
 use Rattle.lists.specs.Lists.{valueFault, rangeFault, valuesFault, readingsFault}
-use Rattle.judge.proofs.Rows.{and-left, and-right, not-false, reading-finite}
+use Rattle.judge.proofs.Rows.{not-false, reading-finite}
 
 -- ---- 7
 module _ (values : List Float) (i : ℕ) where
@@ -31,24 +32,30 @@ module _ (values : List Float) (i : ℕ) where
   unfolding valueFault
   value-passed h = not-false (finite (getD values i nan)) (orders.row-good (not (finite (getD values i nan))) 6 0 i h)
 
--- eight at once
-module _ (f : ℕ → Bool) (at : ℕ) (b0 b1 b2 b3 b4 b5 b6 b7 : Bool) (h : ((b0 && b1) && (b2 && b3)) && ((b4 && b5) && (b6 && b7)) ≡ true)
-    (e0 : b0 ≡ f at) (e1 : b1 ≡ f (at + 1)) (e2 : b2 ≡ f (at + 2)) (e3 : b3 ≡ f (at + 3)) (e4 : b4 ≡ f (at + 4)) (e5 : b5 ≡ f (at + 5)) (e6 : b6 ≡ f (at + 6)) (e7 : b7 ≡ f (at + 7)) where
-  low : (b0 && b1) && (b2 && b3) ≡ true
-  low = and-left ((b0 && b1) && (b2 && b3)) ((b4 && b5) && (b6 && b7)) h
+-- eight at once: where a sum of products is finite, so is every factor
+sum-finite : (x y z : Float) → finite (add binary64 (mul binary64 x z) (mul binary64 y z)) ≡ true → (finite x ≡ true) × (finite y ≡ true)
+sum-finite x y z h = let e = add-finite (mul binary64 x z) (mul binary64 y z) h in (mul-finite x z (e .0) .0, mul-finite y z (e .1) .0)
 
-  high : (b4 && b5) && (b6 && b7) ≡ true
-  high = and-right ((b0 && b1) && (b2 && b3)) ((b4 && b5) && (b6 && b7)) h
+abbrev pub paired : (ℕ → Float) → Float → ℕ → ℕ → Float
+paired f z i j = add binary64 (mul binary64 (f i) z) (mul binary64 (f j) z)
 
-  pub all-eight : (j : ℕ) → j < 8 → f (at + j) ≡ true
-  all-eight zero l = ap f (omega arith) ∙ sym e0 ∙ and-left b0 b1 (and-left (b0 && b1) (b2 && b3) low)
-  all-eight (suc zero) l = sym e1 ∙ and-right b0 b1 (and-left (b0 && b1) (b2 && b3) low)
-  all-eight (suc (suc zero)) l = sym e2 ∙ and-left b2 b3 (and-right (b0 && b1) (b2 && b3) low)
-  all-eight (suc (suc (suc zero))) l = sym e3 ∙ and-right b2 b3 (and-right (b0 && b1) (b2 && b3) low)
-  all-eight (suc (suc (suc (suc zero)))) l = sym e4 ∙ and-left b4 b5 (and-left (b4 && b5) (b6 && b7) high)
-  all-eight (suc (suc (suc (suc (suc zero))))) l = sym e5 ∙ and-right b4 b5 (and-left (b4 && b5) (b6 && b7) high)
-  all-eight (suc (suc (suc (suc (suc (suc zero)))))) l = sym e6 ∙ and-left b6 b7 (and-right (b4 && b5) (b6 && b7) high)
-  all-eight (suc (suc (suc (suc (suc (suc (suc zero))))))) l = sym e7 ∙ and-right b6 b7 (and-right (b4 && b5) (b6 && b7) high)
+module _ (f : ℕ → Float) (z : Float) (at : ℕ)
+    (h : finite (add binary64 (add binary64 (paired f z at (at + 2)) (paired f z (at + 4) (at + 6))) (add binary64 (paired f z (at + 1) (at + 3)) (paired f z (at + 5) (at + 7)))) ≡ true) where
+  even : (finite (paired f z at (at + 2)) ≡ true) × (finite (paired f z (at + 4) (at + 6)) ≡ true)
+  even = add-finite (paired f z at (at + 2)) (paired f z (at + 4) (at + 6)) (add-finite _ _ h .0)
+
+  odd : (finite (paired f z (at + 1) (at + 3)) ≡ true) × (finite (paired f z (at + 5) (at + 7)) ≡ true)
+  odd = add-finite (paired f z (at + 1) (at + 3)) (paired f z (at + 5) (at + 7)) (add-finite _ _ h .1)
+
+  pub all-eight : (j : ℕ) → j < 8 → finite (f (at + j)) ≡ true
+  all-eight zero l = ap (λ (i : ℕ). finite (f i)) (omega arith) ∙ sum-finite (f at) (f (at + 2)) z (even .0) .0
+  all-eight (suc zero) l = sum-finite (f (at + 1)) (f (at + 3)) z (odd .0) .0
+  all-eight (suc (suc zero)) l = sum-finite (f at) (f (at + 2)) z (even .0) .1
+  all-eight (suc (suc (suc zero))) l = sum-finite (f (at + 1)) (f (at + 3)) z (odd .0) .1
+  all-eight (suc (suc (suc (suc zero)))) l = sum-finite (f (at + 4)) (f (at + 6)) z (even .1) .0
+  all-eight (suc (suc (suc (suc (suc zero))))) l = sum-finite (f (at + 5)) (f (at + 7)) z (odd .1) .0
+  all-eight (suc (suc (suc (suc (suc (suc zero)))))) l = sum-finite (f (at + 4)) (f (at + 6)) z (even .1) .1
+  all-eight (suc (suc (suc (suc (suc (suc (suc zero))))))) l = sum-finite (f (at + 5)) (f (at + 7)) z (odd .1) .1
   all-eight (suc (suc (suc (suc (suc (suc (suc (suc j)))))))) l = absurd (omega arith)
 
 -- ---- 11

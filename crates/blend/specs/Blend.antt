@@ -30,4 +30,4 @@ linear (p ∷ ps) g = linear ps (sliced p g)
 
 -- 12: "computed result not finite"
 unfoldable pub computed : Float → Answer
-computed x = resultFault x or answered x
+computed x = resultFault 0 x or answered x

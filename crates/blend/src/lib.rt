@@ -73,19 +73,12 @@ pub fn grow(location: AxisLocation, count: usize) -> usize
     }
 }
 
-// n, at most 4.
-fn four_at_most(n: usize) -> usize
-    ensures { λ r. ⌜ r ≡ min n 4 ⌝ }
-{
-    if n < 4 { n } else { 4 }
-}
-
 // How many corners the first n axes have.
 pub fn corner_count(locations: [AxisLocation; 4], n: usize) -> usize
     ensures { λ r. ⌜ r ≡ 2 ^ length (diffs (take n locations)) ⌝ }
 {
     let mut count: usize = 1;
-    let mut d = four_at_most(n);
+    let mut d = table::least(n, 4);
     while d > 0 {
         d -= 1;
         let location = locations[d];
@@ -98,7 +91,7 @@ pub fn corner_count(locations: [AxisLocation; 4], n: usize) -> usize
 pub fn fold(mut vals: [f64; 16], locations: [AxisLocation; 4], n: usize) -> f64
     ensures { λ r. ⌜ r ≡ butterfly (diffs (take n locations)) vals ⌝ }
 {
-    let axes = four_at_most(n);
+    let axes = table::least(n, 4);
     let mut half = corner_count(locations, axes);
     let v: &mut [f64] = &mut vals;
     let mut d: usize = 0;
@@ -116,7 +109,7 @@ pub fn compute(vals: [f64; 16], locations: [AxisLocation; 4], n: usize) -> Answe
     ensures { λ r. ⌜ r ≡ computed (butterfly (diffs (take n locations)) vals) ⌝ }
 {
     let value = fold(vals, locations, n);
-    let fault = judge::result_fault(value);
+    let fault = judge::result_fault(0, value);
     if fault.number != 0 {
         return fault;
     }

@@ -5,10 +5,10 @@ use mathlib.Core.List.{List, [], _∷_, map}
 use Prim.Native.Nat.{ℕ, _+_, _-_, _^_}
 use lib.IntN.{pos, negsuc}
 use lib.Ieee.{Float, fin, binary64, ofInt, toUnsigned, lt, le, eq, add, sub, mul, div}
-use Rattle.answer.specs.Answer.{refused, answered, fine, good, when, _or_, firstOf, given, indexAnswer}
+use Rattle.answer.specs.Answer.{refused, answered, fine, good, when, _or_, firstOf, given, indexAnswer, filledInto}
 use Rattle.answer.specs.declared.Answer.{Answer}
 use Rattle.answer.specs.declared.IndexAnswer.{IndexAnswer}
-use Rattle.judge.specs.Check.{gap, countFault, riseFault, nodeFault, nodesFault, axisFault, finiteFault, lentStepFault, directionFault, readingFault, resultFault}
+use Rattle.judge.specs.Check.{gap, countFault, riseFault, nodeFault, nodesFault, axisFault, finiteFault, lentStepFault, directionFault, readingFault, resultFault, roomFault}
 use Rattle.uniform.specs.Uniform.{uniformCell, uniformIndex, apart, gapFault, uniformFault, toleranceOf}
 use Rattle.uniform.specs.Calls.{uniformReadFault, locateLowerIndexUniform, validateUniformGridEpsilon}
 use Rattle.uniform.specs.declared.Tolerance.the-variants.{Default}
@@ -18,7 +18,6 @@ use Rattle.axis.specs.Picks.{nearestIndex}
 use Rattle.ninterp.specs.Tables.{indices, picked, nearestAnswer}
 use Rattle.ninterp.specs.Linears.{locations, interpolated, linearAnswer}
 use Rattle.slices.specs.Slices.{shapeWithout, pointFault, sliceAnswer}
-use Rattle.answer.specs.Answer.{filledInto}
 use Rattle.slices.specs.LinearSlices.{alongFirst, linearValues, linearRest, linearSliceFault, linearSlice, linearSliced}
 use Rattle.table.specs.Shape.{size, total, axesOf, strides, placeBy, table, indicesAt}
 use Rattle.table.specs.Table.{shapeFault, lengthFault, frameFault, axesFault, rangesFault}
@@ -27,11 +26,10 @@ use Rattle.table.specs.declared.Shape.{Shape}
 use Rattle.order.specs.Lookups.{lookupFault}
 use Rattle.fronts.specs.Fronts.{notFirstFault, linearFront}
 use Rattle.blend.specs.Blend.{blended, computed}
-use Rattle.runs.specs.Runs.{resultFaultAt, resultsFault}
+use Rattle.runs.specs.Runs.{resultsFault}
 use Rattle.blend.specs.declared.AxisLocation.{AxisLocation}
 use Rattle.blend.specs.declared.AxisLocation.the-variants.{Exact, Between}
 use Rattle.utils.specs.declared.AxisAnswer.{AxisAnswer}
-use Rattle.judge.specs.Check.{roomFault}
 
 -- what a call tells
 pub data Outcome : Type 0 where
@@ -136,5 +134,5 @@ cases =
 
 -- the claim over all of it
 pub cases-hold : map (λ c. c .tells) cases ≡ map (λ c. c .paper) cases
-unfolding cases locateLowerIndex locateAxis locateStepIndex locateLowerIndexUniform validateUniformGridEpsilon indexAnswer axisAnswer axisReadingFault directedFault uniformReadFault nearestIndex indices picked nearestAnswer howMany lowerIndex exactNode fraction axisLocation lowerStep upperStep stepIndex uniformCell uniformIndex gap apart gapFault uniformFault toleranceOf countFault riseFault nodeFault nodesFault axisFault finiteFault lentStepFault directionFault readingFault resultFault refused answered fine good when _or_ firstOf given ofInt toUnsigned lt le eq add sub mul div locations interpolated linearAnswer shapeWithout pointFault sliceAnswer filledInto alongFirst linearValues linearRest linearSliceFault linearSlice linearSliced size total axesOf strides placeBy table indicesAt shapeFault lengthFault frameFault axesFault valueFault valuesFault readingsFault rangeFault rangesFault lookupFault notFirstFault roomFault linearFront blended computed resultFaultAt resultsFault
+unfolding cases locateLowerIndex locateAxis locateStepIndex locateLowerIndexUniform validateUniformGridEpsilon indexAnswer axisAnswer axisReadingFault directedFault uniformReadFault nearestIndex indices picked nearestAnswer howMany lowerIndex exactNode fraction axisLocation lowerStep upperStep stepIndex uniformCell uniformIndex gap apart gapFault uniformFault toleranceOf countFault riseFault nodeFault nodesFault axisFault finiteFault lentStepFault directionFault readingFault resultFault refused answered fine good when _or_ firstOf given ofInt toUnsigned lt le eq add sub mul div locations interpolated linearAnswer shapeWithout pointFault sliceAnswer filledInto alongFirst linearValues linearRest linearSliceFault linearSlice linearSliced size total axesOf strides placeBy table indicesAt shapeFault lengthFault frameFault axesFault valueFault valuesFault readingsFault rangeFault rangesFault lookupFault notFirstFault roomFault linearFront blended computed resultsFault
 cases-hold = refl

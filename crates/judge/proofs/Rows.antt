@@ -255,14 +255,14 @@ module _ (axis : ℕ) (p : Float) where
   reading-finite h = not-false (finite p) (orders.row-good (not (finite p)) 9 axis 0 h)
 
 -- ---- 12
-module _ (x : Float) where
-  pub result-wild : finite x ≡ false → refused 12 0 0 ≡ resultFault x
+module _ (place : ℕ) (x : Float) where
+  pub result-wild : finite x ≡ false → refused 12 0 place ≡ resultFault place x
   unfolding resultFault
-  result-wild h = orders.row-met (not (finite x)) 11 0 0 (ap not h)
+  result-wild h = orders.row-met (not (finite x)) 11 0 place (ap not h)
 
-  pub result-fine : finite x ≡ true → fine ≡ resultFault x
+  pub result-fine : finite x ≡ true → fine ≡ resultFault place x
   unfolding resultFault
-  result-fine h = orders.row-passed (not (finite x)) 11 0 0 (ap not h)
+  result-fine h = orders.row-passed (not (finite x)) 11 0 place (ap not h)
 
 -- ---- 15
 module _ (place wanted room : ℕ) where

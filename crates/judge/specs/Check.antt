@@ -60,9 +60,9 @@ directionFault axis direction = when (ltb 1 direction) (refused 9 axis 0)
 unfoldable pub readingFault : ℕ → Float → Answer
 readingFault axis p = when (not (finite p)) (refused 10 axis 0)
 
--- 12: "computed result not finite"
-unfoldable pub resultFault : Float → Answer
-resultFault x = when (not (finite x)) (refused 12 0 0)
+-- 12: "computed result not finite", "0, 0; in a slice 0, flat place in the slice"
+unfoldable pub resultFault : ℕ → Float → Answer
+resultFault place x = when (not (finite x)) (refused 12 0 place)
 
 -- 15: "an output buffer too short", "place 0 nodes, 1 values, 2 image"
 unfoldable pub roomFault : ℕ → ℕ → ℕ → Answer

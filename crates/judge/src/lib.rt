@@ -138,13 +138,13 @@ pub fn reading_fault(axis: usize, point: f64) -> Answer
 }
 
 // 12: a computed result not finite.
-pub fn result_fault(value: f64) -> Answer
-    ensures { λ r. ⌜ r ≡ resultFault value ⌝ }
+pub fn result_fault(place: usize, value: f64) -> Answer
+    ensures { λ r. ⌜ r ≡ resultFault place value ⌝ }
 {
     if binary64::is_finite(value) {
         answer::pass()
     } else {
-        answer::refuse(12, 0, 0)
+        answer::refuse(12, 0, place)
     }
 }
 

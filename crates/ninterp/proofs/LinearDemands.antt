@@ -38,11 +38,11 @@ use Rattle.ninterp.proofs.Demands.{Accepted, InRange}
 -- ---- a computed result: the value where it is finite, 12 exactly where it is not
 pub computed-finite : (x : Float) → finite x ≡ true → computed x ≡ answered x
 unfolding computed
-computed-finite x h = orders.or-good (resultFault x) (answered x) (orders.passed-fine (resultFault x) (result-fine x h))
+computed-finite x h = orders.or-good (resultFault 0 x) (answered x) (orders.passed-fine (resultFault 0 x) (result-fine 0 x h))
 
 pub computed-wild : (x : Float) → finite x ≡ false → computed x ≡ refused 12 0 0
 unfolding computed
-computed-wild x h = orders.or-bad (resultFault x) (answered x) (ap good (sym (result-wild x h)) ∙ orders.bad-refused 11 0 0) ∙ sym (result-wild x h)
+computed-wild x h = orders.or-bad (resultFault 0 x) (answered x) (ap good (sym (result-wild 0 x h)) ∙ orders.bad-refused 11 0 0) ∙ sym (result-wild 0 x h)
 
 -- ---- locations that are all exact give the stored value
 linear-exact : (n : ℕ) (f : ℕ → ℕ) (g : List ℕ → Float) → linear (tabulate n (λ a. Exact (f a))) g ≡ g (tabulate n f)

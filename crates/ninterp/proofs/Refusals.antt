@@ -38,8 +38,8 @@ step-refusal s nodes values readings directions bad =
 after-computed : (a : Answer) (v : Float) → Bare a → good (a or computed v) ≡ false → Bare (a or computed v)
 unfolding computed resultFault
 after-computed a v h bad =
-    ap (λ (x : Answer). x .value) (sym (orders.or-assoc a (resultFault v) (answered v)))
-    ∙ after (a or resultFault v) v (bare-or a (resultFault v) h (row _ 12 0 0)) (ap good (orders.or-assoc a (resultFault v) (answered v)) ∙ bad)
+    ap (λ (x : Answer). x .value) (sym (orders.or-assoc a (resultFault 0 v) (answered v)))
+    ∙ after (a or resultFault 0 v) v (bare-or a (resultFault 0 v) h (row _ 12 0 0)) (ap good (orders.or-assoc a (resultFault 0 v) (answered v)) ∙ bad)
 
 pub linear-refusal : (s : Shape) (nodes values readings : List Float) → good (linearAnswer s nodes values readings) ≡ false → linearAnswer s nodes values readings .value ≡ plusZero
 unfolding linearAnswer lookupFault

@@ -11,16 +11,17 @@ use Rattle.answer.proofs.Orders.{first-same}
 use Rattle.table.specs.Shape.{tabulate}
 use Rattle.table.proofs.Layouts.{length-tabulate, getD-tabulate}
 use Rattle.blend.specs.Blend.{blended}
-use Rattle.runs.specs.Runs.{blends, resultFaultAt, resultsFault}
+use Rattle.runs.specs.Runs.{blends, resultsFault}
+use Rattle.judge.specs.Check.{resultFault}
 
 abbrev pub runAt : Float → List Float → List Float → ℕ → Float
 runAt f low high i = blended (getD low i nan) (getD high i nan) f
 
 abbrev pub runFault : Float → List Float → List Float → ℕ → Answer
-runFault f low high i = resultFaultAt i (runAt f low high i)
+runFault f low high i = resultFault i (runAt f low high i)
 
 pub results-blends : (f : Float) (low high : List Float) → resultsFault (blends f low high) ≡ firstOf (runFault f low high) 0 (min (length low) (length high))
 unfolding resultsFault blends
 results-blends f low high =
-    ap (λ (n : ℕ). firstOf (λ i. resultFaultAt i (getD (tabulate (min (length low) (length high)) (runAt f low high)) i nan)) 0 n) (length-tabulate (min (length low) (length high)) (runAt f low high))
-    ∙ first-same _ _ 0 (min (length low) (length high)) (λ j a b. ap (resultFaultAt j) (getD-tabulate (min (length low) (length high)) j (runAt f low high) nan (omega arith)))
+    ap (λ (n : ℕ). firstOf (λ i. resultFault i (getD (tabulate (min (length low) (length high)) (runAt f low high)) i nan)) 0 n) (length-tabulate (min (length low) (length high)) (runAt f low high))
+    ∙ first-same _ _ 0 (min (length low) (length high)) (λ j a b. ap (resultFault j) (getD-tabulate (min (length low) (length high)) j (runAt f low high) nan (omega arith)))

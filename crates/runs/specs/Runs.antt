@@ -1,25 +1,21 @@
 -- What a slice of the two linears holds: "Each slice value is what the same rule gives along that axis alone", over two runs of values.
-use mathlib.Core.Bool.{not}
 use mathlib.Core.List.{List, _++_}
-use Prim.Native.Nat.{ℕ, min}
+use Prim.Native.Nat.{min}
 use lib.ListN.{length, drop, getD}
 use lib.Ieee.{Float, nan}
-use lib.Ieee.Scale.{finite}
-use Rattle.answer.specs.Answer.{refused, when, firstOf}
+use Rattle.answer.specs.Answer.{firstOf}
 use Rattle.answer.specs.declared.Answer.{Answer}
 use Rattle.table.specs.Shape.{tabulate}
 use Rattle.blend.specs.Blend.{blended}
+use Rattle.judge.specs.Check.{resultFault}
 
 -- two runs of values blended, place by place
 unfoldable pub blends : Float → List Float → List Float → List Float
 blends f low high = tabulate (min (length low) (length high)) (λ i. blended (getD low i nan) (getD high i nan) f)
 
 -- 12: "in a slice 0, flat place in the slice"
-unfoldable pub resultFaultAt : ℕ → Float → Answer
-resultFaultAt place x = when (not (finite x)) (refused 12 0 place)
-
 unfoldable pub resultsFault : List Float → Answer
-resultsFault values = firstOf (λ i. resultFaultAt i (getD values i nan)) 0 (length values)
+resultsFault values = firstOf (λ i. resultFault i (getD values i nan)) 0 (length values)
 
 -- as many of the blends as there is room for, and the output's rest as it was
 unfoldable pub blendedInto : Float → List Float → List Float → List Float → List Float

@@ -1,34 +1,16 @@
 // Two runs of values blended, place by place: what a slice of the two linears writes, and 12 of it.
 ghost use mathlib.Core.Path.{_≡_};
-ghost use Prim.Native.Nat.{min};
-ghost use Rattle.runs.specs.Runs.{blends, resultsFault, resultFaultAt, blendedInto};
+ghost use Rattle.runs.specs.Runs.{blends, resultsFault, blendedInto};
 use answer::Answer;
-
-// 12 of one value of a slice.
-fn result_fault_at(place: usize, value: f64) -> Answer
-    ensures { λ r. ⌜ r ≡ resultFaultAt place value ⌝ }
-{
-    if binary64::is_finite(value) {
-        answer::pass()
-    } else {
-        answer::refuse(12, 0, place)
-    }
-}
-
-fn shorter(m: usize, n: usize) -> usize
-    ensures { λ r. ⌜ r ≡ min m n ⌝ }
-{
-    if m < n { m } else { n }
-}
 
 // 12 of the first blend of two runs that is not finite.
 pub fn blend_fault(low: &[f64], high: &[f64], f: f64) -> Answer
     ensures { λ r. ⌜ r ≡ resultsFault (blends f (now (low .entry)) (now (high .entry))) ⌝ }
 {
-    let count = shorter(low.len(), high.len());
+    let count = table::least(low.len(), high.len());
     let mut i: usize = 0;
     while i < count {
-        let fault = result_fault_at(i, blend::blend(low[i], high[i], f));
+        let fault = judge::result_fault(i, blend::blend(low[i], high[i], f));
         if fault.number != 0 {
             return fault;
         }
@@ -41,8 +23,8 @@ pub fn blend_fault(low: &[f64], high: &[f64], f: f64) -> Answer
 pub fn blend_into(low: &[f64], high: &[f64], f: f64, out: &mut [f64])
     ensures { λ _. ⌜ now (out .exit) ≡ blendedInto f (now (low .entry)) (now (high .entry)) (now (out .entry)) ⌝ }
 {
-    let both = shorter(low.len(), high.len());
-    let count = shorter(both, out.len());
+    let both = table::least(low.len(), high.len());
+    let count = table::least(both, out.len());
     let mut i: usize = 0;
     while i < count {
         out[i] = blend::blend(low[i], high[i], f);

@@ -14,7 +14,8 @@ use Rattle.answer.proofs.Orders.{none-good, passed-fine, row-passed}
 use Rattle.table.specs.Shape.{size, place, table, tabulate, indicesAt, without, sliceValues}
 use Rattle.table.proofs.Layouts.{length-tabulate, getD-tabulate, tabulate-same, size-cons, place-cons, place-below, indices-place, indices-inside}
 use Rattle.blend.specs.Blend.{blended, sliced}
-use Rattle.runs.specs.Runs.{blends, resultFaultAt, resultsFault, blendedInto}
+use Rattle.runs.specs.Runs.{blends, resultsFault, blendedInto}
+use Rattle.judge.specs.Check.{resultFault}
 use Rattle.blend.specs.declared.AxisLocation.{AxisLocation}
 use Rattle.blend.specs.declared.AxisLocation.the-variants.{Exact, Between}
 use Rattle.slices.specs.LinearSlices.{alongFirst}
@@ -73,17 +74,17 @@ runs-within c r l m h e = omega (arith, e, mul-le-mul-right r h, suc-mul (l + 1)
 -- stored values are finite, so a slice at a node is never refused
 pub stored-finite : (node : ℕ) (counts : List ℕ) (values : List Float) → length values ≡ size counts → node < getD counts 0 0
     → ((t : ℕ) → t < length values → finite (getD values t nan) ≡ true) → fine ≡ resultsFault (alongFirst (Exact node) counts values)
-unfolding resultsFault resultFaultAt alongFirst table
+unfolding resultsFault resultFault alongFirst table
 stored-finite node [] values e l h = absurd (omega arith)
 stored-finite node (c ∷ cs) values e l h =
-    sym (none-good (λ i. resultFaultAt i (getD (alongFirst (Exact node) (c ∷ cs) values) i nan)) 0 (length (alongFirst (Exact node) (c ∷ cs) values)) each)
+    sym (none-good (λ i. resultFault i (getD (alongFirst (Exact node) (c ∷ cs) values) i nan)) 0 (length (alongFirst (Exact node) (c ∷ cs) values)) each)
   where
     at : (t : ℕ) → t < size cs → finite (getD (alongFirst (Exact node) (c ∷ cs) values) t nan) ≡ true
     at t b =
         let inside : place (c ∷ cs) (node ∷ indicesAt cs t) < size (c ∷ cs) = place-below (node ∷ indicesAt cs t) (c ∷ cs) (l, indices-inside cs t b) in
         ap finite (getD-tabulate (size cs) t (λ k. table (c ∷ cs) values (node ∷ indicesAt cs k)) nan b) ∙ h (place (c ∷ cs) (node ∷ indicesAt cs t)) (omega (arith, inside, e))
 
-    each : (j : ℕ) → 0 ≤ j → j < 0 + length (alongFirst (Exact node) (c ∷ cs) values) → good (resultFaultAt j (getD (alongFirst (Exact node) (c ∷ cs) values) j nan)) ≡ true
+    each : (j : ℕ) → 0 ≤ j → j < 0 + length (alongFirst (Exact node) (c ∷ cs) values) → good (resultFault j (getD (alongFirst (Exact node) (c ∷ cs) values) j nan)) ≡ true
     each j a b = passed-fine _ (row-passed _ _ _ _ (ap not (at j (omega (arith, b, length-along (Exact node) (c ∷ cs) values)))))
 
 -- with room for all of them, the blends are written and the rest stays

@@ -23,7 +23,7 @@ use Rattle.uniform.specs.Uniform.{apart, gapFault, uniformFault, toleranceOf, d
 use Rattle.uniform.specs.declared.Tolerance.the-variants.{Default}
 use Rattle.fronts.specs.Fronts.{notFirstFault, linearFront, linearUniformFront}
 use Rattle.blend.specs.Blend.{blended, sliced, linear, computed}
-use Rattle.runs.specs.Runs.{resultFaultAt, resultsFault}
+use Rattle.runs.specs.Runs.{resultsFault}
 use Rattle.blend.specs.declared.AxisLocation.{AxisLocation}
 use Rattle.blend.specs.declared.AxisLocation.the-variants.{Exact, Between}
 use Rattle.axis.specs.Utils.{axisLocation}
@@ -61,19 +61,19 @@ along-law l cs is values w =
 
 -- ---- 12 of a slice is 7 of the table that is left
 pub results-stored : (values : List Float) → good (resultsFault values) ≡ true → good (valuesFault values) ≡ true
-unfolding resultsFault resultFaultAt valuesFault
+unfolding resultsFault resultFault valuesFault
 results-stored values h =
     ap good (orders.none-good (valueFault values) 0 (length values)
     (λ j l m.
     value-good values j
     (not-false (finite (getD values j nan))
-    (orders.row-good (not (finite (getD values j nan))) 11 0 j (orders.all-passed (λ i. resultFaultAt i (getD values i nan)) 0 (length values) h j l m)))))
+    (orders.row-good (not (finite (getD values j nan))) 11 0 j (orders.all-passed (λ i. resultFault i (getD values i nan)) 0 (length values) h j l m)))))
     ∙ orders.good-fine
 
 computed-lowered : (k : ℕ) (x : Float) → lowered k (computed x) ≡ computed x
 unfolding computed resultFault
 computed-lowered k x =
-    low.lowered-or k (resultFault x) (answered x) (resultFault x) (answered x) (low.lowered-when k (not (finite x)) (refused 12 0 0) (refused 12 0 0) (low.lowered-low k 12 0 0 (omega arith)))
+    low.lowered-or k (resultFault 0 x) (answered x) (resultFault 0 x) (answered x) (low.lowered-when k (not (finite x)) (refused 12 0 0) (refused 12 0 0) (low.lowered-low k 12 0 0 (omega arith)))
     (λ g. low.lowered-answered k x)
 
 -- ---- for any rule whose locations lie on their axes

@@ -9,7 +9,8 @@ use Rattle.answer.specs.declared.Answer.{Answer}
 use Rattle.answer.proofs.Orders as orders
 use Rattle.table.specs.declared.Shape.{Shape}
 use Rattle.fronts.specs.Fronts.{noAxisFault, notFirstFault, nearestFront, stepFront, linearFront, linearUniformFront}
-use Rattle.runs.specs.Runs.{resultFaultAt, resultsFault}
+use Rattle.runs.specs.Runs.{resultsFault}
+use Rattle.judge.specs.Check.{resultFault, roomFault}
 use Rattle.blend.specs.declared.AxisLocation.{AxisLocation}
 use Rattle.axis.specs.Utils.{axisLocation}
 use Rattle.axis.specs.Locations.{uniformLocation}
@@ -20,7 +21,6 @@ use Rattle.uniform.proofs.Bares.{bare-uniform}
 use Rattle.table.proofs.Bares.{bare-length, bare-frame, bare-axes}
 use Rattle.lists.proofs.Bares.{bare-values, bare-directions, bare-reading, bare-range}
 use Rattle.answer.proofs.Bares.{Bare, bare-or, bare-first, row}
-use Rattle.judge.specs.Check.{roomFault}
 
 bare-point : (s : Shape) (nodes : List Float) (axis : ℕ) (p : Float) (room : ℕ) → Bare (pointFault s nodes axis p room)
 unfolding pointFault roomFault
@@ -37,7 +37,7 @@ step-slice-bare s nodes values directions axis p room =
     bare-or _ _ (bare-or _ _ (bare-frame s _ _) (bare-or _ _ (bare-length 3 _ _) (bare-or _ _ (row _ 16 0 0) (bare-or _ _ (bare-axes _ nodes) (bare-or _ _ (bare-values values) (bare-directions directions)))))) (bare-point s nodes axis p room)
 
 bare-results : (values : List Float) → Bare (resultsFault values)
-unfolding resultsFault resultFaultAt
+unfolding resultsFault resultFault
 bare-results values = bare-first _ (λ i. row _ 12 0 i) 0 _
 
 bare-linear-front : (s : Shape) (nodes values : List Float) (axis : ℕ) → Bare (linearFront s nodes values axis)

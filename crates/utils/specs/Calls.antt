@@ -52,7 +52,7 @@ exactIndex nodes lower p = exactAnswer (exactFault nodes lower p) (exactNode nod
 
 -- "(`locate_axis` .. answers 12, 0, 0, as its last check, where the fraction is not finite)"
 unfoldable pub locateAxis : List Float → Float → AxisAnswer
-locateAxis nodes p = axisAnswer (axisReadingFault nodes p or resultFault (locationFraction (axisLocation nodes p))) (axisLocation nodes p)
+locateAxis nodes p = axisAnswer (axisReadingFault nodes p or resultFault 0 (locationFraction (axisLocation nodes p))) (axisLocation nodes p)
 
 -- 2, 4, 5, 6, 9, 10
 unfoldable pub directedFault : ℕ → List Float → Float → Answer

@@ -100,7 +100,7 @@ pub fn locate_axis(grid: &[f64], point: f64) -> AxisAnswer
         };
     }
     let location = axis::locate::location_by(false, grid, point);
-    let answer = judge::result_fault(location_fraction(location));
+    let answer = judge::result_fault(0, location_fraction(location));
     if answer.number != 0 {
         return AxisAnswer {
             answer,

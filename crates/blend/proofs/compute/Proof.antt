@@ -23,7 +23,7 @@ result-fault-requires c κs = search needs
 -- src/lib.rt:119:9
 returns : tie.Need-returns
 unfolding computed
-returns c = let f = c .before .before in or-stops (f .result-fault .result) _ (f .result-fault .ensures ∙ ap resultFault (f .before .fold .ensures)) _ (c .if1 .taken)
+returns c = let f = c .before .before in or-stops (f .result-fault .result) _ (f .result-fault .ensures ∙ ap (resultFault 0) (f .before .fold .ensures)) _ (c .if1 .taken)
 
 -- src/lib.rt:121:5
 succeed-requires : tie.Need-succeed-requires
@@ -34,7 +34,7 @@ returns-2 : tie.Need-returns-2
 unfolding computed
 returns-2 c =
     let f = c .before .before .before in
-    or-goes-on (f .result-fault .result) _ (f .result-fault .ensures ∙ ap resultFault (f .before .fold .ensures)) _ _ (c .before .if1 .left) (c .succeed .ensures ∙ ap answered (f .before .fold .ensures))
+    or-goes-on (f .result-fault .result) _ (f .result-fault .ensures ∙ ap (resultFault 0) (f .before .fold .ensures)) _ _ (c .before .if1 .left) (c .succeed .ensures ∙ ap answered (f .before .fold .ensures))
 
 pub compute-spec : {M : Type 1} → statement M
 compute-spec =

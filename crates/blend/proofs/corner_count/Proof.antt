@@ -14,7 +14,7 @@ use Rattle.blend.proofs.corner_count.Statement.{statement}
 use Rattle.blend.proofs.corner_count.Tie as tie
 use Rattle.blend.proofs.corner_count.Reads as reads
 use Rattle.blend.proofs.corner_count.Lts as lts
-use Rattle.blend.proofs.four_at_most.Reads as four-at-most-reads
+use Rattle.table.proofs.least.Reads as least-reads
 use Rattle.blend.proofs.grow.Reads as grow-reads
 
 abbrev Inv-loop : tie.InvT-loop
@@ -24,12 +24,12 @@ abbrev μ-loop : tie.MeasureT-loop
 μ-loop n locations count₀ d₀ count d = d
 
 -- src/lib.rt:91:9
-four-at-most-requires : tie.Need-four-at-most-requires Inv-loop μ-loop
-four-at-most-requires c κs = search needs
+least-requires : tie.Need-least-requires Inv-loop μ-loop
+least-requires c κs = search needs
 
 -- src/lib.rt:92:5
 loop-holds : tie.Need-loop-holds Inv-loop μ-loop
-loop-holds c = (omega arith, count-none (c .before .args .t1) (c .four-at-most .result))
+loop-holds c = (omega arith, count-none (c .before .args .t1) (c .least .result))
 
 -- src/lib.rt:93:9
 sub-d : tie.Need-sub-d Inv-loop μ-loop
@@ -55,7 +55,7 @@ loop-less c = search needs
 loop-again : tie.Need-loop-again Inv-loop μ-loop
 loop-again c =
     let l = c .before .before .before in
-    let m = l .before .four-at-most in
+    let m = l .before .least in
     let st = l .before .before in
     let few : m .result ≤ 4 = omega (arith, m .ensures) in
     (omega arith, c .grow .ensures ∙ count-step (st .args .t1) (m .result) (l .loop .d) (l .loop .count) few (omega (arith, st .good .0 .1 .0 .1, few)) (c .before .before .loop-test .taken) (l .loop .inv .0) (l .loop .inv .1))
@@ -67,8 +67,8 @@ returns c =
     let st = l .before .before in
     let z : l .loop .d ≡ 0 = omega arith in
     l .loop .inv .1
-    ∙ ap (λ (x : ℕ). 2 ^ length (diffs (drop x (take (l .before .four-at-most .result) (st .args .t1))))) z
-    ∙ ap (λ (ls : List AxisLocation). 2 ^ length (diffs ls)) (counts-least (st .args .t1) (l .before .four-at-most .result) (st .args .n) (st .good .0 .1 .0 .1) (l .before .four-at-most .ensures))
+    ∙ ap (λ (x : ℕ). 2 ^ length (diffs (drop x (take (l .before .least .result) (st .args .t1))))) z
+    ∙ ap (λ (ls : List AxisLocation). 2 ^ length (diffs ls)) (counts-least (st .args .t1) (l .before .least .result) (st .args .n) (st .good .0 .1 .0 .1) (l .before .least .ensures))
 
 pub corner-count-spec : {M : Type 1} → statement M
 corner-count-spec =
@@ -76,7 +76,7 @@ corner-count-spec =
     (tie.spec
     Inv-loop
     μ-loop
-    four-at-most-requires
+    least-requires
     loop-holds
     sub-d
     mul-location

@@ -14,7 +14,7 @@ use Rattle.blend.proofs.fold.Tie as tie
 use Rattle.blend.proofs.fold.Reads as reads
 use Rattle.blend.proofs.fold.Lts as lts
 use Rattle.blend.proofs.corner_count.Reads as corner-count-reads
-use Rattle.blend.proofs.four_at_most.Reads as four-at-most-reads
+use Rattle.table.proofs.least.Reads as least-reads
 use Rattle.blend.proofs.half_of.Reads as half-of-reads
 use Rattle.blend.proofs.merge.Reads as merge-reads
 
@@ -25,12 +25,12 @@ abbrev μ-loop : tie.MeasureT-loop
 μ-loop n locations axes half₀ v₀ d₀ half v d = axes - d
 
 -- src/lib.rt:101:9
-four-at-most-requires : tie.Need-four-at-most-requires Inv-loop μ-loop
-four-at-most-requires c κs = search needs
+least-requires : tie.Need-least-requires Inv-loop μ-loop
+least-requires c κs = search needs
 
 -- src/lib.rt:102:9
 corner-count-requires : tie.Need-corner-count-requires Inv-loop μ-loop
-corner-count-requires c κs = omega (arith, c .four-at-most .ensures)
+corner-count-requires c κs = omega (arith, c .least .ensures)
 
 -- src/lib.rt:104:9
 slice-aggregate-v : tie.Need-slice-aggregate-v Inv-loop μ-loop
@@ -60,9 +60,9 @@ merge-requires c κs =
     let l = w .before in
     let a = l .before .before .before in
     let s = a .before in
-    let few : a .four-at-most .result ≤ 4 = omega (arith, a .four-at-most .ensures) in
-    let z = fold-at (s .args .t2) (a .four-at-most .result) (l .loop .d) (w .loop-test .taken) (omega (arith, s .good .1 .0 .1 .0 .1, few)) (l .loop .inv .1) in
-    omega (arith, l .loop .inv .0 .1, fold-fits (getD (s .args .t2) (l .loop .d) (Exact 0)) (drop (l .loop .d + 1) (take (a .four-at-most .result) (s .args .t2))) (l .loop .half) (h .half-of .result) (z .counted) (count-few (s .args .t2) (a .four-at-most .result) (l .loop .d) (l .loop .half) few (l .loop .inv .1 .counted)) (h .half-of .ensures))
+    let few : a .least .result ≤ 4 = omega (arith, a .least .ensures) in
+    let z = fold-at (s .args .t2) (a .least .result) (l .loop .d) (w .loop-test .taken) (omega (arith, s .good .1 .0 .1 .0 .1, few)) (l .loop .inv .1) in
+    omega (arith, l .loop .inv .0 .1, fold-fits (getD (s .args .t2) (l .loop .d) (Exact 0)) (drop (l .loop .d + 1) (take (a .least .result) (s .args .t2))) (l .loop .half) (h .half-of .result) (z .counted) (count-few (s .args .t2) (a .least .result) (l .loop .d) (l .loop .half) few (l .loop .inv .1 .counted)) (h .half-of .ensures))
 
 -- src/lib.rt:110:9
 add-d : tie.Need-add-d Inv-loop μ-loop
@@ -81,10 +81,10 @@ loop-again c =
     let l = w .before in
     let a = l .before .before .before in
     let s = a .before in
-    let few : a .four-at-most .result ≤ 4 = omega (arith, a .four-at-most .ensures) in
-    let z = fold-at (s .args .t2) (a .four-at-most .result) (l .loop .d) (w .loop-test .taken) (omega (arith, s .good .1 .0 .1 .0 .1, few)) (l .loop .inv .1) in (
+    let few : a .least .result ≤ 4 = omega (arith, a .least .ensures) in
+    let z = fold-at (s .args .t2) (a .least .result) (l .loop .d) (w .loop-test .taken) (omega (arith, s .good .1 .0 .1 .0 .1, few)) (l .loop .inv .1) in (
       (omega (arith, w .loop-test .taken), m .merge .kept .1 .0 ∙ l .loop .inv .0 .1),
-      fold-step (getD (s .args .t2) (l .loop .d) (Exact 0)) (drop (l .loop .d + 1) (take (a .four-at-most .result) (s .args .t2))) _ (l .loop .v) _ (l .loop .half) (h .half-of .result) z (h .half-of .ensures) (m .merge .ensures),
+      fold-step (getD (s .args .t2) (l .loop .d) (Exact 0)) (drop (l .loop .d + 1) (take (a .least .result) (s .args .t2))) _ (l .loop .v) _ (l .loop .half) (h .half-of .result) z (h .half-of .ensures) (m .merge .ensures),
     )
 
 -- src/lib.rt:112:5
@@ -98,9 +98,9 @@ returns c =
     let l = e .before in
     let a = l .before .before .before in
     let s = a .before in
-    let m = a .four-at-most .result in
+    let m = a .least .result in
     fold-done (s .args .t2) m (l .loop .d) (e .loop-test .left) (l .loop .inv .1)
-    ∙ ap (λ (ls : List AxisLocation). butterfly (diffs ls) (s .args .t1)) (counts-least (s .args .t2) m (s .args .n) (s .good .1 .0 .1 .0 .1) (a .four-at-most .ensures))
+    ∙ ap (λ (ls : List AxisLocation). butterfly (diffs ls) (s .args .t1)) (counts-least (s .args .t2) m (s .args .n) (s .good .1 .0 .1 .0 .1) (a .least .ensures))
 
 pub fold-spec : {M : Type 1} → statement M
 fold-spec =
@@ -108,7 +108,7 @@ fold-spec =
     (tie.spec
     Inv-loop
     μ-loop
-    four-at-most-requires
+    least-requires
     corner-count-requires
     slice-aggregate-v
     loop-holds

@@ -14,10 +14,10 @@ refuse-requires : tie.Need-refuse-requires
 refuse-requires c κs = search needs
 
 returns : tie.Need-returns
-returns c = c .pass .ensures ∙ result-fine _ (sym (c .before .before .is-finite .ensures) ∙ c .before .if1 .taken)
+returns c = c .pass .ensures ∙ result-fine _ _ (sym (c .before .before .is-finite .ensures) ∙ c .before .if1 .taken)
 
 returns-2 : tie.Need-returns-2
-returns-2 c = c .refuse .ensures ∙ result-wild _ (sym (c .before .before .is-finite .ensures) ∙ c .before .if1 .left)
+returns-2 c = c .refuse .ensures ∙ result-wild _ _ (sym (c .before .before .is-finite .ensures) ∙ c .before .if1 .left)
 
 pub result-fault-spec : {M : Type 1} → statement M
 result-fault-spec =

@@ -7,7 +7,7 @@ use lib.Ieee.{Float, nan}
 use denote.Ref.{now}
 use Rattle.answer.specs.Answer.{firstOf}
 use Rattle.answer.proofs.Orders.{passes, fails, first-begin, first-step, first-stop, first-end}
-use Rattle.runs.specs.Runs.{resultFaultAt}
+use Rattle.judge.specs.Check.{resultFault}
 use Rattle.runs.proofs.Blends.{runFault, results-blends}
 use borrow.Author.Needs.{needs}
 use Rattle.runs.proofs.blend_fault.Statement.{statement}
@@ -16,8 +16,8 @@ use Rattle.runs.proofs.blend_fault.Reads as reads
 use Rattle.runs.proofs.blend_fault.Lts as lts
 use Rattle.answer.proofs.pass.Reads as pass-reads
 use Rattle.blend.proofs.blend.Reads as blend-reads
-use Rattle.runs.proofs.result_fault_at.Reads as result-fault-at-reads
-use Rattle.runs.proofs.shorter.Reads as shorter-reads
+use Rattle.judge.proofs.result_fault.Reads as result-fault-reads
+use Rattle.table.proofs.least.Reads as least-reads
 
 abbrev Inv-loop : tie.InvT-loop
 Inv-loop low high f count i₀ i = (i ≤ count) × (firstOf (runFault f low high) 0 count ≡ firstOf (runFault f low high) i (count - i))
@@ -26,12 +26,12 @@ abbrev μ-loop : tie.MeasureT-loop
 μ-loop low high f count i₀ i = count - i
 
 -- src/lib.rt:147:9
-shorter-requires : tie.Need-shorter-requires Inv-loop μ-loop
-shorter-requires c κs = search needs
+least-requires : tie.Need-least-requires Inv-loop μ-loop
+least-requires c κs = search needs
 
 -- src/lib.rt:149:5
 loop-holds : tie.Need-loop-holds Inv-loop μ-loop
-loop-holds c = (search needs, let st = c .before .before .before in first-begin (runFault (st .args .f) (now (st .args .low)) (now (st .args .high))) 0 (c .shorter .result) (c .shorter .result) (omega arith))
+loop-holds c = (search needs, let st = c .before .before .before in first-begin (runFault (st .args .f) (now (st .args .low)) (now (st .args .high))) 0 (c .least .result) (c .least .result) (omega arith))
 
 -- src/lib.rt:150:46
 mul-blend : tie.Need-mul-blend Inv-loop μ-loop
@@ -54,8 +54,8 @@ blend-requires : tie.Need-blend-requires Inv-loop μ-loop
 blend-requires c κs = search needs
 
 -- src/lib.rt:150:13
-result-fault-at-requires : tie.Need-result-fault-at-requires Inv-loop μ-loop
-result-fault-at-requires c κs = search needs
+result-fault-requires : tie.Need-result-fault-requires Inv-loop μ-loop
+result-fault-requires c κs = search needs
 
 -- src/lib.rt:152:13
 returns : tie.Need-returns Inv-loop μ-loop
@@ -64,10 +64,10 @@ returns c =
     let w = f .before .before .before .before in
     let l = w .before in
     let st = l .before .before .before .before in
-    let same = f .result-fault-at .ensures ∙ ap (resultFaultAt (l .loop .i)) (f .before .blend .ensures) in
+    let same = f .result-fault .ensures ∙ ap (resultFault (l .loop .i)) (f .before .blend .ensures) in
     same
-    ∙ sym (l .loop .inv .1 ∙ first-stop (runFault (st .args .f) (now (st .args .low)) (now (st .args .high))) (l .loop .i) (l .before .shorter .result) (w .loop-test .taken) (fails _ _ same (c .if1 .taken)))
-    ∙ ap (λ (n : ℕ). firstOf (runFault (st .args .f) (now (st .args .low)) (now (st .args .high))) 0 n) (l .before .shorter .ensures)
+    ∙ sym (l .loop .inv .1 ∙ first-stop (runFault (st .args .f) (now (st .args .low)) (now (st .args .high))) (l .loop .i) (l .before .least .result) (w .loop-test .taken) (fails _ _ same (c .if1 .taken)))
+    ∙ ap (λ (n : ℕ). firstOf (runFault (st .args .f) (now (st .args .low)) (now (st .args .high))) 0 n) (l .before .least .ensures)
     ∙ sym (results-blends (st .args .f) (now (st .args .low)) (now (st .args .high)))
 
 -- src/lib.rt:154:9
@@ -85,8 +85,8 @@ loop-again c =
     let w = f .before .before .before .before in
     let l = w .before in
     let st = l .before .before .before .before in
-    let same = f .result-fault-at .ensures ∙ ap (resultFaultAt (l .loop .i)) (f .before .blend .ensures) in
-    (omega (arith, w .loop-test .taken), l .loop .inv .1 ∙ first-step (runFault (st .args .f) (now (st .args .low)) (now (st .args .high))) (l .loop .i) (l .before .shorter .result) (w .loop-test .taken) (passes _ _ same (c .if1 .left)))
+    let same = f .result-fault .ensures ∙ ap (resultFault (l .loop .i)) (f .before .blend .ensures) in
+    (omega (arith, w .loop-test .taken), l .loop .inv .1 ∙ first-step (runFault (st .args .f) (now (st .args .low)) (now (st .args .high))) (l .loop .i) (l .before .least .result) (w .loop-test .taken) (passes _ _ same (c .if1 .left)))
 
 -- src/lib.rt:156:5
 pass-requires : tie.Need-pass-requires Inv-loop μ-loop
@@ -98,8 +98,8 @@ returns-2 c =
     let l = c .before .before in
     let st = l .before .before .before .before in
     c .pass .ensures
-    ∙ sym (l .loop .inv .1 ∙ first-end (runFault (st .args .f) (now (st .args .low)) (now (st .args .high))) (l .loop .i) (l .before .shorter .result) (c .before .loop-test .left))
-    ∙ ap (λ (n : ℕ). firstOf (runFault (st .args .f) (now (st .args .low)) (now (st .args .high))) 0 n) (l .before .shorter .ensures)
+    ∙ sym (l .loop .inv .1 ∙ first-end (runFault (st .args .f) (now (st .args .low)) (now (st .args .high))) (l .loop .i) (l .before .least .result) (c .before .loop-test .left))
+    ∙ ap (λ (n : ℕ). firstOf (runFault (st .args .f) (now (st .args .low)) (now (st .args .high))) 0 n) (l .before .least .ensures)
     ∙ sym (results-blends (st .args .f) (now (st .args .low)) (now (st .args .high)))
 
 pub blend-fault-spec : {M : Type 1} → statement M
@@ -108,14 +108,14 @@ blend-fault-spec =
     (tie.spec
     Inv-loop
     μ-loop
-    shorter-requires
+    least-requires
     loop-holds
     mul-blend
     shared-slice-read-blend
     mul-blend-2
     shared-slice-read-blend-2
     blend-requires
-    result-fault-at-requires
+    result-fault-requires
     returns
     add-i
     loop-less

@@ -16,7 +16,7 @@ use Rattle.runs.proofs.blend_into.Tie as tie
 use Rattle.runs.proofs.blend_into.Reads as reads
 use Rattle.runs.proofs.blend_into.Lts as lts
 use Rattle.blend.proofs.blend.Reads as blend-reads
-use Rattle.runs.proofs.shorter.Reads as shorter-reads
+use Rattle.table.proofs.least.Reads as least-reads
 
 abbrev Inv-loop : tie.InvT-loop
 Inv-loop low high f out₀ both count i₀ out i = ((i ≤ count) × (length out ≡ length out₀)) × (out ≡ tabulate i (runAt f low high) ++ drop i out₀)
@@ -25,12 +25,12 @@ abbrev μ-loop : tie.MeasureT-loop
 μ-loop low high f out₀ both count i₀ out i = count - i
 
 -- src/lib.rt:163:9
-shorter-requires : tie.Need-shorter-requires Inv-loop μ-loop
-shorter-requires c κs = search needs
+least-requires : tie.Need-least-requires Inv-loop μ-loop
+least-requires c κs = search needs
 
 -- src/lib.rt:164:9
-shorter-requires-2 : tie.Need-shorter-requires-2 Inv-loop μ-loop
-shorter-requires-2 c κs = search needs
+least-requires-2 : tie.Need-least-requires-2 Inv-loop μ-loop
+least-requires-2 c κs = search needs
 
 -- src/lib.rt:166:5
 loop-holds : tie.Need-loop-holds Inv-loop μ-loop
@@ -62,7 +62,7 @@ mul-out c = search needs
 
 -- src/lib.rt:167:9
 slice-write-out : tie.Need-slice-write-out Inv-loop μ-loop
-slice-write-out c = let w = c .before .before .before in let l = w .before in omega (arith, w .loop-test .taken, l .before .shorter2 .ensures, l .loop .inv .0 .1)
+slice-write-out c = let w = c .before .before .before in let l = w .before in omega (arith, w .loop-test .taken, l .before .least2 .ensures, l .loop .inv .0 .1)
 
 -- src/lib.rt:168:9
 add-i : tie.Need-add-i Inv-loop μ-loop
@@ -79,7 +79,7 @@ loop-again c =
     let l = w .before in
     let st = l .before .before .before .before .before .before in
     let h : ℕ → Float = runAt (st .args .f) (now (st .args .low)) (now (st .args .high)) in
-    let room : l .loop .i < length (now (st .args .out)) = omega (arith, w .loop-test .taken, l .before .shorter2 .ensures) in (
+    let room : l .loop .i < length (now (st .args .out)) = omega (arith, w .loop-test .taken, l .before .least2 .ensures) in (
       (omega (arith, w .loop-test .taken), length-set (l .loop .out) (l .loop .i) (c .blend .result) ∙ l .loop .inv .0 .1),
       ap₂ (λ (x : List Float) (y : Float). set x (l .loop .i) y) (l .loop .inv .1) (c .blend .ensures) ∙ tabulate-step (l .loop .i) h (now (st .args .out)) room,
     )
@@ -95,7 +95,7 @@ returns c =
     let l = c .before in
     let st = l .before .before .before .before .before .before in
     let h : ℕ → Float = runAt (st .args .f) (now (st .args .low)) (now (st .args .high)) in
-    let e : l .loop .i ≡ min (min (length (now (st .args .low))) (length (now (st .args .high)))) (length (now (st .args .out))) = omega (arith, c .loop-test .left, l .loop .inv .0 .0, l .before .shorter2 .ensures, l .before .before .shorter .ensures) in
+    let e : l .loop .i ≡ min (min (length (now (st .args .low))) (length (now (st .args .high)))) (length (now (st .args .out))) = omega (arith, c .loop-test .left, l .loop .inv .0 .0, l .before .least2 .ensures, l .before .before .least .ensures) in
     l .loop .inv .1 ∙ ap (λ (k : ℕ). tabulate k h ++ drop k (now (st .args .out))) e
 
 pub blend-into-spec : {M : Type 1} → statement M
@@ -104,8 +104,8 @@ blend-into-spec =
     (tie.spec
     Inv-loop
     μ-loop
-    shorter-requires
-    shorter-requires-2
+    least-requires
+    least-requires-2
     loop-holds
     mul-blend
     shared-slice-read-blend

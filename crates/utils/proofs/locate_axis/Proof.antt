@@ -31,7 +31,7 @@ returns-2 c =
     let w = c .before .before in
     let a = w .before .before in
     let f = a .before .before .before in
-    axis-refused _ _ (or-goes-on _ _ (f .axis-reading-fault .ensures) _ _ (a .before .if1 .left) (w .result-fault .ensures ∙ ap resultFault (w .before .location-fraction .ensures ∙ ap locationFraction (read-location _ _ (passes _ _ (f .axis-reading-fault .ensures) (a .before .if1 .left)) _ (a .location-by .ensures))))) _ (c .if2 .taken)
+    axis-refused _ _ (or-goes-on _ _ (f .axis-reading-fault .ensures) _ _ (a .before .if1 .left) (w .result-fault .ensures ∙ ap (resultFault 0) (w .before .location-fraction .ensures ∙ ap locationFraction (read-location _ _ (passes _ _ (f .axis-reading-fault .ensures) (a .before .if1 .left)) _ (a .location-by .ensures))))) _ (c .if2 .taken)
 
 returns-3 : tie.Need-returns-3
 unfolding locateAxis
@@ -39,7 +39,7 @@ returns-3 c =
     let w = c .before .before in
     let a = w .before .before in
     let f = a .before .before .before in
-    axis-given _ _ (or-goes-on _ _ (f .axis-reading-fault .ensures) _ _ (a .before .if1 .left) (w .result-fault .ensures ∙ ap resultFault (w .before .location-fraction .ensures ∙ ap locationFraction (read-location _ _ (passes _ _ (f .axis-reading-fault .ensures) (a .before .if1 .left)) _ (a .location-by .ensures))))) _ _ (c .if2 .left) (read-location _ _ (passes _ _ (f .axis-reading-fault .ensures) (a .before .if1 .left)) _ (a .location-by .ensures))
+    axis-given _ _ (or-goes-on _ _ (f .axis-reading-fault .ensures) _ _ (a .before .if1 .left) (w .result-fault .ensures ∙ ap (resultFault 0) (w .before .location-fraction .ensures ∙ ap locationFraction (read-location _ _ (passes _ _ (f .axis-reading-fault .ensures) (a .before .if1 .left)) _ (a .location-by .ensures))))) _ _ (c .if2 .left) (read-location _ _ (passes _ _ (f .axis-reading-fault .ensures) (a .before .if1 .left)) _ (a .location-by .ensures))
 
 pub locate-axis-spec : {M : Type 1} → statement M
 locate-axis-spec =

@@ -3,5 +3,6 @@ pub mod Heads
 pub mod Floats
 pub mod Loads
 pub mod Laws
+pub mod Refusals
 pub mod Unique
 pub mod Examples

@@ -1,6 +1,6 @@
--- Demand 1: a refused lookup has value +0.0. Assumes nothing.
+-- Demand 1: a refused lookup has value +0.0; and a lookup that succeeds answers 0, 0, 0 and its value. Assumes nothing.
 use mathlib.Core.Path.{_≡_, sym, ap, _∙_}
-use mathlib.Core.Bool.{false}
+use mathlib.Core.Bool.{true, false}
 use mathlib.Core.List.{List}
 use Prim.Native.Nat.{ℕ}
 use lib.Ieee.{Float}
@@ -19,7 +19,7 @@ use Rattle.ninterp.specs.Linears.{interpolated, linearAnswer, linearUnif
 use Rattle.uniform.proofs.Bares.{bare-uniform}
 use Rattle.table.proofs.Bares.{bare-length, bare-frame, bare-axes, bare-ranges}
 use Rattle.lists.proofs.Bares.{bare-values, bare-directions, bare-readings}
-use Rattle.answer.proofs.Bares.{Bare, bare-or, row, after}
+use Rattle.answer.proofs.Bares.{Bare, bare-or, row, after, succeeds}
 
 pub nearest-refusal : (s : Shape) (nodes values readings : List Float) → good (nearestAnswer s nodes values readings) ≡ false → nearestAnswer s nodes values readings .value ≡ plusZero
 unfolding nearestAnswer lookupFault
@@ -35,11 +35,11 @@ step-refusal s nodes values readings directions bad =
     (bare-or _ _ (bare-axes _ nodes) (bare-or _ _ (bare-values values) (bare-or _ _ (bare-directions directions) (bare-or _ _ (bare-readings readings) (bare-ranges _ nodes readings)))))))) bad
 
 -- 12 is the last check before the value
-after-computed : (a : Answer) (v : Float) → Bare a → good (a or computed v) ≡ false → Bare (a or computed v)
+after-computed : (a : Answer) (v : Float) → Bare a → good (a or computed v) ≡ false → (a or computed v) .value ≡ plusZero
 unfolding computed resultFault
 after-computed a v h bad =
     ap (λ (x : Answer). x .value) (sym (orders.or-assoc a (resultFault 0 v) (answered v)))
-    ∙ after (a or resultFault 0 v) v (bare-or a (resultFault 0 v) h (row _ 12 0 0)) (ap good (orders.or-assoc a (resultFault 0 v) (answered v)) ∙ bad)
+    ∙ after (a or resultFault 0 v) v (bare-or a (resultFault 0 v) h (row _ 11 0 0)) (ap good (orders.or-assoc a (resultFault 0 v) (answered v)) ∙ bad)
 
 pub linear-refusal : (s : Shape) (nodes values readings : List Float) → good (linearAnswer s nodes values readings) ≡ false → linearAnswer s nodes values readings .value ≡ plusZero
 unfolding linearAnswer lookupFault
@@ -53,3 +53,27 @@ linear-uniform-refusal s nodes values readings bad =
     after-computed _ (interpolated uniformLocation (countsOf s) nodes values readings)
     (bare-or _ _ (bare-frame s _ _) (bare-or _ _ (bare-length 2 _ _) (bare-or _ _ (bare-axes _ nodes) (bare-or _ _ (bare-values values)
     (bare-or _ _ (bare-uniform _ nodes) (bare-or _ _ (bare-readings readings) (bare-ranges _ nodes readings))))))) bad
+
+-- ---- what a success tells
+pub nearest-success : (s : Shape) (nodes values readings : List Float) → good (nearestAnswer s nodes values readings) ≡ true → nearestAnswer s nodes values readings ≡ answered (picked nearestRule (countsOf s) nodes values readings)
+unfolding nearestAnswer
+nearest-success s nodes values readings = succeeds (lookupFault s nodes values readings) (picked nearestRule (countsOf s) nodes values readings)
+
+pub step-success : (s : Shape) (nodes values readings : List Float) (directions : List ℕ) → good (stepAnswer s nodes values readings directions) ≡ true
+    → stepAnswer s nodes values readings directions ≡ answered (picked (stepRule directions) (countsOf s) nodes values readings)
+unfolding stepAnswer
+step-success s nodes values readings directions = succeeds (stepFault s nodes values readings directions) (picked (stepRule directions) (countsOf s) nodes values readings)
+
+computed-succeeds : (a : Answer) (v : Float) → good (a or computed v) ≡ true → (a or computed v) ≡ answered v
+unfolding computed
+computed-succeeds a v h =
+    sym (orders.or-assoc a (resultFault 0 v) (answered v)) ∙ succeeds (a or resultFault 0 v) v (ap good (orders.or-assoc a (resultFault 0 v) (answered v)) ∙ h)
+
+pub linear-success : (s : Shape) (nodes values readings : List Float) → good (linearAnswer s nodes values readings) ≡ true → linearAnswer s nodes values readings ≡ answered (interpolated axisLocation (countsOf s) nodes values readings)
+unfolding linearAnswer
+linear-success s nodes values readings = computed-succeeds (lookupFault s nodes values readings) (interpolated axisLocation (countsOf s) nodes values readings)
+
+pub linear-uniform-success : (s : Shape) (nodes values readings : List Float) → good (linearUniformAnswer s nodes values readings) ≡ true
+    → linearUniformAnswer s nodes values readings ≡ answered (interpolated uniformLocation (countsOf s) nodes values readings)
+unfolding linearUniformAnswer
+linear-uniform-success s nodes values readings = computed-succeeds (linearUniformFault s nodes values readings) (interpolated uniformLocation (countsOf s) nodes values readings)

@@ -13,11 +13,11 @@ use Rattle.lists.proofs.Bares.{bare-node, bare-range}
 -- ---- the rows of the judge
 pub bare-length : (place wanted lent : ℕ) → Bare (lengthFault place wanted lent)
 unfolding lengthFault
-bare-length place wanted lent = row _ 3 0 place
+bare-length place wanted lent = row _ 2 0 place
 
 pub bare-shape : (s : Shape) → Bare (shapeFault s)
 unfolding shapeFault countFault
-bare-shape s = bare-or _ _ (row _ 1 0 0) (bare-or _ _ (bare-first _ (λ a. row _ 2 a 0) 0 (s .axes)) (row _ 2 0 0))
+bare-shape s = bare-or _ _ (row _ 0 0 0) (bare-or _ _ (bare-first _ (λ a. row _ 1 a 0) 0 (s .axes)) (row _ 1 0 0))
 
 pub bare-frame : (s : Shape) (n v : ℕ) → Bare (frameFault s n v)
 unfolding frameFault

@@ -3,6 +3,7 @@ pub mod Headers
 pub mod Images
 pub mod Writes
 pub mod Laws
+pub mod Refusals
 pub mod Back
 pub mod Made
 pub mod Trip

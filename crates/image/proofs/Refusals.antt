@@ -1,0 +1,36 @@
+-- Demand 1: what the loader answers gives no value, and a success is 0, 0, 0. Assumes nothing.
+use mathlib.Core.Bool.{Bool, true, false, cond}
+use mathlib.Core.List.{List}
+use Prim.Native.Nat.{ℕ, _+_, _*_}
+use lib.Dec.{ltb}
+use Rattle.answer.specs.declared.Answer.{Answer}
+use Rattle.answer.proofs.Bares.{Bare, bare-or, bare-first, row}
+use Rattle.judge.specs.Check.{countFault, roomFault}
+use Rattle.lists.proofs.Bares.{bare-values}
+use Rattle.table.proofs.Bares.{bare-axes}
+use Rattle.image.specs.Image.{axesField, countField}
+use Rattle.image.specs.Load.{fieldFault, shortFault, axesRow, lengthRow, startFault, countRow, productRow, offsetRow, headFault, areaFault, areasFault, roomsFault, contentsFault, loadFault}
+
+either : (b : Bool) (a c : Answer) → Bare a → Bare c → Bare (cond b a c)
+either true a c h g = h
+either false a c h g = g
+
+bare-count : (img : List ℕ) (a : ℕ) → Bare (countRow img a)
+unfolding countRow countFault fieldFault
+bare-count img a = either (ltb a (axesField img)) (countFault a (countField img a)) (fieldFault (8 + 2 * a) 0 (countField img a)) (row _ 1 a 0) (row _ 12 0 _)
+
+bare-start : (img : List ℕ) → Bare (startFault img)
+unfolding startFault shortFault fieldFault axesRow lengthRow
+bare-start img = bare-or _ _ (row _ 12 0 0) (bare-or _ _ (row _ 12 0 0) (bare-or _ _ (row _ 0 0 0) (bare-or _ _ (row _ 12 0 2) (row _ 12 0 4))))
+
+bare-head : (img : List ℕ) → Bare (headFault img)
+unfolding headFault productRow offsetRow fieldFault
+bare-head img =
+    bare-or _ _ (bare-start img) (bare-or _ _ (bare-first _ (bare-count img) 0 4) (bare-or _ _ (row _ 1 0 0) (bare-or _ _ (bare-first _ (λ a. row _ 12 0 _) _ _) (row _ 12 0 36))))
+
+pub load-bare : (img : List ℕ) (nodes values : ℕ) → Bare (loadFault img nodes values)
+unfolding loadFault areasFault areaFault roomsFault roomFault contentsFault
+load-bare img nodes values =
+    bare-or _ _ (bare-head img)
+    (bare-or _ _ (bare-or _ _ (bare-first _ (λ a. row _ 13 a 0) 0 _) (row _ 13 _ 0))
+    (bare-or _ _ (bare-or _ _ (row _ 14 0 0) (row _ 14 0 1)) (bare-or _ _ (bare-axes _ _) (bare-values _))))

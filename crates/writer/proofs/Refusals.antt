@@ -1,0 +1,14 @@
+-- Demand 1: what the writer answers gives no value, and a success is 0, 0, 0. Assumes nothing.
+use mathlib.Core.List.{List}
+use Prim.Native.Nat.{ℕ}
+use lib.Ieee.{Float}
+use Rattle.answer.proofs.Bares.{Bare, bare-or, row}
+use Rattle.judge.specs.Check.{roomFault}
+use Rattle.lists.proofs.Bares.{bare-values}
+use Rattle.table.specs.declared.Shape.{Shape}
+use Rattle.table.proofs.Bares.{bare-frame, bare-axes}
+use Rattle.writer.specs.Write.{writeFault}
+
+pub write-bare : (s : Shape) (nodes values : List Float) (room : ℕ) → Bare (writeFault s nodes values room)
+unfolding writeFault roomFault
+write-bare s nodes values room = bare-or _ _ (bare-frame s _ _) (bare-or _ _ (bare-axes _ nodes) (bare-or _ _ (bare-values values) (row _ 14 0 2)))

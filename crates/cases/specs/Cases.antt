@@ -20,7 +20,7 @@ use Rattle.ninterp.specs.Linears.{locations, interpolated, linearAnswer}
 use Rattle.slices.specs.Slices.{shapeWithout, pointFault, sliceAnswer}
 use Rattle.slices.specs.LinearSlices.{alongFirst, linearValues, linearRest, linearSliceFault, linearSlice, linearSliced}
 use Rattle.table.specs.Shape.{size, total, axesOf, strides, placeBy, table, indicesAt}
-use Rattle.table.specs.Table.{shapeFault, lengthFault, frameFault, axesFault, rangesFault}
+use Rattle.table.specs.Table.{shapeFault, lengthFault, frameFault, axesFault, rangesFault, axesRow, productRow}
 use Rattle.lists.specs.Lists.{valueFault, valuesFault, readingsFault, rangeFault}
 use Rattle.table.specs.declared.Shape.{Shape}
 use Rattle.order.specs.Lookups.{lookupFault}
@@ -134,5 +134,5 @@ cases =
 
 -- the claim over all of it
 pub cases-hold : map (λ c. c .tells) cases ≡ map (λ c. c .paper) cases
-unfolding cases locateLowerIndex locateAxis locateStepIndex locateLowerIndexUniform validateUniformGridEpsilon indexAnswer axisAnswer axisReadingFault directedFault uniformReadFault nearestIndex indices picked nearestAnswer howMany lowerIndex exactNode fraction axisLocation lowerStep upperStep stepIndex uniformCell uniformIndex gap apart gapFault uniformFault toleranceOf countFault riseFault nodeFault nodesFault axisFault finiteFault lentStepFault directionFault readingFault resultFault refused answered fine good when _or_ firstOf given ofInt toUnsigned lt le eq add sub mul div locations interpolated linearAnswer shapeWithout pointFault sliceAnswer filledInto alongFirst linearValues linearRest linearSliceFault linearSlice linearSliced size total axesOf strides placeBy table indicesAt shapeFault lengthFault frameFault axesFault valueFault valuesFault readingsFault rangeFault rangesFault lookupFault notFirstFault roomFault linearFront blended computed resultsFault
+unfolding cases locateLowerIndex locateAxis locateStepIndex locateLowerIndexUniform validateUniformGridEpsilon indexAnswer axisAnswer axisReadingFault directedFault uniformReadFault nearestIndex indices picked nearestAnswer howMany lowerIndex exactNode fraction axisLocation lowerStep upperStep stepIndex uniformCell uniformIndex gap apart gapFault uniformFault toleranceOf countFault riseFault nodeFault nodesFault axisFault finiteFault lentStepFault directionFault readingFault resultFault refused answered fine good when _or_ firstOf given ofInt toUnsigned lt le eq add sub mul div locations interpolated linearAnswer shapeWithout pointFault sliceAnswer filledInto alongFirst linearValues linearRest linearSliceFault linearSlice linearSliced size total axesOf strides placeBy table indicesAt shapeFault lengthFault frameFault axesFault valueFault valuesFault readingsFault rangeFault rangesFault lookupFault notFirstFault roomFault linearFront blended computed resultsFault axesRow productRow
 cases-hold = refl

@@ -8,11 +8,11 @@ use lib.Ieee.{fin, ofBits, sub, lt}
 use Rattle.answer.specs.Answer.{refused, answered, fine, good, when, firstOf, given, _or_}
 use Rattle.judge.specs.Check.{countFault, finiteFault, riseFault, nodeFault, nodesFault, roomFault}
 use Rattle.table.specs.Shape.{size, total, axesOf}
-use Rattle.table.specs.Table.{axesFault}
+use Rattle.table.specs.Table.{axesFault, axesRow, productRow}
 use Rattle.lists.specs.Lists.{valueFault, valuesFault}
 use Rattle.words.specs.Words.{ofBytes, wordAt, floatAt}
 use Rattle.image.specs.Image.{axesField, countField, offsetField, valuesField, shapeOf, floatsAt, nodesFrom, nodesIn, valuesIn}
-use Rattle.image.specs.Load.{fieldFault, shortFault, axesRow, lengthRow, startFault, countRow, productRow, offsetRow, headFault, areaFault, areasFault, roomsFault, contentsFault, loadFault}
+use Rattle.image.specs.Load.{fieldFault, shortFault, lengthRow, startFault, countRow, offsetRow, headFault, areaFault, areasFault, roomsFault, contentsFault, loadFault}
 
 -- 01 01 0000; length 72; counts 2 0 0 0; offsets 40 0 0 0; values at 56; zero; nodes 0.0, 2.0; values 10.0, 20.0
 abbrev pub img : List ℕ

@@ -12,12 +12,12 @@ use Rattle.answer.proofs.Orders as orders
 use Rattle.judge.specs.Check.{countFault}
 use Rattle.judge.proofs.Rows.{not-false, and-left, and-right}
 use Rattle.table.specs.Shape.{tabulate}
-use Rattle.table.specs.Table.{shapeFault}
+use Rattle.table.specs.Table.{shapeFault, axesRow, productRow}
 use Rattle.table.specs.declared.Shape.{Shape}
 use Rattle.table.proofs.Layouts.{getD-tabulate}
 use Rattle.words.specs.Words.{wordAt}
 use Rattle.image.specs.Image.{axesField, countField, shapeOf}
-use Rattle.image.specs.Load.{fieldFault, shortFault, axesRow, lengthRow, startFault, countRow, productRow, headFault}
+use Rattle.image.specs.Load.{fieldFault, shortFault, lengthRow, startFault, countRow, headFault}
 use Rattle.image.proofs.Rows.{field-is, count-used, count-unused}
 
 pub shape-same : (img : List ℕ) (n a b c d : ℕ) → n ≡ axesField img → a ≡ countField img 0 → b ≡ countField img 1 → c ≡ countField img 2 → d ≡ countField img 3

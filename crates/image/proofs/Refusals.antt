@@ -9,7 +9,8 @@ use Rattle.judge.specs.Check.{countFault, roomFault}
 use Rattle.lists.proofs.Bares.{bare-values}
 use Rattle.table.proofs.Bares.{bare-axes}
 use Rattle.image.specs.Image.{axesField, countField}
-use Rattle.image.specs.Load.{fieldFault, shortFault, axesRow, lengthRow, startFault, countRow, productRow, offsetRow, headFault, areaFault, areasFault, roomsFault, contentsFault, loadFault}
+use Rattle.image.specs.Load.{fieldFault, shortFault, lengthRow, startFault, countRow, offsetRow, headFault, areaFault, areasFault, roomsFault, contentsFault, loadFault}
+use Rattle.table.specs.Table.{axesRow, productRow}
 
 either : (b : Bool) (a c : Answer) → Bare a → Bare c → Bare (cond b a c)
 either true a c h g = h

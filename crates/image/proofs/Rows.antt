@@ -10,7 +10,8 @@ use Rattle.answer.proofs.Orders.{row-met, row-passed, row-good}
 use Rattle.judge.specs.Check.{countFault}
 use Rattle.judge.proofs.Rows.{and-false, not-false}
 use Rattle.image.specs.Image.{axesField, countField}
-use Rattle.image.specs.Load.{fieldFault, shortFault, axesRow, lengthRow, countRow, areaFault}
+use Rattle.image.specs.Load.{fieldFault, shortFault, lengthRow, countRow, areaFault}
+use Rattle.table.specs.Table.{axesRow}
 
 module _ (place wanted x : ℕ) where
   pub field-wrong : (x ≡ wanted → ⊥) → refused 13 0 place ≡ fieldFault place wanted x

@@ -8,7 +8,7 @@ use Rattle.answer.specs.Answer.{refused, when, _or_, firstOf, given}
 use Rattle.answer.specs.declared.Answer.{Answer}
 use Rattle.judge.specs.Check.{countFault, roomFault}
 use Rattle.table.specs.Shape.{countsOf, size, total, noShape}
-use Rattle.table.specs.Table.{axesFault}
+use Rattle.table.specs.Table.{axesRow, productRow, axesFault}
 use Rattle.lists.specs.Lists.{valuesFault}
 use Rattle.table.specs.declared.Shape.{Shape}
 use Rattle.words.specs.Words.{wordAt}
@@ -22,10 +22,6 @@ fieldFault place wanted x = when (not (eqb x wanted)) (refused 13 0 place)
 -- "under 40 bytes (13)", "under 40 bytes 0"
 unfoldable pub shortFault : ℕ → Answer
 shortFault len = when (ltb len 40) (refused 13 0 0)
-
--- "byte 1 (1)"
-unfoldable pub axesRow : ℕ → Answer
-axesRow axes = when (not (leb 1 axes && leb axes 4)) (refused 1 0 0)
 
 -- "length, equal to the lent length and 40 to 36,864"
 unfoldable pub lengthRow : ℕ → ℕ → Answer
@@ -43,10 +39,6 @@ startFault img =
 -- "counts axis by axis (2, or 13 if unused)"
 unfoldable pub countRow : List ℕ → ℕ → Answer
 countRow img a = cond (ltb a (axesField img)) (countFault a (countField img a)) (fieldFault (8 + 2 * a) 0 (countField img a))
-
--- "product (2)"
-unfoldable pub productRow : Shape → Answer
-productRow s = when (ltb 4096 (size (countsOf s))) (refused 2 0 0)
 
 -- "unused offsets", from the first that is not used
 unfoldable pub offsetRow : List ℕ → ℕ → Answer

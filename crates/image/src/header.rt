@@ -4,7 +4,8 @@ ghost use Prim.Native.Nat.{_+_, _-_, _*_, _<_, _≤_};
 ghost use Rattle.answer.specs.Answer.{firstOf};
 ghost use Rattle.words.specs.Words.{wordAt};
 ghost use Rattle.image.specs.Image.{axesField, countField, offsetField, valuesField, shapeOf};
-ghost use Rattle.image.specs.Load.{fieldFault, shortFault, axesRow, lengthRow, startFault, countRow, offsetRow, headFault};
+ghost use Rattle.image.specs.Load.{fieldFault, shortFault, lengthRow, startFault, countRow, offsetRow, headFault};
+ghost use Rattle.table.specs.Table.{axesRow};
 use answer::Answer;
 use table::Shape;
 

@@ -6,18 +6,18 @@ use native.Mathlib.Omega.{arith}
 use mathlib.Core.List.{List, [], _∷_, _++_, append-nil}
 use Prim.Native.Nat.{ℕ, _*_}
 use lib.ListN.{drop}
-use lib.Ieee.{ofBits, toBits, lt, le, eq, add, sub, mul, div, ofInt, toUnsigned}
+use lib.Ieee.{ofBits, toBits, lt, le, eq, add, sub, mul, div}
 use Rattle.answer.specs.Answer.{refused, answered, fine, good, when, _or_, firstOf, given}
-use Rattle.judge.specs.Check.{gap, countFault, finiteFault, riseFault, nodeFault, nodesFault, readingFault, resultFault}
+use Rattle.judge.specs.Check.{gap, countFault, finiteFault, riseFault, nodeFault, nodesFault, readingFault, resultFault, roomFault}
 use Rattle.table.specs.Shape.{size, total, axesOf, strides, placeBy, table}
-use Rattle.table.specs.Table.{shapeFault, lengthFault, frameFault, axesFault, rangesFault}
+use Rattle.table.specs.Table.{shapeFault, lengthFault, frameFault, axesFault, rangesFault, axesRow, productRow}
 use Rattle.lists.specs.Lists.{valueFault, valuesFault, readingsFault, rangeFault}
 use Rattle.words.specs.Words.{ofBytes, wordAt, floatAt}
 use Rattle.order.specs.Lookups.{lookupFault}
 use Rattle.blend.specs.Blend.{blended, computed}
 use Rattle.image.proofs.Examples.{img}
 use Rattle.image.specs.Image.{axesField, countField, offsetField, valuesField, shapeOf, floatsAt, nodesFrom, nodesIn, valuesIn}
-use Rattle.image.specs.Load.{fieldFault, shortFault, axesRow, lengthRow, startFault, countRow, productRow, offsetRow, headFault, areaFault, areasFault, roomsFault, contentsFault, loadFault}
+use Rattle.image.specs.Load.{fieldFault, shortFault, lengthRow, startFault, countRow, offsetRow, headFault, areaFault, areasFault, roomsFault, contentsFault, loadFault}
 use Rattle.lines.specs.Digit.{glyphOf, digits, places, decimal}
 use Rattle.lines.specs.Line.{okLine, noLine, lineOf}
 use Rattle.lines.specs.Stream.{Rule, linesFirst, linesOf}
@@ -29,7 +29,6 @@ use Rattle.ninterp.specs.Linears.{locations, interpolated, linearAnswer}
 use Rattle.ninterp.specs.Records.{kindAnswer, recordReadings, recordAnswer, recordRule}
 use Rattle.records.specs.Run.{runOf}
 use Rattle.records.proofs.Laws.{run-loaded}
-use Rattle.judge.specs.Check.{roomFault}
 
 -- kind 0 at 0.5, kind 2 at 1.0, kind 0 at 3.0
 abbrev three : List ℕ

@@ -5,7 +5,7 @@ use lib.ListN.{getD}
 use lib.Ieee.{Float}
 use Rattle.judge.specs.Check.{countFault, nodesFault}
 use Rattle.table.specs.Shape.{axesOf}
-use Rattle.table.specs.Table.{shapeFault, lengthFault, frameFault, axesFault, rangesFault}
+use Rattle.table.specs.Table.{shapeFault, lengthFault, frameFault, axesFault, rangesFault, axesRow, productRow}
 use Rattle.table.specs.declared.Shape.{Shape}
 use Rattle.answer.proofs.Bares.{Bare, bare-or, bare-first, row}
 use Rattle.lists.proofs.Bares.{bare-node, bare-range}
@@ -16,7 +16,7 @@ unfolding lengthFault
 bare-length place wanted lent = row _ 2 0 place
 
 pub bare-shape : (s : Shape) → Bare (shapeFault s)
-unfolding shapeFault countFault
+unfolding shapeFault countFault axesRow productRow
 bare-shape s = bare-or _ _ (row _ 0 0 0) (bare-or _ _ (bare-first _ (λ a. row _ 1 a 0) 0 (s .axes)) (row _ 1 0 0))
 
 pub bare-frame : (s : Shape) (n v : ℕ) → Bare (frameFault s n v)

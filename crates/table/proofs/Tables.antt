@@ -11,7 +11,7 @@ use Rattle.answer.specs.declared.Answer.{Answer}
 use Rattle.answer.proofs.Orders as orders
 use Rattle.judge.specs.Check.{countFault}
 use Rattle.table.specs.Shape.{countsOf, size, total}
-use Rattle.table.specs.Table.{shapeFault, sizesOf, lengthFault}
+use Rattle.table.specs.Table.{shapeFault, sizesOf, lengthFault, axesRow, productRow}
 use Rattle.table.specs.declared.Shape.{Shape}
 use Rattle.table.specs.declared.Holding.{Holding}
 use Rattle.judge.proofs.Rows.{and-false, and-left, and-right, not-false, count-enough, count-few}
@@ -31,16 +31,16 @@ module _ (s : Shape) where
   then = firstOf counts 0 (s .axes) or large
 
   pub axes-low : s .axes < 1 → refused 1 0 0 ≡ shapeFault s
-  unfolding shapeFault
+  unfolding shapeFault axesRow productRow
   axes-low h = orders.row-stops outside 0 0 0 then (ap (λ (b : Bool). not (b && leb (s .axes) 4)) (lt-leb 1 (s .axes) h))
 
   pub axes-high : 4 < s .axes → refused 1 0 0 ≡ shapeFault s
-  unfolding shapeFault
+  unfolding shapeFault axesRow productRow
   axes-high h = orders.row-stops outside 0 0 0 then (ap not (and-false (leb 1 (s .axes)) (leb (s .axes) 4) (lt-leb (s .axes) 4 h)))
 
   module _ (low : 1 ≤ s .axes) (high : s .axes ≤ 4) where
     axes-on : then ≡ shapeFault s
-    unfolding shapeFault
+    unfolding shapeFault axesRow productRow
     axes-on = orders.row-goes-on outside 0 0 0 then (ap not (ap₂ _&&_ (le-leb 1 (s .axes) low) (le-leb (s .axes) 4 high)))
 
     module _ (r : Answer) (e : r ≡ firstOf counts 0 (s .axes)) where
@@ -63,11 +63,11 @@ module _ (s : Shape) where
   -- what a shape is that passes
   module _ (h : good (shapeFault s) ≡ true) where
     counted : leb 1 (s .axes) && leb (s .axes) 4 ≡ true
-    unfolding shapeFault
+    unfolding shapeFault axesRow productRow
     counted = not-false (leb 1 (s .axes) && leb (s .axes) 4) (orders.row-good outside 0 0 0 (orders.first-passed (when outside (refused 1 0 0)) then h))
 
     later : good then ≡ true
-    unfolding shapeFault
+    unfolding shapeFault axesRow productRow
     later = orders.second-passed (when outside (refused 1 0 0)) then h
 
     pub shape-some : 1 ≤ s .axes

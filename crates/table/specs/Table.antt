@@ -14,12 +14,17 @@ use Rattle.table.specs.declared.Shape.{Shape}
 use Rattle.table.specs.declared.Holding.{Holding}
 use Rattle.lists.specs.Lists.{rangeFault}
 
--- 1: "axes not 1 to 4"; 2: "a count outside 2 to 64, else product above 4,096"
+-- 1: "axes not 1 to 4"
+unfoldable pub axesRow : ℕ → Answer
+axesRow axes = when (not (leb 1 axes && leb axes 4)) (refused 1 0 0)
+
+-- 2: ".. else product above 4,096"
+unfoldable pub productRow : Shape → Answer
+productRow s = when (ltb 4096 (size (countsOf s))) (refused 2 0 0)
+
+-- 1, then 2: "a count outside 2 to 64, else product above 4,096"
 unfoldable pub shapeFault : Shape → Answer
-shapeFault s =
-    when (not (leb 1 (s .axes) && leb (s .axes) 4)) (refused 1 0 0)
-    or firstOf (λ a. countFault a (getD (s .counts) a 0)) 0 (s .axes)
-    or when (ltb 4096 (size (countsOf s))) (refused 2 0 0)
+shapeFault s = axesRow (s .axes) or firstOf (λ a. countFault a (getD (s .counts) a 0)) 0 (s .axes) or productRow s
 
 -- how many nodes and values a shape has that passes 1 and 2
 unfoldable pub sizesOf : Shape → Holding

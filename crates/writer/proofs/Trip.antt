@@ -15,14 +15,14 @@ use Rattle.answer.specs.declared.Answer.{Answer}
 use Rattle.answer.proofs.Orders as orders
 use Rattle.judge.proofs.Rows.{count-fine, room-enough}
 use Rattle.table.specs.Shape.{countsOf, size, total, tabulate, noShape}
-use Rattle.table.specs.Table.{shapeFault, lengthFault, frameFault, axesFault}
+use Rattle.table.specs.Table.{shapeFault, lengthFault, frameFault, axesFault, axesRow, productRow}
 use Rattle.lists.specs.Lists.{valueFault, valuesFault}
 use Rattle.table.specs.declared.Shape.{Shape}
 use Rattle.table.proofs.Layouts.{getD-tabulate, tabulate-same}
 use Rattle.table.proofs.Tables.{length-same, shape-some, shape-four, shape-enough, shape-few, shape-size}
 use Rattle.words.specs.Words.{wordAt}
 use Rattle.image.specs.Image.{axesField, countField, offsetField, valuesField, shapeOf, floatsAt, nodesFrom, nodesIn, valuesIn}
-use Rattle.image.specs.Load.{fieldFault, shortFault, axesRow, startFault, countRow, productRow, offsetRow, headFault, areaFault, areasFault, roomsFault, contentsFault, loadFault, loadAnswer}
+use Rattle.image.specs.Load.{fieldFault, shortFault, startFault, countRow, offsetRow, headFault, areaFault, areasFault, roomsFault, contentsFault, loadFault, loadAnswer}
 use Rattle.image.proofs.Floats.{nodes-total, values-size}
 use Rattle.image.proofs.Heads.{unused-zero}
 use Rattle.image.proofs.Laws.{Loadable, load-means, loaded-shape}

@@ -2,27 +2,17 @@ use Rattle.answer.specs.Answer.{firstOf}
 use Rattle.answer.proofs.Orders.{or-stops, or-goes-on}
 use Rattle.table.specs.Shape.{countsOf, size}
 use Rattle.table.specs.Table.{sizesOf}
-use Rattle.image.specs.Image.{axesField, countField, offsetField, valuesField, shapeOf}
+use Rattle.image.specs.Image.{axesField, countField, offsetField, shapeOf}
 use Rattle.image.specs.Load.{areaFault, areasFault}
 use Rattle.image.proofs.Floats.{axes-four, size-small, holds-values}
-use mathlib.Core.Path.{_≡_, refl, sym, ap, ap₂, _∙_, subst}
-use mathlib.Core.List.{List, [], _∷_, _++_}
-use Prim.Native.Nat.{ℕ, _+_, _-_, _*_, _^_, _≤_, _<_, min}
+use mathlib.Core.Path.{_≡_, ap, ap₂, _∙_}
+use Prim.Native.Nat.{ℕ}
 use native.Mathlib.Omega.{arith}
-use lib.ListN.{length, take, drop, getD}
-use lib.Ieee.{Float, nan}
+use lib.ListN.{length}
 use denote.Ref.{now}
 use borrow.Author.Needs.{needs}
 use Rattle.image.proofs.areas.areas_fault.Statement.{statement}
 use Rattle.image.proofs.areas.areas_fault.Tie as tie
-use Rattle.image.proofs.areas.areas_fault.Reads as reads
-use Rattle.image.proofs.areas.areas_fault.Lts as lts
-use Rattle.image.proofs.areas.area_fault.Reads as area-fault-reads
-use Rattle.image.proofs.areas.axes_areas_fault.Reads as axes-areas-fault-reads
-use Rattle.image.proofs.header.axes_of.Reads as axes-of-reads
-use Rattle.image.proofs.header.shape_of.Reads as shape-of-reads
-use Rattle.image.proofs.header.values_at.Reads as values-at-reads
-use Rattle.table.proofs.sizes.Reads as sizes-reads
 
 abbrev start : tie.After-axes-areas-fault → tie.Start
 start f = f .before .before .before

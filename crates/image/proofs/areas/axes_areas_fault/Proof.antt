@@ -3,22 +3,15 @@ use Rattle.answer.specs.declared.Answer.{Answer}
 use Rattle.answer.proofs.Orders.{passes, fails, first-begin, first-step, first-stop, first-end}
 use Rattle.image.specs.Image.{countField, offsetField}
 use Rattle.image.specs.Load.{areaFault}
-use mathlib.Core.Path.{_≡_, refl, sym, ap, ap₂, _∙_, subst}
-use mathlib.Core.List.{List, [], _∷_, _++_}
-use Prim.Native.Nat.{ℕ, _+_, _-_, _*_, _^_, _≤_, _<_, min}
+use mathlib.Core.Path.{_≡_, sym, ap₂, _∙_}
+use mathlib.Core.List.{List}
+use Prim.Native.Nat.{ℕ, _-_, _≤_}
 use native.Mathlib.Omega.{arith}
-use lib.ListN.{length, take, drop, getD}
-use lib.Ieee.{Float, nan}
+use lib.ListN.{length}
 use denote.Ref.{now}
 use borrow.Author.Needs.{needs}
 use Rattle.image.proofs.areas.axes_areas_fault.Statement.{statement}
 use Rattle.image.proofs.areas.axes_areas_fault.Tie as tie
-use Rattle.image.proofs.areas.axes_areas_fault.Reads as reads
-use Rattle.image.proofs.areas.axes_areas_fault.Lts as lts
-use Rattle.answer.proofs.pass.Reads as pass-reads
-use Rattle.image.proofs.areas.area_fault.Reads as area-fault-reads
-use Rattle.image.proofs.header.count_of.Reads as count-of-reads
-use Rattle.image.proofs.header.offset_of.Reads as offset-of-reads
 
 abbrev axisArea : List ℕ → ℕ → Answer
 axisArea img a = areaFault (length img) a (offsetField img a) (countField img a)

@@ -1,24 +1,15 @@
-use Rattle.table.specs.Shape.{countsOf, size, total}
+use Rattle.table.specs.Shape.{countsOf, total}
 use Rattle.table.specs.Table.{sizesOf}
 use Rattle.answer.proofs.Orders.{or-stops, or-goes-on}
 use Rattle.image.specs.Image.{shapeOf}
 use Rattle.image.specs.Load.{roomsFault}
 use Rattle.image.proofs.Floats.{holds-nodes, holds-values}
-use mathlib.Core.Path.{_≡_, refl, sym, ap, ap₂, _∙_, subst}
-use mathlib.Core.List.{List, [], _∷_, _++_}
-use Prim.Native.Nat.{ℕ, _+_, _-_, _*_, _^_, _≤_, _<_, min}
-use native.Mathlib.Omega.{arith}
-use lib.ListN.{length, take, drop, getD}
-use lib.Ieee.{Float, nan}
+use mathlib.Core.Path.{_≡_, ap, _∙_}
+use Prim.Native.Nat.{ℕ}
 use denote.Ref.{now}
 use borrow.Author.Needs.{needs}
 use Rattle.image.proofs.areas.rooms_fault.Statement.{statement}
 use Rattle.image.proofs.areas.rooms_fault.Tie as tie
-use Rattle.image.proofs.areas.rooms_fault.Reads as reads
-use Rattle.image.proofs.areas.rooms_fault.Lts as lts
-use Rattle.judge.proofs.room_fault.Reads as room-fault-reads
-use Rattle.image.proofs.header.shape_of.Reads as shape-of-reads
-use Rattle.table.proofs.sizes.Reads as sizes-reads
 use Rattle.judge.specs.Check.{roomFault}
 
 abbrev start : tie.After-sizes → tie.Start

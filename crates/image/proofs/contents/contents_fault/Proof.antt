@@ -1,20 +1,9 @@
 use Rattle.answer.proofs.Orders.{or-stops, or-goes-on}
 use Rattle.image.specs.Load.{contentsFault}
 use Rattle.image.proofs.Floats.{total-small, size-small}
-use mathlib.Core.Path.{_≡_, refl, sym, ap, ap₂, _∙_, subst}
-use mathlib.Core.List.{List, [], _∷_, _++_}
-use Prim.Native.Nat.{ℕ, _+_, _-_, _*_, _^_, _≤_, _<_, min}
-use native.Mathlib.Omega.{arith}
-use lib.ListN.{length, take, drop, getD}
-use lib.Ieee.{Float, nan}
-use denote.Ref.{now}
 use borrow.Author.Needs.{needs}
 use Rattle.image.proofs.contents.contents_fault.Statement.{statement}
 use Rattle.image.proofs.contents.contents_fault.Tie as tie
-use Rattle.image.proofs.contents.contents_fault.Reads as reads
-use Rattle.image.proofs.contents.contents_fault.Lts as lts
-use Rattle.image.proofs.contents.nodes_fault.Reads as nodes-fault-reads
-use Rattle.image.proofs.contents.values_fault.Reads as values-fault-reads
 
 -- src/contents.rt:84:34
 slice-aggregate-nodes-fault : tie.Need-slice-aggregate-nodes-fault

@@ -1,20 +1,13 @@
-use lib.ListN.{length-set}
+use lib.ListN.{length-set, length}
 use lib.Seq.{sets}
 use Rattle.image.specs.Image.{floatsAt}
 use Rattle.image.proofs.Floats.{read-start, read-step, read-end}
-use mathlib.Core.Path.{_≡_, refl, sym, ap, ap₂, _∙_, subst}
-use mathlib.Core.List.{List, [], _∷_, _++_}
-use Prim.Native.Nat.{ℕ, _+_, _-_, _*_, _^_, _≤_, _<_, min}
+use mathlib.Core.Path.{_≡_, refl, sym, _∙_}
+use Prim.Native.Nat.{_+_, _-_, _*_, _≤_}
 use native.Mathlib.Omega.{arith}
-use lib.ListN.{length, take, drop, getD}
-use lib.Ieee.{Float, nan}
-use denote.Ref.{now}
 use borrow.Author.Needs.{needs}
 use Rattle.image.proofs.contents.read_floats.Statement.{statement}
 use Rattle.image.proofs.contents.read_floats.Tie as tie
-use Rattle.image.proofs.contents.read_floats.Reads as reads
-use Rattle.image.proofs.contents.read_floats.Lts as lts
-use Rattle.words.proofs.float.Reads as float-reads
 
 abbrev Inv-loop : tie.InvT-loop
 Inv-loop img at out₀ to count i₀ out i = (i ≤ count) × ((length out ≡ length out₀) × (sets out (to + i) (floatsAt img (at + 8 * i) (count - i)) ≡ sets out₀ to (floatsAt img at count)))

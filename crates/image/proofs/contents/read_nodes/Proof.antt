@@ -5,22 +5,15 @@ use Rattle.table.specs.Shape.{countsOf, total}
 use Rattle.table.specs.Table.{shapeFault}
 use Rattle.image.specs.Image.{axesField, shapeOf, floatsAt, nodesFrom, nodesIn}
 use Rattle.image.proofs.Floats.{axes-four, nodes-total, nodes-length, nodes-step, nodes-end}
-use mathlib.Core.Path.{_≡_, refl, sym, ap, ap₂, _∙_, subst}
-use mathlib.Core.List.{List, [], _∷_, _++_}
-use Prim.Native.Nat.{ℕ, _+_, _-_, _*_, _^_, _≤_, _<_, min}
+use mathlib.Core.Path.{_≡_, refl, sym, ap, _∙_}
+use mathlib.Core.List.{List}
+use Prim.Native.Nat.{ℕ, _+_, _-_, _≤_}
 use native.Mathlib.Omega.{arith}
-use lib.ListN.{length, take, drop, getD}
-use lib.Ieee.{Float, nan}
+use lib.ListN.{length}
 use denote.Ref.{now}
 use borrow.Author.Needs.{needs}
 use Rattle.image.proofs.contents.read_nodes.Statement.{statement}
 use Rattle.image.proofs.contents.read_nodes.Tie as tie
-use Rattle.image.proofs.contents.read_nodes.Reads as reads
-use Rattle.image.proofs.contents.read_nodes.Lts as lts
-use Rattle.image.proofs.contents.read_floats.Reads as read-floats-reads
-use Rattle.image.proofs.header.axes_of.Reads as axes-of-reads
-use Rattle.image.proofs.header.count_of.Reads as count-of-reads
-use Rattle.image.proofs.header.offset_of.Reads as offset-of-reads
 
 abbrev Inv-loop : tie.InvT-loop
 Inv-loop img out₀ axes to₀ a₀ out to a = ((a ≤ axes) × (length out ≡ length out₀)) × ((to + length (nodesFrom img a (axes - a)) ≤ length out₀) × (sets out to (nodesFrom img a (axes - a)) ≡ sets out₀ 0 (nodesFrom img 0 axes)))

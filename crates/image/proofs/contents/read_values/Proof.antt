@@ -2,22 +2,13 @@ use lib.Seq.{sets}
 use Rattle.table.specs.Table.{sizesOf}
 use Rattle.image.specs.Image.{floatsAt, valuesIn}
 use Rattle.image.proofs.Floats.{size-small, holds-values}
-use mathlib.Core.Path.{_≡_, refl, sym, ap, ap₂, _∙_, subst}
-use mathlib.Core.List.{List, [], _∷_, _++_}
-use Prim.Native.Nat.{ℕ, _+_, _-_, _*_, _^_, _≤_, _<_, min}
+use mathlib.Core.Path.{ap, ap₂, _∙_}
+use Prim.Native.Nat.{ℕ}
 use native.Mathlib.Omega.{arith}
-use lib.ListN.{length, take, drop, getD}
-use lib.Ieee.{Float, nan}
 use denote.Ref.{now}
 use borrow.Author.Needs.{needs}
 use Rattle.image.proofs.contents.read_values.Statement.{statement}
 use Rattle.image.proofs.contents.read_values.Tie as tie
-use Rattle.image.proofs.contents.read_values.Reads as reads
-use Rattle.image.proofs.contents.read_values.Lts as lts
-use Rattle.image.proofs.contents.read_floats.Reads as read-floats-reads
-use Rattle.image.proofs.header.shape_of.Reads as shape-of-reads
-use Rattle.image.proofs.header.values_at.Reads as values-at-reads
-use Rattle.table.proofs.sizes.Reads as sizes-reads
 
 -- src/contents.rt:49:29
 shape-of-requires : tie.Need-shape-of-requires

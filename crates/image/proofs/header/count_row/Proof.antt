@@ -1,22 +1,11 @@
 use Rattle.judge.specs.Check.{countFault}
 use Rattle.image.specs.Load.{fieldFault}
 use Rattle.image.proofs.Rows.{count-used, count-unused}
-use mathlib.Core.Path.{_≡_, refl, sym, ap, ap₂, _∙_, subst}
-use mathlib.Core.List.{List, [], _∷_, _++_}
-use Prim.Native.Nat.{ℕ, _+_, _-_, _*_, _^_, _≤_, _<_, min}
+use mathlib.Core.Path.{ap, _∙_}
 use native.Mathlib.Omega.{arith}
-use lib.ListN.{length, take, drop, getD}
-use lib.Ieee.{Float, nan}
-use denote.Ref.{now}
 use borrow.Author.Needs.{needs}
 use Rattle.image.proofs.header.count_row.Statement.{statement}
 use Rattle.image.proofs.header.count_row.Tie as tie
-use Rattle.image.proofs.header.count_row.Reads as reads
-use Rattle.image.proofs.header.count_row.Lts as lts
-use Rattle.image.proofs.header.axes_of.Reads as axes-of-reads
-use Rattle.image.proofs.header.count_of.Reads as count-of-reads
-use Rattle.image.proofs.header.field_fault.Reads as field-fault-reads
-use Rattle.judge.proofs.count_fault.Reads as count-fault-reads
 
 -- src/header.rt:138:9
 count-of-requires : tie.Need-count-of-requires

@@ -1,20 +1,12 @@
 use Rattle.answer.specs.Answer.{firstOf}
 use Rattle.answer.proofs.Orders.{passes, fails, first-step, first-stop, first-end}
 use Rattle.image.specs.Load.{countRow}
-use mathlib.Core.Path.{_≡_, refl, sym, ap, ap₂, _∙_, subst}
-use mathlib.Core.List.{List, [], _∷_, _++_}
-use Prim.Native.Nat.{ℕ, _+_, _-_, _*_, _^_, _≤_, _<_, min}
+use mathlib.Core.Path.{_≡_, refl, sym, _∙_}
+use Prim.Native.Nat.{_-_, _≤_}
 use native.Mathlib.Omega.{arith}
-use lib.ListN.{length, take, drop, getD}
-use lib.Ieee.{Float, nan}
-use denote.Ref.{now}
 use borrow.Author.Needs.{needs}
 use Rattle.image.proofs.header.counts_fault.Statement.{statement}
 use Rattle.image.proofs.header.counts_fault.Tie as tie
-use Rattle.image.proofs.header.counts_fault.Reads as reads
-use Rattle.image.proofs.header.counts_fault.Lts as lts
-use Rattle.answer.proofs.pass.Reads as pass-reads
-use Rattle.image.proofs.header.count_row.Reads as count-row-reads
 
 abbrev Inv-loop : tie.InvT-loop
 Inv-loop img a₀ a = (a ≤ 4) × (firstOf (countRow img) 0 4 ≡ firstOf (countRow img) a (4 - a))

@@ -1,18 +1,12 @@
 use native.Mathlib.Nat.{pow-le-pow-right}
 use Rattle.words.specs.Words.{wordAt}
-use mathlib.Core.Path.{_≡_, refl, sym, ap, ap₂, _∙_, subst}
-use mathlib.Core.List.{List, [], _∷_, _++_}
-use Prim.Native.Nat.{ℕ, _+_, _-_, _*_, _^_, _≤_, _<_, min}
+use mathlib.Core.Path.{_≡_, ap, _∙_}
+use Prim.Native.Nat.{ℕ, _^_, _≤_, min}
 use native.Mathlib.Omega.{arith}
-use lib.ListN.{length, take, drop, getD}
-use lib.Ieee.{Float, nan}
 use denote.Ref.{now}
 use borrow.Author.Needs.{needs}
 use Rattle.image.proofs.header.field.Statement.{statement}
 use Rattle.image.proofs.header.field.Tie as tie
-use Rattle.image.proofs.header.field.Reads as reads
-use Rattle.image.proofs.header.field.Lts as lts
-use Rattle.words.proofs.word.Reads as word-reads
 
 -- src/header.rt:17:5
 word-requires : tie.Need-word-requires

@@ -1,18 +1,8 @@
 use Rattle.image.proofs.Rows.{field-right, field-wrong}
-use mathlib.Core.Path.{_≡_, refl, sym, ap, ap₂, _∙_, subst}
-use mathlib.Core.List.{List, [], _∷_, _++_}
-use Prim.Native.Nat.{ℕ, _+_, _-_, _*_, _^_, _≤_, _<_, min}
-use native.Mathlib.Omega.{arith}
-use lib.ListN.{length, take, drop, getD}
-use lib.Ieee.{Float, nan}
-use denote.Ref.{now}
+use mathlib.Core.Path.{_∙_}
 use borrow.Author.Needs.{needs}
 use Rattle.image.proofs.header.field_fault.Statement.{statement}
 use Rattle.image.proofs.header.field_fault.Tie as tie
-use Rattle.image.proofs.header.field_fault.Reads as reads
-use Rattle.image.proofs.header.field_fault.Lts as lts
-use Rattle.answer.proofs.pass.Reads as pass-reads
-use Rattle.answer.proofs.refuse.Reads as refuse-reads
 
 -- src/header.rt:65:9
 pass-requires : tie.Need-pass-requires

@@ -2,31 +2,17 @@ use mathlib.Core.Bool.{true}
 use Rattle.answer.specs.Answer.{good, _or_, firstOf}
 use Rattle.answer.specs.declared.Answer.{Answer}
 use Rattle.answer.proofs.Orders.{passes, or-stops, or-goes-on}
-use Rattle.table.specs.Table.{shapeFault}
-use Rattle.words.specs.Words.{wordAt}
+use Rattle.table.specs.Table.{shapeFault, axesRow, productRow}
 use Rattle.image.specs.Image.{axesField, shapeOf}
-use Rattle.image.specs.Load.{fieldFault, axesRow, startFault, countRow, productRow, offsetRow, headFault}
+use Rattle.image.specs.Load.{fieldFault, startFault, countRow, offsetRow, headFault}
 use Rattle.image.proofs.Heads.{start-axes, axes-four, product-only}
-use mathlib.Core.Path.{_≡_, refl, sym, ap, ap₂, _∙_, subst}
-use mathlib.Core.List.{List, [], _∷_, _++_}
-use Prim.Native.Nat.{ℕ, _+_, _-_, _*_, _^_, _≤_, _<_, min}
+use mathlib.Core.Path.{_≡_, ap, _∙_}
+use Prim.Native.Nat.{ℕ, _-_, _≤_}
 use native.Mathlib.Omega.{arith}
-use lib.ListN.{length, take, drop, getD}
-use lib.Ieee.{Float, nan}
 use denote.Ref.{now}
 use borrow.Author.Needs.{needs}
 use Rattle.image.proofs.header.head_fault.Statement.{statement}
 use Rattle.image.proofs.header.head_fault.Tie as tie
-use Rattle.image.proofs.header.head_fault.Reads as reads
-use Rattle.image.proofs.header.head_fault.Lts as lts
-use Rattle.image.proofs.header.axes_of.Reads as axes-of-reads
-use Rattle.image.proofs.header.counts_fault.Reads as counts-fault-reads
-use Rattle.image.proofs.header.field.Reads as field-reads
-use Rattle.image.proofs.header.field_fault.Reads as field-fault-reads
-use Rattle.image.proofs.header.offsets_fault.Reads as offsets-fault-reads
-use Rattle.image.proofs.header.shape_of.Reads as shape-of-reads
-use Rattle.image.proofs.header.start_fault.Reads as start-fault-reads
-use Rattle.table.proofs.shape_fault.Reads as shape-fault-reads
 
 abbrev s1 : tie.After-start-fault → tie.Start
 s1 f = f .before .before

@@ -1,21 +1,13 @@
 use Rattle.answer.specs.Answer.{firstOf}
 use Rattle.answer.proofs.Orders.{passes, fails, first-step, first-stop, first-end}
 use Rattle.image.specs.Load.{fieldFault, offsetRow}
-use mathlib.Core.Path.{_≡_, refl, sym, ap, ap₂, _∙_, subst}
-use mathlib.Core.List.{List, [], _∷_, _++_}
-use Prim.Native.Nat.{ℕ, _+_, _-_, _*_, _^_, _≤_, _<_, min}
+use mathlib.Core.Path.{_≡_, refl, sym, ap, _∙_}
+use Prim.Native.Nat.{_+_, _-_, _*_, _≤_}
 use native.Mathlib.Omega.{arith}
-use lib.ListN.{length, take, drop, getD}
-use lib.Ieee.{Float, nan}
 use denote.Ref.{now}
 use borrow.Author.Needs.{needs}
 use Rattle.image.proofs.header.offsets_fault.Statement.{statement}
 use Rattle.image.proofs.header.offsets_fault.Tie as tie
-use Rattle.image.proofs.header.offsets_fault.Reads as reads
-use Rattle.image.proofs.header.offsets_fault.Lts as lts
-use Rattle.answer.proofs.pass.Reads as pass-reads
-use Rattle.image.proofs.header.field_fault.Reads as field-fault-reads
-use Rattle.image.proofs.header.offset_of.Reads as offset-of-reads
 
 abbrev Inv-loop : tie.InvT-loop
 Inv-loop img axes a₀ a = ((axes ≤ a) × (a ≤ 4)) × (firstOf (offsetRow img) axes (4 - axes) ≡ firstOf (offsetRow img) a (4 - a))

@@ -1,18 +1,7 @@
 use Rattle.image.proofs.Heads.{shape-same}
-use mathlib.Core.Path.{_≡_, refl, sym, ap, ap₂, _∙_, subst}
-use mathlib.Core.List.{List, [], _∷_, _++_}
-use Prim.Native.Nat.{ℕ, _+_, _-_, _*_, _^_, _≤_, _<_, min}
-use native.Mathlib.Omega.{arith}
-use lib.ListN.{length, take, drop, getD}
-use lib.Ieee.{Float, nan}
-use denote.Ref.{now}
 use borrow.Author.Needs.{needs}
 use Rattle.image.proofs.header.shape_of.Statement.{statement}
 use Rattle.image.proofs.header.shape_of.Tie as tie
-use Rattle.image.proofs.header.shape_of.Reads as reads
-use Rattle.image.proofs.header.shape_of.Lts as lts
-use Rattle.image.proofs.header.axes_of.Reads as axes-of-reads
-use Rattle.image.proofs.header.count_of.Reads as count-of-reads
 
 -- src/header.rt:49:9
 axes-of-requires : tie.Need-axes-of-requires

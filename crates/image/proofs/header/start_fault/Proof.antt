@@ -3,25 +3,15 @@ use Rattle.answer.specs.declared.Answer.{Answer}
 use Rattle.answer.proofs.Orders.{or-stops, or-goes-on}
 use Rattle.words.specs.Words.{wordAt}
 use Rattle.image.specs.Image.{axesField}
-use Rattle.image.specs.Load.{fieldFault, shortFault, axesRow, lengthRow, startFault}
-use mathlib.Core.Path.{_≡_, refl, sym, ap, ap₂, _∙_, subst}
-use mathlib.Core.List.{List, [], _∷_, _++_}
-use Prim.Native.Nat.{ℕ, _+_, _-_, _*_, _^_, _≤_, _<_, min}
-use native.Mathlib.Omega.{arith}
-use lib.ListN.{length, take, drop, getD}
-use lib.Ieee.{Float, nan}
+use Rattle.image.specs.Load.{fieldFault, shortFault, lengthRow, startFault}
+use Rattle.table.specs.Table.{axesRow}
+use mathlib.Core.Path.{_≡_, ap, _∙_}
+use Prim.Native.Nat.{ℕ}
+use lib.ListN.{length}
 use denote.Ref.{now}
 use borrow.Author.Needs.{needs}
 use Rattle.image.proofs.header.start_fault.Statement.{statement}
 use Rattle.image.proofs.header.start_fault.Tie as tie
-use Rattle.image.proofs.header.start_fault.Reads as reads
-use Rattle.image.proofs.header.start_fault.Lts as lts
-use Rattle.image.proofs.header.axes_of.Reads as axes-of-reads
-use Rattle.image.proofs.header.axes_row.Reads as axes-row-reads
-use Rattle.image.proofs.header.field.Reads as field-reads
-use Rattle.image.proofs.header.field_fault.Reads as field-fault-reads
-use Rattle.image.proofs.header.length_row.Reads as length-row-reads
-use Rattle.image.proofs.header.short_fault.Reads as short-fault-reads
 
 abbrev s1 : tie.After-short-fault → tie.Start
 s1 f = f .before .before

@@ -1,14 +1,12 @@
 #!/usr/bin/env bash
 # For list.sh and runs.sh: builds the oracle and makes the input that a program of crates/ is run on, and its answers.
-#   bash oracle/fixed.sh CRATE WHAT MAKE WORD [--check]
-# Writes crates/CRATE/stdin and stdout, or compares with them. MAKE has the oracle's words that make the input; WORD, if any, stands before its
-# `answer` and `count`.
+#   bash oracle/fixed.sh CRATE WHAT WORD [--check]
+# Writes crates/CRATE/stdin and stdout, or compares with them. WORD, if any, stands before the oracle's own words.
 set -eu
 
-crate=$1 what=$2 mode=${5-}
-read -r -a make <<<"$3"
+crate=$1 what=$2 mode=${4-}
 word=()
-[ -z "$4" ] || word=("$4")
+[ -z "$3" ] || word=("$3")
 case $mode in
 '' | --check) ;;
 *)
@@ -25,7 +23,7 @@ command=$oracle/target/release/oracle
 
 folder=$(mktemp -d)
 trap 'rm -rf "$folder"' EXIT
-"$command" "${make[@]}" >"$folder/stdin"
+"$command" "${word[@]}" make >"$folder/stdin"
 "$command" "${word[@]}" answer <"$folder/stdin" >"$folder/stdout"
 count=$("$command" "${word[@]}" count <"$folder/stdin" | tail -n 1 | awk '{print $1}')
 

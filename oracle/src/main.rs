@@ -26,8 +26,7 @@ use std::io::{self, Read, Write};
 use std::path::Path;
 use std::process::ExitCode;
 
-const USAGE: &str = "usage: oracle make primitives | tables
-       oracle answer | count | check
+const USAGE: &str = "usage: oracle make | answer | count | check
        oracle records
        oracle generate SEED COUNT FOLDER
        oracle limit FOLDER
@@ -78,8 +77,7 @@ fn write_runs(folder: &str, runs: impl Iterator<Item = Vec<u8>>) -> Result<(), S
 /// What is printed, and whether all that was compared is equal.
 fn run(words: &[&str]) -> Result<(bool, Vec<u8>), String> {
     let text = match words {
-        ["make", "primitives"] => make::primitives(),
-        ["make", "tables"] => make::tables(),
+        ["make"] => make::list(),
         ["answer"] => answers::answer_list(&lent_list()?).into(),
         ["count"] => count_by_kind(&lent_list()?).into(),
         ["check"] => self_check::run().map(|()| Vec::new())?,

@@ -1,11 +1,11 @@
 // The axis of the list, and the calls of the axis primitives.
+use crate::line::Reply;
+use crate::list;
+use crate::list::Header;
 use answer::Answer;
 use answer::IndexAnswer;
 use axis::locate::MaybeIndex;
 use blend::AxisLocation;
-use listed::line::Reply;
-use listed::list;
-use listed::list::Header;
 use uniform::Tolerance;
 use utils::AxisAnswer;
 use utils::ExactAnswer;

@@ -1,4 +1,4 @@
-//! The makers of the fixed list in its two parts, of the fixed whole runs, and of runs drawn from a number.
+//! The makers of the fixed list, of the fixed whole runs, and of runs drawn from a number.
 //! They depend on nothing but this source: no clock, no randomness of the machine, no
 //! function whose rounding the platform may choose.
 
@@ -36,18 +36,16 @@ mod values;
 use list::{Asked, List};
 use numbers::Seed;
 
-/// The calls of the axis primitives: a list of their own.
-pub fn primitives() -> Vec<u8> {
-    let mut list = List::default();
+fn primitives(list: &mut List) {
     let mut seed = Seed::new();
-    bench::add(&mut list);
-    located::add(&mut list, &mut seed);
-    refused::add(&mut list);
-    uniform_index::add(&mut list, &mut seed);
-    uniform_check::add(&mut list, &mut seed);
-    list.bytes()
+    bench::add(list);
+    located::add(list, &mut seed);
+    refused::add(list);
+    uniform_index::add(list, &mut seed);
+    uniform_check::add(list, &mut seed);
 }
 
+/// Stands behind the primitives; what is added here leaves them as they are.
 fn lookups(list: &mut List) {
     let mut seed = Seed::new();
     table_bench::add(list);
@@ -57,7 +55,7 @@ fn lookups(list: &mut List) {
     refused_contents::add(list, &mut seed);
 }
 
-/// Stands behind the lookups by Nearest and Step; what is added here leaves them as they are.
+/// Stands behind the lookups by Nearest and Step.
 fn linears(list: &mut List) {
     let mut seed = Seed::new();
     list.asked = Asked::Linears;
@@ -77,9 +75,9 @@ fn slices(list: &mut List) {
     refused_slices::add(list, &mut seed);
 }
 
-/// The tables with their lookups and slices: the other list.
-pub fn tables() -> Vec<u8> {
+pub fn list() -> Vec<u8> {
     let mut list = List::default();
+    primitives(&mut list);
     lookups(&mut list);
     linears(&mut list);
     slices(&mut list);

@@ -1,0 +1,46 @@
+use mathlib.Core.Path.{sym}
+use lib.Seq.{length-take-le}
+use borrow.Author.Needs.{needs}
+use Rattle.replay.proofs.cut.say.Statement.{statement}
+use Rattle.replay.proofs.cut.say.Tie as tie
+
+slice-aggregate-sliced : tie.Need-slice-aggregate-sliced
+slice-aggregate-sliced c = search needs
+
+lower-half-requires : tie.Need-lower-half-requires
+lower-half-requires c κs = search needs
+
+say-requires : tie.Need-say-requires
+say-requires c κs = search needs
+
+same-length : tie.Need-same-length
+same-length c = search needs
+
+returns : tie.Need-returns
+returns c = search needs
+
+slice-aggregate-say-slice : tie.Need-slice-aggregate-say-slice
+slice-aggregate-say-slice c = sym (length-take-le _ _ (search needs))
+
+say-slice-requires : tie.Need-say-slice-requires
+say-slice-requires c κs = search needs
+
+same-length-2 : tie.Need-same-length-2
+same-length-2 c = search needs
+
+returns-2 : tie.Need-returns-2
+returns-2 c = search needs
+
+pub say-spec : {M : Type 1} → statement M
+say-spec =
+    tie.close
+    (tie.spec
+    slice-aggregate-sliced
+    lower-half-requires
+    say-requires
+    same-length
+    returns
+    slice-aggregate-say-slice
+    say-slice-requires
+    same-length-2
+    returns-2)

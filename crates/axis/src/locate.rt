@@ -1,6 +1,6 @@
 // The location of a reading: the exact node, or the cell with a fraction. By Linear's rule or by LinearUniform's.
 ghost use mathlib.Core.Path.{_≡_};
-ghost use Prim.Native.Nat.{_+_, _<_, _≤_};
+ghost use Prim.Native.Nat.{_≤_};
 ghost use lib.ListN.{length};
 ghost use Rattle.axis.specs.Utils.{exactNode, axisLocation};
 ghost use Rattle.axis.specs.Locations.{locationIndex, uniformLocation, locationFound};

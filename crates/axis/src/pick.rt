@@ -1,6 +1,6 @@
 // The node that a rule picks: Step's, by the Rust's own expressions, or Nearest's. A pick of 0 is Lower, of 1 Upper, of anything else Nearest.
 ghost use mathlib.Core.Path.{_≡_};
-ghost use Prim.Native.Nat.{_+_, _<_, _≤_};
+ghost use Prim.Native.Nat.{_≤_};
 ghost use lib.ListN.{length};
 ghost use Rattle.axis.specs.Utils.{lowerIndex};
 ghost use Rattle.axis.specs.Rust.{lowerBy, upperBy, rustStep};

@@ -1,4 +1,4 @@
--- What a slice of the two linears holds: "Each slice value is what the same rule gives along that axis alone", over two runs of values.
+-- What a slice of the two linears holds: "Each of its values is what the same rule gives along that axis alone", over two runs of values.
 use mathlib.Core.List.{List, _++_}
 use Prim.Native.Nat.{min}
 use lib.ListN.{length, drop, getD}

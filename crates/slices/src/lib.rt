@@ -1,6 +1,5 @@
 // Slices of a table: one axis is removed at a reading, and the values of the other axes are written.
 ghost use mathlib.Core.Path.{_≡_};
-ghost use mathlib.Core.Bool.{true};
 ghost use lib.ListN.{length};
 ghost use Rattle.slices.specs.Slices.{nearestSlice, nearestSliced, stepSlice, stepSliced};
 ghost use Rattle.slices.specs.LinearSlices.{linearSlice, linearSliced, linearUniformSlice, linearUniformSliced};

@@ -1,7 +1,7 @@
 // What is left of a table without one axis, where that axis lies, and the checks of its reading and of the room.
 ghost use mathlib.Core.Path.{_≡_};
 ghost use mathlib.Core.Bool.{cond};
-ghost use Prim.Native.Nat.{ℕ, suc, _+_, _-_, _*_, _/_, _<_, _≤_};
+ghost use Prim.Native.Nat.{ℕ, suc, _+_, _<_, _≤_};
 ghost use lib.Dec.{ltb};
 ghost use lib.ListN.{take, drop, getD};
 ghost use Rattle.table.specs.Shape.{countsOf, size, total, without};

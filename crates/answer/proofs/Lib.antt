@@ -1,4 +1,5 @@
 pub mod Orders
+pub mod Tests
 pub mod Outcome
 pub mod Unique
 pub mod Outputs

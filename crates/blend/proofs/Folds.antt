@@ -7,9 +7,9 @@ use native.Mathlib.Omega.{arith}
 use lib.ListN.{length, take, drop, getD, set, length-drop, length-take, List·getD-append}
 use lib.Seq.{getD-append-add, getD-drop}
 use lib.Ieee.{Float, nan}
-use Rattle.table.specs.Shape.{tabulate}
+use Rattle.table.specs.Layout.{tabulate}
 use Rattle.table.proofs.Layouts.{length-tabulate, tabulate-same, tabulate-step}
-use Rattle.table.proofs.Shapes.{ahead, past}
+use Rattle.shapes.proofs.Totals.{ahead, past}
 use Rattle.blend.specs.Blend.{blended}
 use Rattle.blend.specs.Rust.{diffs, passed, butterfly}
 use Rattle.blend.specs.Folds.{passedOver, merged, halfOf, grown, moreCorners}

@@ -6,7 +6,7 @@ use lib.IntN.{pos}
 use lib.Ieee.{Float, fin, binary64, add, sub, mul}
 use Rattle.answer.specs.Answer.{answered, _or_}
 use Rattle.answer.specs.declared.Answer.{Answer}
-use Rattle.judge.specs.Check.{resultFault}
+use Rattle.numbers.specs.Numbers.{resultFault}
 use Rattle.blend.specs.declared.AxisLocation.{AxisLocation}
 use Rattle.blend.specs.declared.AxisLocation.the-variants.{Exact, Between}
 

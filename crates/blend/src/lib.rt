@@ -78,7 +78,7 @@ pub fn corner_count(locations: [AxisLocation; 4], n: usize) -> usize
     ensures { λ r. ⌜ r ≡ 2 ^ length (diffs (take n locations)) ⌝ }
 {
     let mut count: usize = 1;
-    let mut d = table::least(n, 4);
+    let mut d = counts::least(n, 4);
     while d > 0 {
         d -= 1;
         let location = locations[d];
@@ -91,7 +91,7 @@ pub fn corner_count(locations: [AxisLocation; 4], n: usize) -> usize
 pub fn fold(mut vals: [f64; 16], locations: [AxisLocation; 4], n: usize) -> f64
     ensures { λ r. ⌜ r ≡ butterfly (diffs (take n locations)) vals ⌝ }
 {
-    let axes = table::least(n, 4);
+    let axes = counts::least(n, 4);
     let mut half = corner_count(locations, axes);
     let v: &mut [f64] = &mut vals;
     let mut d: usize = 0;
@@ -109,7 +109,7 @@ pub fn compute(vals: [f64; 16], locations: [AxisLocation; 4], n: usize) -> Answe
     ensures { λ r. ⌜ r ≡ computed (butterfly (diffs (take n locations)) vals) ⌝ }
 {
     let value = fold(vals, locations, n);
-    let fault = judge::result_fault(0, value);
+    let fault = numbers::result_fault(0, value);
     if fault.number != 0 {
         return fault;
     }

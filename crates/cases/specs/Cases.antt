@@ -8,7 +8,9 @@ use lib.Ieee.{Float, fin, binary64, ofInt, toUnsigned, lt, le, eq, add, sub, mul
 use Rattle.answer.specs.Answer.{refused, answered, fine, good, when, _or_, firstOf, given, indexAnswer, filledInto}
 use Rattle.answer.specs.declared.Answer.{Answer}
 use Rattle.answer.specs.declared.IndexAnswer.{IndexAnswer}
-use Rattle.judge.specs.Check.{gap, countFault, riseFault, nodeFault, nodesFault, axisFault, finiteFault, lentStepFault, directionFault, readingFault, resultFault, roomFault}
+use Rattle.judge.specs.Check.{gap, riseFault, nodeFault, nodesFault, axisFault}
+use Rattle.counts.specs.Counts.{countFault, directionFault, roomFault, lengthFault, notFirstFault}
+use Rattle.numbers.specs.Numbers.{finiteFault, lentStepFault, readingFault, resultFault}
 use Rattle.uniform.specs.Uniform.{uniformCell, uniformIndex, apart, gapFault, uniformFault, toleranceOf}
 use Rattle.uniform.specs.Calls.{uniformReadFault, locateLowerIndexUniform, validateUniformGridEpsilon}
 use Rattle.uniform.specs.declared.Tolerance.the-variants.{Default}
@@ -19,12 +21,15 @@ use Rattle.ninterp.specs.Tables.{indices, picked, nearestAnswer}
 use Rattle.ninterp.specs.Linears.{locations, interpolated, linearAnswer}
 use Rattle.slices.specs.Slices.{shapeWithout, pointFault, sliceAnswer}
 use Rattle.slices.specs.LinearSlices.{alongFirst, linearValues, linearRest, linearSliceFault, linearSlice, linearSliced}
-use Rattle.table.specs.Shape.{size, total, axesOf, strides, placeBy, table, indicesAt}
-use Rattle.table.specs.Table.{shapeFault, lengthFault, frameFault, axesFault, rangesFault, axesRow, productRow}
-use Rattle.lists.specs.Lists.{valueFault, valuesFault, readingsFault, rangeFault}
-use Rattle.table.specs.declared.Shape.{Shape}
+use Rattle.shapes.specs.Shape.{size, total}
+use Rattle.table.specs.Layout.{axesOf, strides, placeBy, table, indicesAt}
+use Rattle.shapes.specs.Frame.{shapeFault, frameFault, axesRow, productRow}
+use Rattle.table.specs.Table.{axesFault, rangesFault}
+use Rattle.values.specs.Values.{valueFault, valuesFault}
+use Rattle.lists.specs.Lists.{readingsFault, rangeFault}
+use Rattle.shapes.specs.declared.Shape.{Shape}
 use Rattle.order.specs.Lookups.{lookupFault}
-use Rattle.fronts.specs.Fronts.{notFirstFault, linearFront}
+use Rattle.fronts.specs.Fronts.{linearFront}
 use Rattle.blend.specs.Blend.{blended, computed}
 use Rattle.runs.specs.Runs.{resultsFault}
 use Rattle.blend.specs.declared.AxisLocation.{AxisLocation}

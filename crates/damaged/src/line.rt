@@ -2,7 +2,7 @@
 use answer::Answer;
 use image::LoadAnswer;
 use libc::STDOUT_FILENO;
-use table::Shape;
+use shapes::Shape;
 
 // Writes a text and a number.
 fn put(text: &[u8], number: u64) {

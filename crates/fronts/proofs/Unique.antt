@@ -2,18 +2,10 @@
 use mathlib.Core.Path.{_≡_}
 use Rattle.answer.proofs.Outcome.{one-outcome}
 use Rattle.answer.specs.declared.Answer.{Answer}
-use Rattle.fronts.proofs.no_axis_fault.Reads as no-axis-fault
-use Rattle.fronts.proofs.not_first_fault.Reads as not-first-fault
 use Rattle.fronts.proofs.nearest_front.Reads as nearest-front
 use Rattle.fronts.proofs.step_front.Reads as step-front
 use Rattle.fronts.proofs.linear_front.Reads as linear-front
 use Rattle.fronts.proofs.linear_uniform_front.Reads as linear-uniform-front
-
-pub no-axis-fault-unique : (κs : _) (a : _) (r s : Answer) (x y : _) → no-axis-fault.Post κs a r x → no-axis-fault.Post κs a s y → r ≡ s
-no-axis-fault-unique κs a r s x y p q = one-outcome r s _ p q
-
-pub not-first-fault-unique : (κs : _) (a : _) (r s : Answer) (x y : _) → not-first-fault.Post κs a r x → not-first-fault.Post κs a s y → r ≡ s
-not-first-fault-unique κs a r s x y p q = one-outcome r s _ p q
 
 pub nearest-front-unique : (κs : _) (a : _) (r s : Answer) (x y : _) → nearest-front.Post κs a r x → nearest-front.Post κs a s y → r ≡ s
 nearest-front-unique κs a r s x y p q = one-outcome r s _ p q

@@ -1,31 +1,24 @@
 -- What is judged before a slice, in the order of the table of numbers.
-use mathlib.Core.Bool.{not, _||_}
 use mathlib.Core.List.{List}
 use Prim.Native.Nat.{ℕ}
-use lib.Dec.{leb, ltb, eqb}
 use lib.ListN.{length}
 use lib.Ieee.{Float}
-use Rattle.answer.specs.Answer.{refused, when, _or_}
+use Rattle.answer.specs.Answer.{_or_}
 use Rattle.answer.specs.declared.Answer.{Answer}
-use Rattle.table.specs.Shape.{countsOf}
-use Rattle.table.specs.Table.{frameFault, lengthFault, axesFault}
-use Rattle.lists.specs.Lists.{valuesFault, directionsFault}
-use Rattle.table.specs.declared.Shape.{Shape}
+use Rattle.shapes.specs.Shape.{countsOf}
+use Rattle.shapes.specs.Frame.{frameFault}
+use Rattle.counts.specs.Counts.{lengthFault, noAxisFault, notFirstFault}
+use Rattle.table.specs.Table.{axesFault}
+use Rattle.values.specs.Values.{valuesFault}
+use Rattle.lists.specs.Lists.{directionsFault}
+use Rattle.shapes.specs.declared.Shape.{Shape}
 use Rattle.uniform.specs.Uniform.{axesUniformFault}
-
--- 16: "slice of a one-axis table, no such axis"
-unfoldable pub noAxisFault : Shape → ℕ → Answer
-noAxisFault s axis = when (leb (s .axes) 1 || not (ltb axis (s .axes))) (refused 16 0 0)
-
--- 16: "slice of a one-axis table .. or not axis 0 for the two linears"
-unfoldable pub notFirstFault : Shape → ℕ → Answer
-notFirstFault s axis = when (leb (s .axes) 1 || not (eqb axis 0)) (refused 16 0 0)
 
 -- "A slice inserts 16 after 3 .."
 unfoldable pub nearestFront : Shape → List Float → List Float → ℕ → Answer
 nearestFront s nodes values axis =
     frameFault s (length nodes) (length values)
-    or noAxisFault s axis
+    or noAxisFault (s .axes) axis
     or axesFault (countsOf s) nodes
     or valuesFault values
 
@@ -34,7 +27,7 @@ unfoldable pub stepFront : Shape → List Float → List Float → List ℕ → 
 stepFront s nodes values directions axis =
     frameFault s (length nodes) (length values)
     or lengthFault 3 (s .axes) (length directions)
-    or noAxisFault s axis
+    or noAxisFault (s .axes) axis
     or axesFault (countsOf s) nodes
     or valuesFault values
     or directionsFault directions
@@ -43,7 +36,7 @@ stepFront s nodes values directions axis =
 unfoldable pub linearFront : Shape → List Float → List Float → ℕ → Answer
 linearFront s nodes values axis =
     frameFault s (length nodes) (length values)
-    or notFirstFault s axis
+    or notFirstFault (s .axes) axis
     or axesFault (countsOf s) nodes
     or valuesFault values
 

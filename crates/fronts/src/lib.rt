@@ -1,46 +1,18 @@
 // The orders of checks that stand before a slice: one function each, total. What follows them judges the one reading and the room.
 ghost use mathlib.Core.Path.{_≡_};
-ghost use Rattle.fronts.specs.Fronts.{noAxisFault, notFirstFault, nearestFront, stepFront, linearFront, linearUniformFront};
+ghost use Rattle.fronts.specs.Fronts.{nearestFront, stepFront, linearFront, linearUniformFront};
 use answer::Answer;
-use table::Shape;
-
-// 16: no second axis, or no such axis.
-pub fn no_axis_fault(shape: Shape, axis: usize) -> Answer
-    ensures { λ r. ⌜ r ≡ noAxisFault shape axis ⌝ }
-{
-    if shape.axes <= 1 {
-        return answer::refuse(16, 0, 0);
-    }
-    if axis < shape.axes {
-        answer::pass()
-    } else {
-        answer::refuse(16, 0, 0)
-    }
-}
-
-// 16 of the two linears: no second axis, or not the first.
-pub fn not_first_fault(shape: Shape, axis: usize) -> Answer
-    ensures { λ r. ⌜ r ≡ notFirstFault shape axis ⌝ }
-{
-    if shape.axes <= 1 {
-        return answer::refuse(16, 0, 0);
-    }
-    if axis == 0 {
-        answer::pass()
-    } else {
-        answer::refuse(16, 0, 0)
-    }
-}
+use shapes::Shape;
 
 // 1, 2, 3; 16; 4, 5, 6; 7.
 pub fn nearest_front(shape: Shape, nodes: &[f64], values: &[f64], axis: usize) -> Answer
     ensures { λ r. ⌜ r ≡ nearestFront shape (now (nodes .entry)) (now (values .entry)) axis ⌝ }
 {
-    let fault = table::frame_fault(shape, nodes.len(), values.len());
+    let fault = shapes::frame_fault(shape, nodes.len(), values.len());
     if fault.number != 0 {
         return fault;
     }
-    let absent = no_axis_fault(shape, axis);
+    let absent = counts::no_axis_fault(shape.axes, axis);
     if absent.number != 0 {
         return absent;
     }
@@ -57,15 +29,15 @@ pub fn step_front(
 ) -> Answer
     ensures { λ r. ⌜ r ≡ stepFront shape (now (nodes .entry)) (now (values .entry)) (now (directions .entry)) axis ⌝ }
 {
-    let fault = table::frame_fault(shape, nodes.len(), values.len());
+    let fault = shapes::frame_fault(shape, nodes.len(), values.len());
     if fault.number != 0 {
         return fault;
     }
-    let fault = table::length_fault(3, shape.axes, directions.len());
+    let fault = counts::length_fault(3, shape.axes, directions.len());
     if fault.number != 0 {
         return fault;
     }
-    let fault = no_axis_fault(shape, axis);
+    let fault = counts::no_axis_fault(shape.axes, axis);
     if fault.number != 0 {
         return fault;
     }
@@ -80,11 +52,11 @@ pub fn step_front(
 pub fn linear_front(shape: Shape, nodes: &[f64], values: &[f64], axis: usize) -> Answer
     ensures { λ r. ⌜ r ≡ linearFront shape (now (nodes .entry)) (now (values .entry)) axis ⌝ }
 {
-    let fault = table::frame_fault(shape, nodes.len(), values.len());
+    let fault = shapes::frame_fault(shape, nodes.len(), values.len());
     if fault.number != 0 {
         return fault;
     }
-    let fault = not_first_fault(shape, axis);
+    let fault = counts::not_first_fault(shape.axes, axis);
     if fault.number != 0 {
         return fault;
     }

@@ -6,10 +6,14 @@ use Prim.Native.Nat.{ℕ}
 use lib.IntN.{pos}
 use lib.Ieee.{fin, ofBits, sub, lt}
 use Rattle.answer.specs.Answer.{refused, answered, fine, good, when, firstOf, given, _or_}
-use Rattle.judge.specs.Check.{countFault, finiteFault, riseFault, nodeFault, nodesFault, roomFault}
-use Rattle.table.specs.Shape.{size, total, axesOf}
-use Rattle.table.specs.Table.{axesFault, axesRow, productRow}
-use Rattle.lists.specs.Lists.{valueFault, valuesFault}
+use Rattle.counts.specs.Counts.{countFault, roomFault}
+use Rattle.numbers.specs.Numbers.{finiteFault}
+use Rattle.judge.specs.Check.{riseFault, nodeFault, nodesFault}
+use Rattle.shapes.specs.Shape.{size, total}
+use Rattle.table.specs.Layout.{axesOf}
+use Rattle.table.specs.Table.{axesFault}
+use Rattle.shapes.specs.Frame.{axesRow, productRow}
+use Rattle.values.specs.Values.{valueFault, valuesFault}
 use Rattle.words.specs.Words.{ofBytes, wordAt, floatAt}
 use Rattle.image.specs.Image.{axesField, countField, offsetField, valuesField, shapeOf, floatsAt, nodesFrom, nodesIn, valuesIn}
 use Rattle.image.specs.Load.{fieldFault, shortFault, lengthRow, startFault, countRow, offsetRow, headFault, areaFault, areasFault, roomsFault, contentsFault, loadFault}

@@ -10,12 +10,13 @@ use lib.Seq.{sets, sets-eq, take-at, getD-take}
 use lib.Ieee.{Float}
 use Rattle.answer.specs.Answer.{good}
 use Rattle.answer.proofs.Orders as orders
-use Rattle.table.specs.Shape.{countsOf, size, total, tabulate}
-use Rattle.table.specs.Table.{shapeFault, sizesOf}
-use Rattle.table.specs.declared.Shape.{Shape}
-use Rattle.table.specs.declared.Holding.{Holding}
+use Rattle.shapes.specs.Shape.{countsOf, size, total}
+use Rattle.table.specs.Layout.{tabulate}
+use Rattle.shapes.specs.Frame.{shapeFault, sizesOf}
+use Rattle.shapes.specs.declared.Shape.{Shape}
+use Rattle.shapes.specs.declared.Holding.{Holding}
 use Rattle.table.proofs.Layouts.{tabulate-same}
-use Rattle.table.proofs.Tables.{shape-four, shape-few, shape-size}
+use Rattle.shapes.proofs.Frames.{shape-four, shape-few, shape-size}
 use Rattle.words.specs.Words.{floatAt}
 use Rattle.image.specs.Image.{axesField, countField, offsetField, shapeOf, floatsAt, nodesFrom, nodesIn, valuesIn}
 

@@ -9,11 +9,11 @@ use lib.Dec.{leb, eqb}
 use lib.ListN.{length, getD}
 use Rattle.answer.specs.Answer.{refused, good, when, firstOf}
 use Rattle.answer.proofs.Orders as orders
-use Rattle.judge.specs.Check.{countFault}
-use Rattle.judge.proofs.Rows.{not-false, and-left, and-right}
-use Rattle.table.specs.Shape.{tabulate}
-use Rattle.table.specs.Table.{shapeFault, axesRow, productRow}
-use Rattle.table.specs.declared.Shape.{Shape}
+use Rattle.counts.specs.Counts.{countFault}
+use Rattle.answer.proofs.Tests.{not-false, and-left, and-right}
+use Rattle.table.specs.Layout.{tabulate}
+use Rattle.shapes.specs.Frame.{shapeFault, axesRow, productRow}
+use Rattle.shapes.specs.declared.Shape.{Shape}
 use Rattle.table.proofs.Layouts.{getD-tabulate}
 use Rattle.words.specs.Words.{wordAt}
 use Rattle.image.specs.Image.{axesField, countField, shapeOf}

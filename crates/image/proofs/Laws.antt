@@ -6,11 +6,12 @@ use Prim.Native.Nat.{ℕ, _≤_}
 use native.Mathlib.Omega.{arith}
 use Rattle.answer.specs.Answer.{good, given}
 use Rattle.answer.proofs.Orders as orders
-use Rattle.table.specs.Shape.{countsOf, noShape}
-use Rattle.table.specs.Table.{shapeFault, axesFault}
-use Rattle.lists.specs.Lists.{valuesFault}
-use Rattle.table.specs.declared.Shape.{Shape}
-use Rattle.table.proofs.Tables.{shape-four}
+use Rattle.shapes.specs.Shape.{countsOf, noShape}
+use Rattle.shapes.specs.Frame.{shapeFault}
+use Rattle.table.specs.Table.{axesFault}
+use Rattle.values.specs.Values.{valuesFault}
+use Rattle.shapes.specs.declared.Shape.{Shape}
+use Rattle.shapes.proofs.Frames.{shape-four}
 use Rattle.image.specs.Image.{shapeOf, nodesIn, valuesIn}
 use Rattle.image.specs.Load.{headFault, areasFault, roomsFault, contentsFault, loadFault, loadAnswer}
 use Rattle.image.proofs.Heads.{head-shape}

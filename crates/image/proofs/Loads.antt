@@ -9,16 +9,16 @@ use lib.Seq.{sets}
 use Rattle.answer.specs.Answer.{good, filledInto}
 use Rattle.answer.specs.declared.Answer.{Answer}
 use Rattle.answer.proofs.Orders as orders
-use Rattle.table.specs.Shape.{countsOf, size, total, noShape}
-use Rattle.table.specs.Table.{shapeFault}
-use Rattle.table.specs.declared.Shape.{Shape}
+use Rattle.shapes.specs.Shape.{countsOf, size, total, noShape}
+use Rattle.shapes.specs.Frame.{shapeFault}
+use Rattle.shapes.specs.declared.Shape.{Shape}
 use Rattle.image.specs.Image.{shapeOf, nodesIn, valuesIn}
 use Rattle.image.specs.Load.{headFault, areasFault, roomsFault, loadFault, loadAnswer}
 use Rattle.image.specs.declared.LoadAnswer.{LoadAnswer}
 use Rattle.image.proofs.Heads.{head-shape}
 use Rattle.image.proofs.Floats.{nodes-total, values-size, sets-front}
-use Rattle.judge.specs.Check.{roomFault}
-use Rattle.judge.proofs.Rows.{room-passed}
+use Rattle.counts.specs.Counts.{roomFault}
+use Rattle.counts.proofs.Rows.{room-passed}
 
 module _ (img : List ℕ) (nodes values : ℕ) (r : Answer) (e : r ≡ loadFault img nodes values) where
   pub load-refused : (r .number ≡ 0 → ⊥) → (z : Shape) → z ≡ noShape → _≡_ {A = LoadAnswer} (record { answer = r; shape = z }) (loadAnswer img nodes values)

@@ -5,12 +5,12 @@ use Prim.Native.Nat.{ℕ, _+_, _*_}
 use lib.Dec.{ltb}
 use Rattle.answer.specs.declared.Answer.{Answer}
 use Rattle.answer.proofs.Bares.{Bare, bare-or, bare-first, row}
-use Rattle.judge.specs.Check.{countFault, roomFault}
-use Rattle.lists.proofs.Bares.{bare-values}
+use Rattle.counts.specs.Counts.{countFault, roomFault}
+use Rattle.values.proofs.Bares.{bare-values}
 use Rattle.table.proofs.Bares.{bare-axes}
 use Rattle.image.specs.Image.{axesField, countField}
 use Rattle.image.specs.Load.{fieldFault, shortFault, lengthRow, startFault, countRow, offsetRow, headFault, areaFault, areasFault, roomsFault, contentsFault, loadFault}
-use Rattle.table.specs.Table.{axesRow, productRow}
+use Rattle.shapes.specs.Frame.{axesRow, productRow}
 
 either : (b : Bool) (a c : Answer) → Bare a → Bare c → Bare (cond b a c)
 either true a c h g = h

@@ -7,11 +7,11 @@ use borrow.Author.Tests.{eqb-true, eq-eqb, ne-eqb, lt-ltb, le-ltb, le-leb, lt-le
 use lib.Dec.{eqb, leb, ltb}
 use Rattle.answer.specs.Answer.{refused, fine, good}
 use Rattle.answer.proofs.Orders.{row-met, row-passed, row-good}
-use Rattle.judge.specs.Check.{countFault}
-use Rattle.judge.proofs.Rows.{and-false, not-false}
+use Rattle.counts.specs.Counts.{countFault}
+use Rattle.answer.proofs.Tests.{and-false, not-false}
 use Rattle.image.specs.Image.{axesField, countField}
 use Rattle.image.specs.Load.{fieldFault, shortFault, lengthRow, countRow, areaFault}
-use Rattle.table.specs.Table.{axesRow}
+use Rattle.shapes.specs.Frame.{axesRow}
 
 module _ (place wanted x : ℕ) where
   pub field-wrong : (x ≡ wanted → ⊥) → refused 13 0 place ≡ fieldFault place wanted x

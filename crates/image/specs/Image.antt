@@ -2,8 +2,9 @@
 use mathlib.Core.List.{List, [], _∷_, _++_}
 use Prim.Native.Nat.{ℕ, zero, suc, _+_, _*_}
 use lib.Ieee.{Float}
-use Rattle.table.specs.Shape.{countsOf, size, tabulate}
-use Rattle.table.specs.declared.Shape.{Shape}
+use Rattle.shapes.specs.Shape.{countsOf, size}
+use Rattle.table.specs.Layout.{tabulate}
+use Rattle.shapes.specs.declared.Shape.{Shape}
 use Rattle.words.specs.Words.{wordAt, floatAt}
 
 -- "Byte 1: axes."

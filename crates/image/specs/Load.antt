@@ -6,11 +6,12 @@ use lib.Dec.{leb, ltb, eqb}
 use lib.ListN.{length}
 use Rattle.answer.specs.Answer.{refused, when, _or_, firstOf, given}
 use Rattle.answer.specs.declared.Answer.{Answer}
-use Rattle.judge.specs.Check.{countFault, roomFault}
-use Rattle.table.specs.Shape.{countsOf, size, total, noShape}
-use Rattle.table.specs.Table.{axesRow, productRow, axesFault}
-use Rattle.lists.specs.Lists.{valuesFault}
-use Rattle.table.specs.declared.Shape.{Shape}
+use Rattle.counts.specs.Counts.{countFault, roomFault}
+use Rattle.shapes.specs.Shape.{countsOf, size, total, noShape}
+use Rattle.shapes.specs.Frame.{axesRow, productRow}
+use Rattle.table.specs.Table.{axesFault}
+use Rattle.values.specs.Values.{valuesFault}
+use Rattle.shapes.specs.declared.Shape.{Shape}
 use Rattle.words.specs.Words.{wordAt}
 use Rattle.image.specs.Image.{axesField, countField, offsetField, valuesField, shapeOf, nodesIn, valuesIn}
 use Rattle.image.specs.declared.LoadAnswer.{LoadAnswer}

@@ -4,7 +4,7 @@ ghost use mathlib.Core.Bool.{true};
 ghost use Prim.Native.Nat.{_+_, _*_, _<_, _≤_};
 ghost use lib.ListN.{length};
 ghost use Rattle.answer.specs.Answer.{good, firstOf};
-ghost use Rattle.table.specs.Table.{shapeFault};
+ghost use Rattle.shapes.specs.Frame.{shapeFault};
 ghost use Rattle.image.specs.Image.{countField, offsetField, shapeOf};
 ghost use Rattle.image.specs.Load.{areaFault, areasFault, roomsFault};
 use crate::header;
@@ -55,7 +55,7 @@ pub(crate) fn areas_fault(img: &[u8]) -> Answer
     if fault.number != 0 {
         return fault;
     }
-    let held = table::sizes(header::shape_of(img));
+    let held = shapes::sizes(header::shape_of(img));
     area_fault(img.len(), axes, header::values_at(img), held.values)
 }
 
@@ -64,10 +64,10 @@ pub(crate) fn rooms_fault(img: &[u8], nodes: usize, values: usize) -> Answer
     requires { ⌜ good (shapeFault (shapeOf (now img))) ≡ true ⌝ }
     ensures { λ r. ⌜ r ≡ roomsFault (shapeOf (now (img .entry))) nodes values ⌝ }
 {
-    let held = table::sizes(header::shape_of(img));
-    let fault = judge::room_fault(0, held.nodes, nodes);
+    let held = shapes::sizes(header::shape_of(img));
+    let fault = counts::room_fault(0, held.nodes, nodes);
     if fault.number != 0 {
         return fault;
     }
-    judge::room_fault(1, held.values, values)
+    counts::room_fault(1, held.values, values)
 }

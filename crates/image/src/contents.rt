@@ -5,9 +5,10 @@ ghost use Prim.Native.Nat.{_+_, _*_, _<_, _≤_};
 ghost use lib.ListN.{length};
 ghost use lib.Seq.{sets};
 ghost use Rattle.answer.specs.Answer.{good};
-ghost use Rattle.table.specs.Shape.{countsOf, size, total};
-ghost use Rattle.table.specs.Table.{shapeFault, axesFault};
-ghost use Rattle.lists.specs.Lists.{valuesFault};
+ghost use Rattle.shapes.specs.Shape.{countsOf, size, total};
+ghost use Rattle.shapes.specs.Frame.{shapeFault};
+ghost use Rattle.table.specs.Table.{axesFault};
+ghost use Rattle.values.specs.Values.{valuesFault};
 ghost use Rattle.image.specs.Image.{shapeOf, floatsAt, nodesIn, valuesIn};
 ghost use Rattle.image.specs.Load.{contentsFault};
 use crate::header;
@@ -47,7 +48,7 @@ pub(crate) fn read_values(img: &[u8], out: &mut [f64])
     requires { ⌜ (good (shapeFault (shapeOf (now img))) ≡ true) × (size (countsOf (shapeOf (now img))) ≤ length (now out)) ⌝ }
     ensures { λ _. ⌜ now (out .exit) ≡ sets (now (out .entry)) 0 (valuesIn (now (img .entry))) ⌝ }
 {
-    let held = table::sizes(header::shape_of(img));
+    let held = shapes::sizes(header::shape_of(img));
     read_floats(img, header::values_at(img), out, 0, held.values);
 }
 
@@ -58,7 +59,7 @@ fn nodes_fault(img: &[u8], space: &mut [f64]) -> Answer
 {
     read_nodes(img, space);
     let shape = header::shape_of(img);
-    let held = table::sizes(shape);
+    let held = shapes::sizes(shape);
     let count = held.nodes;
     let nodes: &[f64] = space;
     table::axes_fault(shape, &nodes[0..count])
@@ -70,10 +71,10 @@ fn values_fault(img: &[u8], space: &mut [f64]) -> Answer
     ensures { λ r. ⌜ r ≡ valuesFault (valuesIn (now (img .entry))) ⌝ }
 {
     read_values(img, space);
-    let held = table::sizes(header::shape_of(img));
+    let held = shapes::sizes(header::shape_of(img));
     let count = held.values;
     let values: &[f64] = space;
-    lists::values_fault(&values[0..count])
+    values::values_fault(&values[0..count])
 }
 
 // 4 to 7, in spaces of its own, so that nothing lent is written.

@@ -5,9 +5,9 @@ ghost use Rattle.answer.specs.Answer.{firstOf};
 ghost use Rattle.words.specs.Words.{wordAt};
 ghost use Rattle.image.specs.Image.{axesField, countField, offsetField, valuesField, shapeOf};
 ghost use Rattle.image.specs.Load.{fieldFault, shortFault, lengthRow, startFault, countRow, offsetRow, headFault};
-ghost use Rattle.table.specs.Table.{axesRow};
+ghost use Rattle.shapes.specs.Frame.{axesRow};
 use answer::Answer;
-use table::Shape;
+use shapes::Shape;
 
 // A field of n bytes.
 pub(crate) fn field(img: &[u8], at: usize, n: usize) -> usize
@@ -137,7 +137,7 @@ fn count_row(img: &[u8], a: usize) -> Answer
 {
     let count = count_of(img, a);
     if a < axes_of(img) {
-        judge::count_fault(a, count)
+        counts::count_fault(a, count)
     } else {
         field_fault(8 + 2 * a, 0, count)
     }
@@ -185,7 +185,7 @@ pub(crate) fn head_fault(img: &[u8]) -> Answer
     if fault.number != 0 {
         return fault;
     }
-    let fault = table::shape_fault(shape_of(img));
+    let fault = shapes::shape_fault(shape_of(img));
     if fault.number != 0 {
         return fault;
     }

@@ -10,7 +10,7 @@ pub(crate) mod contents;
 pub(crate) mod header;
 
 use answer::Answer;
-use table::Shape;
+use shapes::Shape;
 
 // What loading answers, with the shape of what it wrote.
 pub struct LoadAnswer {
@@ -45,7 +45,7 @@ pub fn load(img: &[u8], nodes: &mut [f64], values: &mut [f64]) -> LoadAnswer
     if answer.number != 0 {
         return LoadAnswer {
             answer,
-            shape: table::no_shape(),
+            shape: shapes::no_shape(),
         };
     }
     contents::read_nodes(img, nodes);

@@ -1,20 +1,13 @@
--- "Numbers the technician sees": the rows that judge a list by itself, and a reading in the range of an axis.
-use mathlib.Core.Bool.{not}
+-- "Numbers the technician sees": the rows that judge the directions, the readings, and a reading in the range of an axis.
 use mathlib.Core.List.{List}
 use Prim.Native.Nat.{ℕ, _-_}
 use lib.ListN.{length, getD}
 use lib.Ieee.{Float, nan, lt}
-use lib.Ieee.Scale.{finite}
 use Rattle.answer.specs.Answer.{refused, when, _or_, firstOf}
 use Rattle.answer.specs.declared.Answer.{Answer}
-use Rattle.judge.specs.Check.{node, directionFault, readingFault}
-
--- 7: "value not finite", "0, flat place"
-unfoldable pub valueFault : List Float → ℕ → Answer
-valueFault values i = when (not (finite (getD values i nan))) (refused 7 0 i)
-
-unfoldable pub valuesFault : List Float → Answer
-valuesFault values = firstOf (valueFault values) 0 (length values)
+use Rattle.judge.specs.Check.{node}
+use Rattle.counts.specs.Counts.{directionFault}
+use Rattle.numbers.specs.Numbers.{readingFault}
 
 -- "9 for Step, all axes"
 unfoldable pub directionsFault : List ℕ → Answer

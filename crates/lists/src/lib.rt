@@ -1,70 +1,10 @@
-// The checks of a list by itself: values, directions, readings; and of a reading in the range of an axis. Each for every input.
+// The checks of a list by itself: directions, readings; and of a reading in the range of an axis. Each for every input.
 ghost use mathlib.Core.Path.{_≡_};
-ghost use mathlib.Core.Bool.{true};
-ghost use Prim.Native.Nat.{ℕ, _+_, _-_, _<_, _≤_};
-ghost use lib.ListN.{length, getD};
+ghost use Prim.Native.Nat.{_-_};
+ghost use lib.ListN.{getD};
 ghost use lib.Ieee.{nan};
-ghost use lib.Ieee.Scale.{finite};
-ghost use Rattle.answer.specs.Answer.{firstOf};
-ghost use Rattle.lists.specs.Lists.{valueFault, valuesFault, directionsFault, readingsFault, rangeFault};
+ghost use Rattle.lists.specs.Lists.{directionsFault, readingsFault, rangeFault};
 use answer::Answer;
-
-// ---- 7
-
-// Whether eight values are finite, joined without a branch: a number that is not finite stays so, times 0 and in every sum. The order of the sums lets
-// the compiler add two at a time.
-fn eight_finite(values: &[f64], at: usize) -> bool
-    requires { ⌜ at + 8 ≤ length (now values) ⌝ }
-    ensures { λ r. ⌜ (r ≡ true → (j : ℕ) → j < 8 → finite (getD (now (values .entry)) (at + j) nan) ≡ true) ⌝ }
-{
-    let a = values[at] * 0.0 + values[at + 2] * 0.0;
-    let b = values[at + 1] * 0.0 + values[at + 3] * 0.0;
-    let c = values[at + 4] * 0.0 + values[at + 6] * 0.0;
-    let d = values[at + 5] * 0.0 + values[at + 7] * 0.0;
-    binary64::is_finite((a + c) + (b + d))
-}
-
-fn value_fault(values: &[f64], i: usize) -> Answer
-    requires { ⌜ i < length (now values) ⌝ }
-    ensures { λ r. ⌜ r ≡ valueFault (now (values .entry)) i ⌝ }
-{
-    if binary64::is_finite(values[i]) {
-        answer::pass()
-    } else {
-        answer::refuse(7, 0, i)
-    }
-}
-
-// The first fault from a place on, value by value.
-fn values_fault_from(values: &[f64], from: usize) -> Answer
-    requires { ⌜ from ≤ length (now values) ⌝ }
-    ensures { λ r. ⌜ r ≡ firstOf (valueFault (now (values .entry))) from (length (now (values .entry)) - from) ⌝ }
-{
-    let mut i = from;
-    while i < values.len() {
-        let fault = value_fault(values, i);
-        if fault.number != 0 {
-            return fault;
-        }
-        i += 1;
-    }
-    answer::pass()
-}
-
-// Eight by eight; the place is searched for only where eight have a fault, and in the rest.
-pub fn values_fault(values: &[f64]) -> Answer
-    ensures { λ r. ⌜ r ≡ valuesFault (now (values .entry)) ⌝ }
-{
-    let n = values.len();
-    let mut i: usize = 0;
-    while n - i >= 8 {
-        if !eight_finite(values, i) {
-            return values_fault_from(values, i);
-        }
-        i += 8;
-    }
-    values_fault_from(values, i)
-}
 
 // ---- 9, 10 of all axes
 
@@ -73,7 +13,7 @@ pub fn directions_fault(directions: &[u8]) -> Answer
 {
     let mut a: usize = 0;
     while a < directions.len() {
-        let fault = judge::direction_fault(a, directions[a]);
+        let fault = counts::direction_fault(a, directions[a]);
         if fault.number != 0 {
             return fault;
         }
@@ -87,7 +27,7 @@ pub fn readings_fault(readings: &[f64]) -> Answer
 {
     let mut a: usize = 0;
     while a < readings.len() {
-        let fault = judge::reading_fault(a, readings[a]);
+        let fault = numbers::reading_fault(a, readings[a]);
         if fault.number != 0 {
             return fault;
         }

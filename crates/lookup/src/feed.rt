@@ -4,7 +4,7 @@ ghost use Prim.Native.Nat.{ℕ, _≤_, _<_};
 ghost use lib.ListN.{length, take};
 ghost use Rattle.lines.specs.Feed.{Filled, Stepped, Reached, Ended};
 ghost use Rattle.ninterp.specs.Records.{recordSize, recordRule};
-use table::Shape;
+use shapes::Shape;
 
 // What is held of the buffer after a turn, how many records may still come, whether to go on, and whether the output failed.
 struct Next {

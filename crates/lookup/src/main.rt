@@ -8,7 +8,7 @@ ghost use Rattle.lines.specs.Feed.{Filled};
 ghost use Rattle.records.specs.Run.{imageIn};
 use answer::Answer;
 use image::LoadAnswer;
-use table::Shape;
+use shapes::Shape;
 
 // Reads the first 40 bytes, and answers how many there are.
 fn read_head(img: &mut [u8]) -> usize
@@ -67,9 +67,9 @@ fn load_image(img: &mut [u8], nodes: &mut [f64], values: &mut [f64]) -> LoadAnsw
 fn answer_records(shape: Shape, nodes: &[f64], values: &[f64])
     requires { ⌜ shape .axes ≤ 4 ⌝ }
 {
-    let held = table::sizes(shape);
-    let n = table::least(held.nodes, nodes.len());
-    let v = table::least(held.values, values.len());
+    let held = shapes::sizes(shape);
+    let n = counts::least(held.nodes, nodes.len());
+    let v = counts::least(held.values, values.len());
     feed::answer_all(shape, &nodes[..n], &values[..v]);
 }
 

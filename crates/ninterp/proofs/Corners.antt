@@ -11,8 +11,9 @@ use lib.ListN.{length, take, drop, getD, set, length-set, length-take, length-dr
 use lib.Seq.{getD-set-same, getD-set-other}
 use borrow.Author.Tests.{ltb-true, ltb-false}
 use lib.Ieee.{Float, nan}
-use Rattle.table.specs.Shape.{size, place, table, tabulate, Inside}
-use Rattle.table.proofs.Shapes.{ahead, past}
+use Rattle.shapes.specs.Shape.{size}
+use Rattle.table.specs.Layout.{place, table, tabulate, Inside}
+use Rattle.shapes.proofs.Totals.{ahead, past}
 use Rattle.table.proofs.Layouts.{place-cons, place-none, size-cons, size-nil, place-below, getD-tabulate}
 use Rattle.blend.specs.Blend.{linear}
 use Rattle.blend.specs.Rust.{diffs, butterfly}

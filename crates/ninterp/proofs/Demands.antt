@@ -12,15 +12,20 @@ use Rattle.answer.specs.Answer.{good, answered, _or_}
 use Rattle.answer.specs.declared.Answer.{Answer}
 use Rattle.answer.proofs.Orders as orders
 use Rattle.binary64.proofs.Order as order
-use Rattle.judge.specs.Check.{node, Axis, readingFault, directionFault}
-use Rattle.judge.proofs.Rows.{reading-fine, direction-fine}
-use Rattle.table.specs.Shape.{countsOf, axesOf, table, axisOf}
-use Rattle.table.specs.Table.{frameFault, lengthFault, axesFault, rangesFault}
-use Rattle.lists.specs.Lists.{valuesFault, directionsFault, readingsFault, rangeFault}
-use Rattle.table.specs.declared.Shape.{Shape}
-use Rattle.table.proofs.Shapes.{length-axes}
+use Rattle.judge.specs.Check.{node, Axis}
+use Rattle.numbers.specs.Numbers.{readingFault}
+use Rattle.counts.specs.Counts.{directionFault, lengthFault}
+use Rattle.numbers.proofs.Rows.{reading-fine}
+use Rattle.counts.proofs.Rows.{direction-fine, length-same}
+use Rattle.shapes.specs.Shape.{countsOf}
+use Rattle.table.specs.Layout.{axesOf, table, axisOf}
+use Rattle.shapes.specs.Frame.{frameFault}
+use Rattle.table.specs.Table.{axesFault, rangesFault}
+use Rattle.values.specs.Values.{valuesFault}
+use Rattle.lists.specs.Lists.{directionsFault, readingsFault, rangeFault}
+use Rattle.shapes.specs.declared.Shape.{Shape}
+use Rattle.table.proofs.Walks.{length-axes}
 use Rattle.table.proofs.Layouts.{tabulate-same}
-use Rattle.table.proofs.Tables.{length-same}
 use Rattle.lists.proofs.Rows.{range-inside}
 use Rattle.table.proofs.Grids.{frame-axes, grid-of}
 use Rattle.order.specs.Lookups.{lookupFault, stepFault}

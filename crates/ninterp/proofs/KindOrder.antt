@@ -12,13 +12,15 @@ use Rattle.answer.specs.Answer.{refused, answered, good, when, _or_}
 use Rattle.answer.specs.declared.Answer.{Answer}
 use Rattle.answer.proofs.Orders as orders
 use Rattle.words.specs.Words.{floatAt}
-use Rattle.judge.specs.Check.{directionFault}
-use Rattle.judge.proofs.Rows.{direction-fine}
-use Rattle.table.specs.Shape.{countsOf}
-use Rattle.table.specs.Table.{frameFault, lengthFault, axesFault, rangesFault}
-use Rattle.lists.specs.Lists.{valuesFault, directionsFault, readingsFault}
-use Rattle.table.specs.declared.Shape.{Shape}
-use Rattle.table.proofs.Tables.{length-same, shape-four}
+use Rattle.counts.specs.Counts.{directionFault, lengthFault}
+use Rattle.counts.proofs.Rows.{direction-fine, length-same}
+use Rattle.shapes.specs.Shape.{countsOf}
+use Rattle.shapes.specs.Frame.{frameFault}
+use Rattle.table.specs.Table.{axesFault, rangesFault}
+use Rattle.values.specs.Values.{valuesFault}
+use Rattle.lists.specs.Lists.{directionsFault, readingsFault}
+use Rattle.shapes.specs.declared.Shape.{Shape}
+use Rattle.shapes.proofs.Frames.{shape-four}
 use Rattle.table.proofs.Grids.{frame-shape}
 use Rattle.table.proofs.Layouts.{length-tabulate, getD-tabulate}
 use Rattle.uniform.specs.Uniform.{axesUniformFault}

@@ -9,15 +9,20 @@ use lib.Ieee.{Float, nan, eq}
 use lib.Ieee.Scale.{finite}
 use Rattle.answer.specs.Answer.{good, refused, answered, _or_}
 use Rattle.answer.proofs.Orders as orders
-use Rattle.judge.specs.Check.{node, resultFault}
-use Rattle.judge.proofs.Rows.{result-wild, result-fine}
-use Rattle.table.specs.Shape.{countsOf, size, axesOf, place, table, tabulate, axisOf}
-use Rattle.table.specs.Table.{frameFault, lengthFault, axesFault, rangesFault}
-use Rattle.lists.specs.Lists.{valuesFault, readingsFault}
-use Rattle.table.specs.declared.Shape.{Shape}
-use Rattle.table.proofs.Shapes.{length-axes}
+use Rattle.judge.specs.Check.{node}
+use Rattle.numbers.specs.Numbers.{resultFault}
+use Rattle.numbers.proofs.Rows.{result-wild, result-fine}
+use Rattle.shapes.specs.Shape.{countsOf, size}
+use Rattle.table.specs.Layout.{axesOf, place, table, tabulate, axisOf}
+use Rattle.shapes.specs.Frame.{frameFault}
+use Rattle.counts.specs.Counts.{lengthFault}
+use Rattle.table.specs.Table.{axesFault, rangesFault}
+use Rattle.values.specs.Values.{valuesFault}
+use Rattle.lists.specs.Lists.{readingsFault}
+use Rattle.shapes.specs.declared.Shape.{Shape}
+use Rattle.table.proofs.Walks.{length-axes}
 use Rattle.table.proofs.Layouts.{tabulate-same, place-below}
-use Rattle.lists.proofs.Rows.{values-finite}
+use Rattle.values.proofs.Rows.{values-finite}
 use Rattle.table.proofs.Grids.{frame-values, grid-of}
 use Rattle.uniform.specs.Uniform.{axesUniformFault}
 use Rattle.order.specs.Lookups.{lookupFault, linearUniformFault}

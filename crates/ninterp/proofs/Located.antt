@@ -5,8 +5,9 @@ use Prim.Native.Nat.{ℕ, zero, suc, _≤_, _<_}
 use native.Mathlib.Omega.{arith}
 use lib.ListN.{length, take, getD}
 use lib.Ieee.{Float, nan, fits}
-use Rattle.table.specs.Shape.{total, axesOf, tabulate}
-use Rattle.table.proofs.Shapes.{length-axes}
+use Rattle.shapes.specs.Shape.{total}
+use Rattle.table.specs.Layout.{axesOf, tabulate}
+use Rattle.table.proofs.Walks.{length-axes}
 use Rattle.table.proofs.Layouts.{length-tabulate}
 use Rattle.table.proofs.Grids.{length-axis}
 use Rattle.blend.specs.declared.AxisLocation.{AxisLocation}

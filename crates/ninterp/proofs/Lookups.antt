@@ -10,14 +10,17 @@ use lib.Ieee.{Float, nan}
 use Rattle.answer.specs.Answer.{good, _or_}
 use Rattle.answer.specs.declared.Answer.{Answer}
 use Rattle.answer.proofs.Orders as orders
-use Rattle.judge.specs.Check.{directionFault}
-use Rattle.judge.proofs.Rows.{direction-passed}
-use Rattle.table.specs.Shape.{countsOf, axesOf, place, table}
-use Rattle.table.specs.Table.{frameFault, lengthFault, axesFault, rangesFault}
-use Rattle.lists.specs.Lists.{valuesFault, directionsFault, readingsFault}
-use Rattle.table.specs.declared.Shape.{Shape}
-use Rattle.table.proofs.Shapes.{length-axes}
-use Rattle.table.proofs.Tables.{shape-four, length-passed}
+use Rattle.counts.specs.Counts.{directionFault, lengthFault}
+use Rattle.counts.proofs.Rows.{direction-passed, length-passed}
+use Rattle.shapes.specs.Shape.{countsOf}
+use Rattle.table.specs.Layout.{axesOf, place, table}
+use Rattle.shapes.specs.Frame.{frameFault}
+use Rattle.table.specs.Table.{axesFault, rangesFault}
+use Rattle.values.specs.Values.{valuesFault}
+use Rattle.lists.specs.Lists.{directionsFault, readingsFault}
+use Rattle.shapes.specs.declared.Shape.{Shape}
+use Rattle.table.proofs.Walks.{length-axes}
+use Rattle.shapes.proofs.Frames.{shape-four}
 use Rattle.table.proofs.Layouts.{tabulate-same}
 use Rattle.table.proofs.Grids.{frame-shape, frame-values, frame-axes, grid-of}
 use Rattle.lists.proofs.Rows.{readings-finite}

@@ -7,9 +7,9 @@ use lib.Ieee.{Float}
 use Rattle.answer.specs.Answer.{plusZero, answered, good, _or_}
 use Rattle.answer.specs.declared.Answer.{Answer}
 use Rattle.answer.proofs.Orders as orders
-use Rattle.judge.specs.Check.{resultFault}
-use Rattle.table.specs.Shape.{countsOf}
-use Rattle.table.specs.declared.Shape.{Shape}
+use Rattle.numbers.specs.Numbers.{resultFault}
+use Rattle.shapes.specs.Shape.{countsOf}
+use Rattle.shapes.specs.declared.Shape.{Shape}
 use Rattle.order.specs.Lookups.{lookupFault, stepFault, linearUniformFault}
 use Rattle.ninterp.specs.Tables.{nearestRule, stepRule, picked, nearestAnswer, stepAnswer}
 use Rattle.blend.specs.Blend.{computed}
@@ -17,8 +17,11 @@ use Rattle.axis.specs.Utils.{axisLocation}
 use Rattle.axis.specs.Locations.{uniformLocation}
 use Rattle.ninterp.specs.Linears.{interpolated, linearAnswer, linearUniformAnswer}
 use Rattle.uniform.proofs.Bares.{bare-uniform}
-use Rattle.table.proofs.Bares.{bare-length, bare-frame, bare-axes, bare-ranges}
-use Rattle.lists.proofs.Bares.{bare-values, bare-directions, bare-readings}
+use Rattle.counts.proofs.Bares.{bare-length}
+use Rattle.shapes.proofs.Bares.{bare-frame}
+use Rattle.table.proofs.Bares.{bare-axes, bare-ranges}
+use Rattle.values.proofs.Bares.{bare-values}
+use Rattle.lists.proofs.Bares.{bare-directions, bare-readings}
 use Rattle.answer.proofs.Bares.{Bare, bare-or, row, after, succeeds}
 
 pub nearest-refusal : (s : Shape) (nodes values readings : List Float) → good (nearestAnswer s nodes values readings) ≡ false → nearestAnswer s nodes values readings .value ≡ plusZero

@@ -7,10 +7,11 @@ use lib.ListN.{length}
 use lib.Ieee.{Float}
 use Rattle.answer.specs.Answer.{refused, answered, when, _or_}
 use Rattle.answer.specs.declared.Answer.{Answer}
-use Rattle.table.specs.Shape.{countsOf}
-use Rattle.table.specs.Table.{frameFault, axesFault}
-use Rattle.lists.specs.Lists.{valuesFault}
-use Rattle.table.specs.declared.Shape.{Shape}
+use Rattle.shapes.specs.Shape.{countsOf}
+use Rattle.shapes.specs.Frame.{frameFault}
+use Rattle.table.specs.Table.{axesFault}
+use Rattle.values.specs.Values.{valuesFault}
+use Rattle.shapes.specs.declared.Shape.{Shape}
 use Rattle.blend.specs.Blend.{computed}
 use Rattle.ninterp.specs.Tables.{picked, pickRule}
 use Rattle.ninterp.specs.Linears.{interpolated}

@@ -5,8 +5,9 @@ use lib.ListN.{length, getD}
 use lib.Ieee.{Float, nan}
 use Rattle.answer.specs.Answer.{_or_}
 use Rattle.answer.specs.declared.Answer.{Answer}
-use Rattle.table.specs.Shape.{countsOf, axesOf, table, tabulate}
-use Rattle.table.specs.declared.Shape.{Shape}
+use Rattle.shapes.specs.Shape.{countsOf}
+use Rattle.table.specs.Layout.{axesOf, table, tabulate}
+use Rattle.shapes.specs.declared.Shape.{Shape}
 use Rattle.order.specs.Lookups.{lookupFault, linearUniformFault}
 use Rattle.blend.specs.Blend.{linear, computed}
 use Rattle.blend.specs.declared.AxisLocation.{AxisLocation}

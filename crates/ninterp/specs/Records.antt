@@ -10,8 +10,8 @@ use Rattle.answer.specs.declared.Answer.{Answer}
 use Rattle.words.specs.Words.{floatAt}
 use Rattle.lines.specs.Line.{lineOf, longest}
 use Rattle.lines.specs.Stream.{Rule}
-use Rattle.table.specs.Shape.{tabulate}
-use Rattle.table.specs.declared.Shape.{Shape}
+use Rattle.table.specs.Layout.{tabulate}
+use Rattle.shapes.specs.declared.Shape.{Shape}
 use Rattle.ninterp.specs.Tables.{nearestAnswer, stepAnswer}
 use Rattle.ninterp.specs.Linears.{linearAnswer, linearUniformAnswer}
 

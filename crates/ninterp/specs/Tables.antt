@@ -8,9 +8,10 @@ use lib.Ieee.{Float, nan}
 use lib.Ieee.Scale.{finite}
 use Rattle.answer.specs.Answer.{answered, _or_}
 use Rattle.answer.specs.declared.Answer.{Answer}
-use Rattle.table.specs.Shape.{countsOf, size, axesOf, table, tabulate}
+use Rattle.shapes.specs.Shape.{countsOf, size}
+use Rattle.table.specs.Layout.{axesOf, table, tabulate}
 use Rattle.table.specs.Table.{Grid}
-use Rattle.table.specs.declared.Shape.{Shape}
+use Rattle.shapes.specs.declared.Shape.{Shape}
 use Rattle.order.specs.Lookups.{lookupFault, stepFault}
 use Rattle.axis.specs.Utils.{stepIndex}
 use Rattle.axis.specs.Picks.{nearestIndex, pickIndex}

@@ -5,7 +5,7 @@ ghost use Prim.Native.Nat.{_+_, _*_, _≤_};
 ghost use lib.Dec.{leb, eqb};
 ghost use lib.ListN.{length, take, getD};
 ghost use Rattle.answer.specs.Answer.{good, when, _or_};
-ghost use Rattle.table.specs.Shape.{countsOf};
+ghost use Rattle.shapes.specs.Shape.{countsOf};
 ghost use Rattle.lists.specs.Lists.{readingsFault};
 ghost use Rattle.table.specs.Table.{rangesFault};
 ghost use Rattle.uniform.specs.Uniform.{axesUniformFault};
@@ -18,7 +18,7 @@ pub mod block;
 use crate::interpolator::n::corners;
 use crate::interpolator::n::pick;
 use answer::Answer;
-use table::Shape;
+use shapes::Shape;
 
 // ---- what is judged
 
@@ -26,7 +26,7 @@ use table::Shape;
 pub(crate) fn table_fault(shape: Shape, nodes: &[f64], values: &[f64]) -> Answer
     ensures { λ r. ⌜ r ≡ tableFault shape (now (nodes .entry)) (now (values .entry)) ⌝ }
 {
-    let fault = table::frame_fault(shape, nodes.len(), values.len());
+    let fault = shapes::frame_fault(shape, nodes.len(), values.len());
     if fault.number != 0 {
         return fault;
     }

@@ -5,10 +5,13 @@ use lib.ListN.{length}
 use lib.Ieee.{Float}
 use Rattle.answer.specs.Answer.{_or_}
 use Rattle.answer.specs.declared.Answer.{Answer}
-use Rattle.table.specs.Shape.{countsOf}
-use Rattle.table.specs.Table.{frameFault, lengthFault, axesFault, rangesFault}
-use Rattle.lists.specs.Lists.{valuesFault, directionsFault, readingsFault}
-use Rattle.table.specs.declared.Shape.{Shape}
+use Rattle.shapes.specs.Shape.{countsOf}
+use Rattle.shapes.specs.Frame.{frameFault}
+use Rattle.counts.specs.Counts.{lengthFault}
+use Rattle.table.specs.Table.{axesFault, rangesFault}
+use Rattle.values.specs.Values.{valuesFault}
+use Rattle.lists.specs.Lists.{directionsFault, readingsFault}
+use Rattle.shapes.specs.declared.Shape.{Shape}
 use Rattle.uniform.specs.Uniform.{axesUniformFault}
 
 -- "Order for a lookup: 1, 2, 3; then each axis node by node (4, 5, 6 at each node); 7; .. 10 for all axes; 11 for all axes"

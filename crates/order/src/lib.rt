@@ -1,12 +1,15 @@
 // The orders of checks that stand before a lookup: one function each, total.
 ghost use mathlib.Core.Path.{_≡_};
 ghost use Rattle.answer.specs.Answer.{_or_};
-ghost use Rattle.table.specs.Shape.{countsOf};
-ghost use Rattle.table.specs.Table.{frameFault, lengthFault, axesFault, rangesFault};
-ghost use Rattle.lists.specs.Lists.{valuesFault, readingsFault};
+ghost use Rattle.shapes.specs.Shape.{countsOf};
+ghost use Rattle.shapes.specs.Frame.{frameFault};
+ghost use Rattle.counts.specs.Counts.{lengthFault};
+ghost use Rattle.table.specs.Table.{axesFault, rangesFault};
+ghost use Rattle.values.specs.Values.{valuesFault};
+ghost use Rattle.lists.specs.Lists.{readingsFault};
 ghost use Rattle.order.specs.Lookups.{lookupFault, stepFault, linearUniformFault};
 use answer::Answer;
-use table::Shape;
+use shapes::Shape;
 
 // ---- what the orders share
 
@@ -14,11 +17,11 @@ use table::Shape;
 fn lengths_fault(shape: Shape, nodes: usize, values: usize, point: usize) -> Answer
     ensures { λ r. ⌜ r ≡ (frameFault shape nodes values or lengthFault 2 (shape .axes) point) ⌝ }
 {
-    let fault = table::frame_fault(shape, nodes, values);
+    let fault = shapes::frame_fault(shape, nodes, values);
     if fault.number != 0 {
         return fault;
     }
-    table::length_fault(2, shape.axes, point)
+    counts::length_fault(2, shape.axes, point)
 }
 
 // 4, 5, 6; 7.
@@ -29,7 +32,7 @@ pub fn table_fault(shape: Shape, nodes: &[f64], values: &[f64]) -> Answer
     if fault.number != 0 {
         return fault;
     }
-    lists::values_fault(values)
+    values::values_fault(values)
 }
 
 // 10; 11.
@@ -74,7 +77,7 @@ pub fn step_fault(
     if fault.number != 0 {
         return fault;
     }
-    let lent = table::length_fault(3, shape.axes, directions.len());
+    let lent = counts::length_fault(3, shape.axes, directions.len());
     if lent.number != 0 {
         return lent;
     }

@@ -10,7 +10,7 @@ use lib.Dec.{leb, eqb}
 use lib.ListN.{length, take, drop, length-append, length-drop, length-take}
 use lib.Seq.{length-take-le, take-all, take-append-le, drop-append-le}
 use Rattle.answer.specs.Answer.{refused}
-use Rattle.judge.proofs.Rows.{and-false}
+use Rattle.answer.proofs.Tests.{and-false}
 use Rattle.lines.specs.Feed.{Filled}
 use Rattle.lines.specs.Line.{lineOf, longest}
 use Rattle.lines.specs.Put.{Wrote, lineInto, lineEnd}

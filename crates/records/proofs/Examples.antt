@@ -8,10 +8,15 @@ use Prim.Native.Nat.{ℕ, _*_}
 use lib.ListN.{drop}
 use lib.Ieee.{ofBits, toBits, lt, le, eq, add, sub, mul, div}
 use Rattle.answer.specs.Answer.{refused, answered, fine, good, when, _or_, firstOf, given}
-use Rattle.judge.specs.Check.{gap, countFault, finiteFault, riseFault, nodeFault, nodesFault, readingFault, resultFault, roomFault}
-use Rattle.table.specs.Shape.{size, total, axesOf, strides, placeBy, table}
-use Rattle.table.specs.Table.{shapeFault, lengthFault, frameFault, axesFault, rangesFault, axesRow, productRow}
-use Rattle.lists.specs.Lists.{valueFault, valuesFault, readingsFault, rangeFault}
+use Rattle.judge.specs.Check.{gap, riseFault, nodeFault, nodesFault}
+use Rattle.counts.specs.Counts.{countFault, roomFault, lengthFault}
+use Rattle.numbers.specs.Numbers.{finiteFault, readingFault, resultFault}
+use Rattle.shapes.specs.Shape.{size, total}
+use Rattle.table.specs.Layout.{axesOf, strides, placeBy, table}
+use Rattle.shapes.specs.Frame.{shapeFault, frameFault, axesRow, productRow}
+use Rattle.table.specs.Table.{axesFault, rangesFault}
+use Rattle.values.specs.Values.{valueFault, valuesFault}
+use Rattle.lists.specs.Lists.{readingsFault, rangeFault}
 use Rattle.words.specs.Words.{ofBytes, wordAt, floatAt}
 use Rattle.order.specs.Lookups.{lookupFault}
 use Rattle.blend.specs.Blend.{blended, computed}

@@ -4,7 +4,7 @@ ghost use Prim.Native.Nat.{ℕ, _*_, _≤_};
 ghost use Rattle.ninterp.specs.Records.{recordSize, recordRule};
 ghost use Rattle.records.specs.Run.{imageSize, goesOn, endSize, endInto};
 ghost use Rattle.records.specs.Turns.{TurnOf};
-use table::Shape;
+use shapes::Shape;
 
 // How many bytes the image is to have, by what its first bytes state.
 pub fn image_size(head: &[u8]) -> usize
@@ -52,7 +52,7 @@ pub fn take_turn(
 ) -> Turn
     ensures { λ r. ⌜ TurnOf (recordRule shape (now (nodes .entry)) (now (values .entry))) most have (now (buf .entry)) (now (out .entry)) (now (buf .exit)) (now (out .exit)) (r .written) (r .held) (r .left) ⌝ }
 {
-    let there = table::least(have, buf.len());
+    let there = counts::least(have, buf.len());
     let done = ninterp::records::block::answer_block(
         shape,
         nodes,

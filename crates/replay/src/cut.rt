@@ -11,8 +11,8 @@ use crate::list;
 use crate::list::Header;
 use crate::tables;
 use crate::tables::Table;
+use shapes::Shape;
 use slices::SliceAnswer;
-use table::Shape;
 
 // The bits of what stands at a place of the output before a slice, 2^52 and the place.
 fn mark(place: usize) -> u64 {

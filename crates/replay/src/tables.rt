@@ -11,7 +11,7 @@ use ninterp::interpolator::n::linear;
 use ninterp::interpolator::n::linear_uniform;
 use ninterp::interpolator::n::nearest;
 use ninterp::interpolator::n::step;
-use table::Shape;
+use shapes::Shape;
 
 pub(crate) const MOST_NODES: usize = 512;
 

@@ -8,11 +8,11 @@ use lib.Ieee.{Float, nan}
 use Rattle.answer.specs.Answer.{firstOf}
 use Rattle.answer.specs.declared.Answer.{Answer}
 use Rattle.answer.proofs.Orders.{first-same}
-use Rattle.table.specs.Shape.{tabulate}
+use Rattle.table.specs.Layout.{tabulate}
 use Rattle.table.proofs.Layouts.{length-tabulate, getD-tabulate}
 use Rattle.blend.specs.Blend.{blended}
 use Rattle.runs.specs.Runs.{blends, resultsFault}
-use Rattle.judge.specs.Check.{resultFault}
+use Rattle.numbers.specs.Numbers.{resultFault}
 
 abbrev pub runAt : Float → List Float → List Float → ℕ → Float
 runAt f low high i = blended (getD low i nan) (getD high i nan) f

@@ -5,9 +5,9 @@ use lib.ListN.{length, drop, getD}
 use lib.Ieee.{Float, nan}
 use Rattle.answer.specs.Answer.{firstOf}
 use Rattle.answer.specs.declared.Answer.{Answer}
-use Rattle.table.specs.Shape.{tabulate}
+use Rattle.table.specs.Layout.{tabulate}
 use Rattle.blend.specs.Blend.{blended}
-use Rattle.judge.specs.Check.{resultFault}
+use Rattle.numbers.specs.Numbers.{resultFault}
 
 -- two runs of values blended, place by place
 unfoldable pub blends : Float → List Float → List Float → List Float

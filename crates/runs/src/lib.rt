@@ -7,10 +7,10 @@ use answer::Answer;
 pub fn blend_fault(low: &[f64], high: &[f64], f: f64) -> Answer
     ensures { λ r. ⌜ r ≡ resultsFault (blends f (now (low .entry)) (now (high .entry))) ⌝ }
 {
-    let count = table::least(low.len(), high.len());
+    let count = counts::least(low.len(), high.len());
     let mut i: usize = 0;
     while i < count {
-        let fault = judge::result_fault(i, blend::blend(low[i], high[i], f));
+        let fault = numbers::result_fault(i, blend::blend(low[i], high[i], f));
         if fault.number != 0 {
             return fault;
         }
@@ -23,8 +23,8 @@ pub fn blend_fault(low: &[f64], high: &[f64], f: f64) -> Answer
 pub fn blend_into(low: &[f64], high: &[f64], f: f64, out: &mut [f64])
     ensures { λ _. ⌜ now (out .exit) ≡ blendedInto f (now (low .entry)) (now (high .entry)) (now (out .entry)) ⌝ }
 {
-    let both = table::least(low.len(), high.len());
-    let count = table::least(both, out.len());
+    let both = counts::least(low.len(), high.len());
+    let count = counts::least(both, out.len());
     let mut i: usize = 0;
     while i < count {
         out[i] = blend::blend(low[i], high[i], f);

@@ -11,11 +11,12 @@ use lib.Ieee.{Float, nan}
 use lib.Ieee.Scale.{finite}
 use Rattle.answer.specs.Answer.{fine, good}
 use Rattle.answer.proofs.Orders.{none-good, passed-fine, row-passed}
-use Rattle.table.specs.Shape.{size, place, table, tabulate, indicesAt, without, sliceValues}
+use Rattle.shapes.specs.Shape.{size}
+use Rattle.table.specs.Layout.{place, table, tabulate, indicesAt, without, sliceValues}
 use Rattle.table.proofs.Layouts.{length-tabulate, getD-tabulate, tabulate-same, size-cons, place-cons, place-below, indices-place, indices-inside}
 use Rattle.blend.specs.Blend.{blended, sliced}
 use Rattle.runs.specs.Runs.{blends, resultsFault, blendedInto}
-use Rattle.judge.specs.Check.{resultFault}
+use Rattle.numbers.specs.Numbers.{resultFault}
 use Rattle.blend.specs.declared.AxisLocation.{AxisLocation}
 use Rattle.blend.specs.declared.AxisLocation.the-variants.{Exact, Between}
 use Rattle.slices.specs.LinearSlices.{alongFirst}

@@ -8,10 +8,11 @@ use lib.ListN.{length, getD, length-take}
 use lib.Ieee.{Float}
 use lib.Ieee.Scale.{finite}
 use Rattle.answer.specs.Answer.{good}
-use Rattle.table.specs.Shape.{countsOf, size, axesOf, tabulate, without, sliceValues, nodesWithout, axisOf}
-use Rattle.table.specs.Table.{lengthFault}
+use Rattle.shapes.specs.Shape.{countsOf, size}
+use Rattle.table.specs.Layout.{axesOf, tabulate, without, sliceValues, nodesWithout, axisOf}
+use Rattle.counts.specs.Counts.{lengthFault}
 use Rattle.lists.specs.Lists.{directionsFault, rangeFault}
-use Rattle.table.specs.declared.Shape.{Shape}
+use Rattle.shapes.specs.declared.Shape.{Shape}
 use Rattle.table.proofs.Removals.{without-comm, getD-without, getD-without-below, slices-comm, nodes-comm}
 use Rattle.ninterp.specs.Tables.{nearestRule, stepRule}
 use Rattle.slices.specs.Slices.{shapeWithout, nearestSliceFault, stepSliceFault, ruleSlice}

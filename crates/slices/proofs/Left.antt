@@ -14,13 +14,20 @@ use lib.Ieee.Scale.{finite}
 use Rattle.answer.specs.Answer.{refused, fine, good, when, _or_, firstOf}
 use Rattle.answer.specs.declared.Answer.{Answer}
 use Rattle.answer.proofs.Orders as orders
-use Rattle.judge.specs.Check.{node, Axis, countFault, nodesFault, readingFault}
-use Rattle.judge.proofs.Rows.{count-fine, nodes-fine, reading-fine}
-use Rattle.table.specs.Shape.{countsOf, size, total, axesOf, tabulate, insert, without, nodesWithout, axisOf}
-use Rattle.table.specs.Table.{shapeFault, lengthFault, frameFault, axesFault, rangesFault}
-use Rattle.lists.specs.Lists.{valuesFault, readingsFault, rangeFault}
-use Rattle.table.specs.declared.Shape.{Shape}
-use Rattle.table.proofs.Tables.{product-fine, length-same, length-passed}
+use Rattle.judge.specs.Check.{node, Axis, nodesFault}
+use Rattle.counts.specs.Counts.{countFault, lengthFault}
+use Rattle.numbers.specs.Numbers.{readingFault}
+use Rattle.counts.proofs.Rows.{count-fine, length-same, length-passed}
+use Rattle.judge.proofs.Rows.{nodes-fine}
+use Rattle.numbers.proofs.Rows.{reading-fine}
+use Rattle.shapes.specs.Shape.{countsOf, size, total}
+use Rattle.table.specs.Layout.{axesOf, tabulate, insert, without, nodesWithout, axisOf}
+use Rattle.shapes.specs.Frame.{shapeFault, frameFault}
+use Rattle.table.specs.Table.{axesFault, rangesFault}
+use Rattle.values.specs.Values.{valuesFault}
+use Rattle.lists.specs.Lists.{readingsFault, rangeFault}
+use Rattle.shapes.specs.declared.Shape.{Shape}
+use Rattle.shapes.proofs.Frames.{product-fine}
 use Rattle.table.proofs.Layouts.{length-tabulate, getD-tabulate}
 use Rattle.table.proofs.Removals.{size-split, size-without, length-without, getD-without, getD-without-below, axes-without, total-without, length-insert, getD-insert, getD-insert-below, getD-insert-above}
 use Rattle.table.proofs.Grids.{length-axis}

@@ -9,19 +9,23 @@ use lib.Ieee.{Float, nan, lt}
 use lib.Ieee.Scale.{finite}
 use Rattle.answer.specs.Answer.{refused, answered, good, _or_}
 use Rattle.answer.proofs.Orders as orders
-use Rattle.judge.specs.Check.{Axis, gap, resultFault}
-use Rattle.judge.proofs.Rows.{not-false}
-use Rattle.table.specs.Shape.{countsOf, size, axesOf, place, table, tabulate, indicesAt, Inside, insert, without, nodesWithout, axisOf}
-use Rattle.table.specs.Table.{frameFault, axesFault}
-use Rattle.lists.specs.Lists.{valueFault, valuesFault}
-use Rattle.table.specs.declared.Shape.{Shape}
-use Rattle.table.proofs.Shapes.{length-axes}
-use Rattle.lists.proofs.Rows.{value-good}
+use Rattle.judge.specs.Check.{Axis, gap}
+use Rattle.numbers.specs.Numbers.{resultFault}
+use Rattle.answer.proofs.Tests.{not-false}
+use Rattle.shapes.specs.Shape.{countsOf, size}
+use Rattle.table.specs.Layout.{axesOf, place, table, tabulate, indicesAt, Inside, insert, without, nodesWithout, axisOf}
+use Rattle.shapes.specs.Frame.{frameFault}
+use Rattle.table.specs.Table.{axesFault}
+use Rattle.values.specs.Values.{valueFault, valuesFault}
+use Rattle.shapes.specs.declared.Shape.{Shape}
+use Rattle.table.proofs.Walks.{length-axes}
+use Rattle.values.proofs.Rows.{value-good}
 use Rattle.table.proofs.Layouts.{getD-tabulate, place-below}
 use Rattle.table.proofs.Removals.{indices-back, tabulate-insert, length-without, getD-insert-above}
 use Rattle.uniform.specs.Uniform.{apart, gapFault, uniformFault, toleranceOf, defaultFault, axesUniformFault}
 use Rattle.uniform.specs.declared.Tolerance.the-variants.{Default}
-use Rattle.fronts.specs.Fronts.{notFirstFault, linearFront, linearUniformFront}
+use Rattle.counts.specs.Counts.{notFirstFault}
+use Rattle.fronts.specs.Fronts.{linearFront, linearUniformFront}
 use Rattle.blend.specs.Blend.{blended, sliced, linear, computed}
 use Rattle.runs.specs.Runs.{resultsFault}
 use Rattle.blend.specs.declared.AxisLocation.{AxisLocation}
@@ -132,9 +136,9 @@ module _ (s : Shape) (four : length (s .counts) ≡ 4) (nodes values : List Floa
   accepted : (axis : ℕ) → good (linearFront s nodes values axis) ≡ true → Accepted s nodes values
   unfolding linearFront
   accepted axis h =
-      let h2 : good (axesFault (countsOf s) nodes or valuesFault values) ≡ true = orders.second-passed (notFirstFault s axis) (axesFault (countsOf s) nodes or valuesFault values) (orders.second-passed (frameFault s (length nodes) (length values)) (notFirstFault s axis or axesFault (countsOf s) nodes or valuesFault values) h) in
+      let h2 : good (axesFault (countsOf s) nodes or valuesFault values) ≡ true = orders.second-passed (notFirstFault (s .axes) axis) (axesFault (countsOf s) nodes or valuesFault values) (orders.second-passed (frameFault s (length nodes) (length values)) (notFirstFault (s .axes) axis or axesFault (countsOf s) nodes or valuesFault values) h) in
       record {
-        frame = orders.first-passed (frameFault s (length nodes) (length values)) (notFirstFault s axis or axesFault (countsOf s) nodes or valuesFault values) h;
+        frame = orders.first-passed (frameFault s (length nodes) (length values)) (notFirstFault (s .axes) axis or axesFault (countsOf s) nodes or valuesFault values) h;
         axes = orders.first-passed (axesFault (countsOf s) nodes) (valuesFault values) h2;
         stored = orders.second-passed (axesFault (countsOf s) nodes) (valuesFault values) h2;
       }

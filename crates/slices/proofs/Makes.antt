@@ -10,19 +10,23 @@ use lib.Ieee.Scale.{finite}
 use Rattle.answer.specs.Answer.{good, _or_}
 use Rattle.answer.specs.declared.Answer.{Answer}
 use Rattle.answer.proofs.Orders as orders
-use Rattle.judge.specs.Check.{readingFault, roomFault}
-use Rattle.judge.proofs.Rows.{reading-fine, room-enough}
-use Rattle.lists.specs.Lists.{valuesFault, directionsFault, rangeFault}
-use Rattle.table.specs.Shape.{countsOf, size, without, axisOf}
-use Rattle.table.specs.Table.{frameFault, lengthFault, axesFault}
-use Rattle.table.specs.declared.Shape.{Shape}
+use Rattle.numbers.specs.Numbers.{readingFault}
+use Rattle.counts.specs.Counts.{roomFault, lengthFault, noAxisFault, notFirstFault}
+use Rattle.numbers.proofs.Rows.{reading-fine}
+use Rattle.counts.proofs.Rows.{room-enough, axis-there, first-there}
+use Rattle.values.specs.Values.{valuesFault}
+use Rattle.lists.specs.Lists.{directionsFault, rangeFault}
+use Rattle.shapes.specs.Shape.{countsOf, size}
+use Rattle.table.specs.Layout.{without, axisOf}
+use Rattle.shapes.specs.Frame.{frameFault}
+use Rattle.table.specs.Table.{axesFault}
+use Rattle.shapes.specs.declared.Shape.{Shape}
 use Rattle.uniform.specs.Uniform.{axesUniformFault}
 use Rattle.runs.specs.Runs.{resultsFault}
 use Rattle.blend.specs.declared.AxisLocation.{AxisLocation}
 use Rattle.axis.specs.Utils.{axisLocation}
 use Rattle.axis.specs.Locations.{uniformLocation}
-use Rattle.fronts.specs.Fronts.{noAxisFault, notFirstFault, nearestFront, stepFront, linearFront, linearUniformFront}
-use Rattle.fronts.proofs.Fronts.{axis-there, first-there}
+use Rattle.fronts.specs.Fronts.{nearestFront, stepFront, linearFront, linearUniformFront}
 use Rattle.ninterp.proofs.Demands.{Accepted}
 use Rattle.slices.specs.Slices.{pointFault, nearestSliceFault, stepSliceFault}
 use Rattle.slices.specs.LinearSlices.{linearValues, linearRest, linearSliceFault, linearUniformSliceFault}
@@ -45,24 +49,24 @@ module _ (s : Shape) (nodes values : List Float) (t : Accepted s nodes values) (
         (orders.both-passed (rangeFault axis (axisOf s nodes axis) p) (roomFault 1 (size (without axis (countsOf s))) room) inside
         (orders.passed-fine (roomFault 1 (size (without axis (countsOf s))) room) (room-enough 1 (size (without axis (countsOf s))) room w)))
 
-    has-axis : good (noAxisFault s axis) ≡ true
-    has-axis = orders.passed-fine (noAxisFault s axis) (axis-there s axis many there)
+    has-axis : good (noAxisFault (s .axes) axis) ≡ true
+    has-axis = orders.passed-fine (noAxisFault (s .axes) axis) (axis-there (s .axes) axis many there)
 
     pub nearest-slice-made : good (nearestSliceFault s nodes values axis p room) ≡ true
     unfolding nearestSliceFault nearestFront
     nearest-slice-made =
-        orders.both-passed (frame or noAxisFault s axis or axes or valuesFault values) (pointFault s nodes axis p room)
-        (orders.both-passed frame (noAxisFault s axis or axes or valuesFault values) (t .frame)
-        (orders.both-passed (noAxisFault s axis) (axes or valuesFault values) has-axis stored)) point-good
+        orders.both-passed (frame or noAxisFault (s .axes) axis or axes or valuesFault values) (pointFault s nodes axis p room)
+        (orders.both-passed frame (noAxisFault (s .axes) axis or axes or valuesFault values) (t .frame)
+        (orders.both-passed (noAxisFault (s .axes) axis) (axes or valuesFault values) has-axis stored)) point-good
 
     pub step-slice-made : (directions : List ℕ) → good (lengthFault 3 (s .axes) (length directions)) ≡ true → good (directionsFault directions) ≡ true
         → good (stepSliceFault s nodes values directions axis p room) ≡ true
     unfolding stepSliceFault stepFront
     step-slice-made directions l d =
-        orders.both-passed (frame or lengthFault 3 (s .axes) (length directions) or noAxisFault s axis or axes or valuesFault values or directionsFault directions) (pointFault s nodes axis p room)
-        (orders.both-passed frame (lengthFault 3 (s .axes) (length directions) or noAxisFault s axis or axes or valuesFault values or directionsFault directions) (t .frame)
-        (orders.both-passed (lengthFault 3 (s .axes) (length directions)) (noAxisFault s axis or axes or valuesFault values or directionsFault directions) l
-        (orders.both-passed (noAxisFault s axis) (axes or valuesFault values or directionsFault directions) has-axis
+        orders.both-passed (frame or lengthFault 3 (s .axes) (length directions) or noAxisFault (s .axes) axis or axes or valuesFault values or directionsFault directions) (pointFault s nodes axis p room)
+        (orders.both-passed frame (lengthFault 3 (s .axes) (length directions) or noAxisFault (s .axes) axis or axes or valuesFault values or directionsFault directions) (t .frame)
+        (orders.both-passed (lengthFault 3 (s .axes) (length directions)) (noAxisFault (s .axes) axis or axes or valuesFault values or directionsFault directions) l
+        (orders.both-passed (noAxisFault (s .axes) axis) (axes or valuesFault values or directionsFault directions) has-axis
         (orders.both-passed axes (valuesFault values or directionsFault directions) (t .axes) (orders.both-passed (valuesFault values) (directionsFault directions) (t .stored) d))))) point-good
 
   -- ---- the two linears, on their first axis
@@ -70,8 +74,8 @@ module _ (s : Shape) (nodes values : List Float) (t : Accepted s nodes values) (
     front-good : good (linearFront s nodes values 0) ≡ true
     unfolding linearFront
     front-good =
-        orders.both-passed frame (notFirstFault s 0 or axes or valuesFault values) (t .frame)
-        (orders.both-passed (notFirstFault s 0) (axes or valuesFault values) (orders.passed-fine (notFirstFault s 0) (first-there s 0 many refl)) stored)
+        orders.both-passed frame (notFirstFault (s .axes) 0 or axes or valuesFault values) (t .frame)
+        (orders.both-passed (notFirstFault (s .axes) 0) (axes or valuesFault values) (orders.passed-fine (notFirstFault (s .axes) 0) (first-there (s .axes) 0 many refl)) stored)
 
     rest-is : (rule : List Float → Float → AxisLocation) → linearRest rule s nodes values 0 p room ≡ resultsFault (linearValues rule s nodes values p)
     unfolding linearRest

@@ -7,19 +7,24 @@ use lib.Ieee.{Float}
 use Rattle.answer.specs.Answer.{good}
 use Rattle.answer.specs.declared.Answer.{Answer}
 use Rattle.answer.proofs.Orders as orders
-use Rattle.table.specs.declared.Shape.{Shape}
-use Rattle.fronts.specs.Fronts.{noAxisFault, notFirstFault, nearestFront, stepFront, linearFront, linearUniformFront}
+use Rattle.shapes.specs.declared.Shape.{Shape}
+use Rattle.counts.specs.Counts.{noAxisFault, notFirstFault, roomFault}
+use Rattle.fronts.specs.Fronts.{nearestFront, stepFront, linearFront, linearUniformFront}
 use Rattle.runs.specs.Runs.{resultsFault}
-use Rattle.judge.specs.Check.{resultFault, roomFault}
+use Rattle.numbers.specs.Numbers.{resultFault}
 use Rattle.blend.specs.declared.AxisLocation.{AxisLocation}
 use Rattle.axis.specs.Utils.{axisLocation}
 use Rattle.axis.specs.Locations.{uniformLocation}
 use Rattle.slices.specs.LinearSlices.{linearValues, linearRest, linearSliceFault, linearUniformSliceFault}
 use Rattle.slices.specs.Slices.{shapeWithout, pointFault, nearestSliceFault, stepSliceFault, sliceAnswer}
-use Rattle.table.specs.Shape.{noShape}
+use Rattle.shapes.specs.Shape.{noShape}
 use Rattle.uniform.proofs.Bares.{bare-uniform}
-use Rattle.table.proofs.Bares.{bare-length, bare-frame, bare-axes}
-use Rattle.lists.proofs.Bares.{bare-values, bare-directions, bare-reading, bare-range}
+use Rattle.counts.proofs.Bares.{bare-length}
+use Rattle.shapes.proofs.Bares.{bare-frame}
+use Rattle.table.proofs.Bares.{bare-axes}
+use Rattle.values.proofs.Bares.{bare-values}
+use Rattle.lists.proofs.Bares.{bare-directions, bare-range}
+use Rattle.numbers.proofs.Bares.{bare-reading}
 use Rattle.answer.proofs.Bares.{Bare, bare-or, bare-first, row}
 
 bare-point : (s : Shape) (nodes : List Float) (axis : ℕ) (p : Float) (room : ℕ) → Bare (pointFault s nodes axis p room)

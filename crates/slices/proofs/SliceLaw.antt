@@ -12,15 +12,18 @@ use lib.Ieee.Scale.{finite}
 use Rattle.answer.specs.Answer.{answered, good, _or_}
 use Rattle.answer.specs.declared.Answer.{Answer}
 use Rattle.answer.proofs.Orders as orders
-use Rattle.judge.specs.Check.{Axis, directionFault}
-use Rattle.judge.proofs.Rows.{direction-fine, direction-passed}
-use Rattle.table.specs.Shape.{countsOf, size, axesOf, place, table, indicesAt, tabulate, Inside, insert, without, sliceValues, nodesWithout, axisOf}
-use Rattle.table.specs.Table.{lengthFault, frameFault, axesFault, rangesFault}
-use Rattle.lists.specs.Lists.{valueFault, valuesFault, directionsFault, readingsFault, rangeFault}
-use Rattle.table.specs.declared.Shape.{Shape}
-use Rattle.table.proofs.Shapes.{length-axes}
-use Rattle.table.proofs.Tables.{length-same}
-use Rattle.lists.proofs.Rows.{value-good, values-finite}
+use Rattle.judge.specs.Check.{Axis}
+use Rattle.counts.specs.Counts.{directionFault, lengthFault, noAxisFault}
+use Rattle.counts.proofs.Rows.{direction-fine, direction-passed, length-same}
+use Rattle.shapes.specs.Shape.{countsOf, size}
+use Rattle.table.specs.Layout.{axesOf, place, table, indicesAt, tabulate, Inside, insert, without, sliceValues, nodesWithout, axisOf}
+use Rattle.shapes.specs.Frame.{frameFault}
+use Rattle.table.specs.Table.{axesFault, rangesFault}
+use Rattle.values.specs.Values.{valueFault, valuesFault}
+use Rattle.lists.specs.Lists.{directionsFault, readingsFault, rangeFault}
+use Rattle.shapes.specs.declared.Shape.{Shape}
+use Rattle.table.proofs.Walks.{length-axes}
+use Rattle.values.proofs.Rows.{value-good, values-finite}
 use Rattle.table.proofs.Layouts.{getD-tabulate, place-below, indices-inside}
 use Rattle.table.proofs.Removals.{length-without, getD-without, getD-without-below, length-slice, insert-inside, getD-insert, getD-insert-below, getD-insert-above, tabulate-insert, slice-law}
 use Rattle.table.proofs.Grids.{length-axis}
@@ -28,7 +31,7 @@ use Rattle.axis.specs.Utils.{stepIndex}
 use Rattle.order.specs.Lookups.{stepFault}
 use Rattle.axis.specs.Picks.{nearestIndex}
 use Rattle.ninterp.specs.Tables.{indices, picked, nearestRule, stepRule, nearestAnswer, stepAnswer}
-use Rattle.fronts.specs.Fronts.{noAxisFault, nearestFront, stepFront}
+use Rattle.fronts.specs.Fronts.{nearestFront, stepFront}
 use Rattle.slices.specs.Slices.{shapeWithout, pointFault, nearestSliceFault, stepSliceFault, ruleSlice, lowered}
 use Rattle.axis.proofs.Picks.{step-fits, nearest-fits}
 use Rattle.ninterp.proofs.Picks.{list-inside}
@@ -182,9 +185,9 @@ module _ (s : Shape) (nodes values : List Float) (k : ℕ) where
   nearest-accepted : good (nearestFront s nodes values k) ≡ true → Accepted s nodes values
   unfolding nearestFront
   nearest-accepted h =
-      let h2 : good (axesFault (countsOf s) nodes or valuesFault values) ≡ true = orders.second-passed (noAxisFault s k) (axesFault (countsOf s) nodes or valuesFault values) (orders.second-passed (frameFault s (length nodes) (length values)) (noAxisFault s k or axesFault (countsOf s) nodes or valuesFault values) h) in
+      let h2 : good (axesFault (countsOf s) nodes or valuesFault values) ≡ true = orders.second-passed (noAxisFault (s .axes) k) (axesFault (countsOf s) nodes or valuesFault values) (orders.second-passed (frameFault s (length nodes) (length values)) (noAxisFault (s .axes) k or axesFault (countsOf s) nodes or valuesFault values) h) in
       record {
-        frame = orders.first-passed (frameFault s (length nodes) (length values)) (noAxisFault s k or axesFault (countsOf s) nodes or valuesFault values) h;
+        frame = orders.first-passed (frameFault s (length nodes) (length values)) (noAxisFault (s .axes) k or axesFault (countsOf s) nodes or valuesFault values) h;
         axes = orders.first-passed (axesFault (countsOf s) nodes) (valuesFault values) h2;
         stored = orders.second-passed (axesFault (countsOf s) nodes) (valuesFault values) h2;
       }
@@ -196,8 +199,8 @@ module _ (s : Shape) (nodes values : List Float) (k : ℕ) where
     h3 : good last ≡ true
     unfolding stepFront
     h3 =
-        orders.second-passed (noAxisFault s k) last
-        (orders.second-passed (lengthFault 3 (s .axes) (length directions)) (noAxisFault s k or last) (orders.second-passed (frameFault s (length nodes) (length values)) (lengthFault 3 (s .axes) (length directions) or noAxisFault s k or last) h))
+        orders.second-passed (noAxisFault (s .axes) k) last
+        (orders.second-passed (lengthFault 3 (s .axes) (length directions)) (noAxisFault (s .axes) k or last) (orders.second-passed (frameFault s (length nodes) (length values)) (lengthFault 3 (s .axes) (length directions) or noAxisFault (s .axes) k or last) h))
 
     h4 : good (valuesFault values or directionsFault directions) ≡ true
     h4 = orders.second-passed (axesFault (countsOf s) nodes) (valuesFault values or directionsFault directions) h3
@@ -205,7 +208,7 @@ module _ (s : Shape) (nodes values : List Float) (k : ℕ) where
     step-accepted : Accepted s nodes values
     unfolding stepFront
     step-accepted = record {
-      frame = orders.first-passed (frameFault s (length nodes) (length values)) (lengthFault 3 (s .axes) (length directions) or noAxisFault s k or last) h;
+      frame = orders.first-passed (frameFault s (length nodes) (length values)) (lengthFault 3 (s .axes) (length directions) or noAxisFault (s .axes) k or last) h;
       axes = orders.first-passed (axesFault (countsOf s) nodes) (valuesFault values or directionsFault directions) h3;
       stored = orders.first-passed (valuesFault values) (directionsFault directions) h4;
     }

@@ -10,20 +10,24 @@ use Rattle.answer.specs.Answer.{good, _or_, filledInto}
 use Rattle.answer.specs.declared.Answer.{Answer}
 use Rattle.answer.proofs.Orders as orders
 use lib.Ieee.Scale.{finite}
-use Rattle.judge.specs.Check.{directionFault, readingFault, roomFault}
-use Rattle.judge.proofs.Rows.{direction-passed, reading-finite, room-passed}
-use Rattle.table.specs.Shape.{countsOf, size, without, axisOf, noShape}
-use Rattle.table.specs.Table.{frameFault, lengthFault, axesFault, Grid}
-use Rattle.lists.specs.Lists.{valuesFault, directionsFault, rangeFault}
-use Rattle.table.specs.declared.Shape.{Shape}
+use Rattle.counts.specs.Counts.{directionFault, roomFault, lengthFault, noAxisFault, notFirstFault}
+use Rattle.numbers.specs.Numbers.{readingFault}
+use Rattle.counts.proofs.Rows.{direction-passed, room-passed, length-passed, axis-many, axis-in, first-many, first-axis}
+use Rattle.numbers.proofs.Rows.{reading-finite}
+use Rattle.shapes.specs.Shape.{countsOf, size, noShape}
+use Rattle.table.specs.Layout.{without, axisOf}
+use Rattle.shapes.specs.Frame.{frameFault}
+use Rattle.table.specs.Table.{axesFault, Grid}
+use Rattle.values.specs.Values.{valuesFault}
+use Rattle.lists.specs.Lists.{directionsFault, rangeFault}
+use Rattle.shapes.specs.declared.Shape.{Shape}
 use Rattle.table.proofs.Grids.{frame-shape, frame-values, grid-of}
-use Rattle.lists.proofs.Rows.{values-finite}
-use Rattle.table.proofs.Tables.{shape-four, length-passed}
-use Rattle.fronts.specs.Fronts.{noAxisFault, notFirstFault, nearestFront, stepFront, linearFront, linearUniformFront}
+use Rattle.values.proofs.Rows.{values-finite}
+use Rattle.shapes.proofs.Frames.{shape-four}
+use Rattle.fronts.specs.Fronts.{nearestFront, stepFront, linearFront, linearUniformFront}
 use Rattle.uniform.specs.Uniform.{axesUniformFault}
 use Rattle.slices.specs.Slices.{shapeWithout, pointFault, sliceAnswer}
 use Rattle.slices.specs.declared.SliceAnswer.{SliceAnswer}
-use Rattle.fronts.proofs.Fronts.{axis-many, axis-in, first-many, first-axis}
 
 -- ---- a table that can be sliced on an axis
 pub record Sliceable (s : Shape) (nodes values : List Float) (axis : ℕ) : Type 0 where
@@ -47,7 +51,7 @@ module _ (s : Shape) (four : length (s .counts) ≡ 4) (nodes values : List Floa
   frame = frameFault s (length nodes) (length values)
 
   abbrev missing : Answer
-  missing = noAxisFault s axis
+  missing = noAxisFault (s .axes) axis
 
   abbrev axes : Answer
   axes = axesFault (countsOf s) nodes
@@ -56,8 +60,8 @@ module _ (s : Shape) (four : length (s .counts) ≡ 4) (nodes values : List Floa
   sliceable f m x = record {
     grid = grid-of s four nodes values f x;
     four = shape-four s (frame-shape s four nodes values f);
-    within = axis-in s axis m;
-    many = axis-many s axis m;
+    within = axis-in (s .axes) axis m;
+    many = axis-many (s .axes) axis m;
     stored = frame-values s four nodes values f;
   }
 
@@ -72,15 +76,15 @@ module _ (s : Shape) (four : length (s .counts) ≡ 4) (nodes values : List Floa
   pub linear-sliceable : good (linearFront s nodes values axis) ≡ true → FirstSliceable s nodes values axis
   unfolding linearFront
   linear-sliceable h =
-      let f : good frame ≡ true = orders.first-passed frame (notFirstFault s axis or axes or valuesFault values) h in
-      let h1 : good (notFirstFault s axis or axes or valuesFault values) ≡ true = orders.second-passed frame (notFirstFault s axis or axes or valuesFault values) h in
-      let n : good (notFirstFault s axis) ≡ true = orders.first-passed (notFirstFault s axis) (axes or valuesFault values) h1 in
-      let h2 : good (axes or valuesFault values) ≡ true = orders.second-passed (notFirstFault s axis) (axes or valuesFault values) h1 in
+      let f : good frame ≡ true = orders.first-passed frame (notFirstFault (s .axes) axis or axes or valuesFault values) h in
+      let h1 : good (notFirstFault (s .axes) axis or axes or valuesFault values) ≡ true = orders.second-passed frame (notFirstFault (s .axes) axis or axes or valuesFault values) h in
+      let n : good (notFirstFault (s .axes) axis) ≡ true = orders.first-passed (notFirstFault (s .axes) axis) (axes or valuesFault values) h1 in
+      let h2 : good (axes or valuesFault values) ≡ true = orders.second-passed (notFirstFault (s .axes) axis) (axes or valuesFault values) h1 in
       record {
         grid = grid-of s four nodes values f (orders.first-passed axes (valuesFault values) h2);
         four = shape-four s (frame-shape s four nodes values f);
-        first = first-axis s axis n;
-        many = first-many s axis n;
+        first = first-axis (s .axes) axis n;
+        many = first-many (s .axes) axis n;
         stored = frame-values s four nodes values f;
         finites = values-finite values (orders.second-passed axes (valuesFault values) h2);
       }
@@ -117,7 +121,7 @@ module _ (s : Shape) (four : length (s .counts) ≡ 4) (nodes values : List Floa
     pub step-axis-direction : getD directions axis 0 < 2
     unfolding directionsFault
     step-axis-direction =
-        let k : axis < s .axes = axis-in s axis (orders.first-passed missing rest h2) in
+        let k : axis < s .axes = axis-in (s .axes) axis (orders.first-passed missing rest h2) in
         let d : good (directionsFault directions) ≡ true = orders.second-passed (valuesFault values) (directionsFault directions) (orders.second-passed axes (valuesFault values or directionsFault directions) h3) in
         direction-passed axis (getD directions axis 0) (orders.all-passed (λ b. directionFault b (getD directions b 0)) 0 (length directions) d axis (omega arith) (omega (arith, step-axis-lent)))
 

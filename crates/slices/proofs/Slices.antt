@@ -12,9 +12,10 @@ use lib.ListN.{length, take, drop, getD, length-take}
 use lib.Seq.{getD-take, take-take, drop-drop, length-take-le}
 use lib.Ieee.{Float, nan}
 use Rattle.judge.specs.Check.{Axis}
-use Rattle.table.specs.Shape.{countsOf, size, total, axesOf, place, table, indicesAt, tabulate, insert, without, sliceValues}
+use Rattle.shapes.specs.Shape.{countsOf, size, total}
+use Rattle.table.specs.Layout.{axesOf, place, table, indicesAt, tabulate, insert, without, sliceValues}
 use Rattle.table.specs.Table.{Grid}
-use Rattle.table.specs.declared.Shape.{Shape}
+use Rattle.shapes.specs.declared.Shape.{Shape}
 use Rattle.table.proofs.Grids.{length-axis}
 use Rattle.table.proofs.Layouts.{radix, radix-div, radix-mod, size-suffix, size-cons, size-nil, tabulate-same}
 use Rattle.table.proofs.Removals.{getD-without, getD-without-below, size-split, size-without, source}

@@ -5,8 +5,9 @@ use lib.ListN.{length}
 use lib.Ieee.{Float}
 use Rattle.answer.specs.Answer.{_or_, filledInto}
 use Rattle.answer.specs.declared.Answer.{Answer}
-use Rattle.table.specs.Shape.{countsOf, size, tabulate, table, indicesAt, without, axisOf}
-use Rattle.table.specs.declared.Shape.{Shape}
+use Rattle.shapes.specs.Shape.{countsOf, size}
+use Rattle.table.specs.Layout.{tabulate, table, indicesAt, without, axisOf}
+use Rattle.shapes.specs.declared.Shape.{Shape}
 use Rattle.fronts.specs.Fronts.{linearFront, linearUniformFront}
 use Rattle.blend.specs.Blend.{sliced}
 use Rattle.runs.specs.Runs.{resultsFault}

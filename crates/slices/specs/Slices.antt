@@ -7,10 +7,12 @@ use lib.ListN.{length, getD}
 use lib.Ieee.{Float}
 use Rattle.answer.specs.Answer.{_or_, given, filledInto}
 use Rattle.answer.specs.declared.Answer.{Answer}
-use Rattle.judge.specs.Check.{readingFault, roomFault}
-use Rattle.table.specs.Shape.{countsOf, size, tabulate, without, sliceValues, axisOf, noShape}
+use Rattle.numbers.specs.Numbers.{readingFault}
+use Rattle.counts.specs.Counts.{roomFault}
+use Rattle.shapes.specs.Shape.{countsOf, size, noShape}
+use Rattle.table.specs.Layout.{tabulate, without, sliceValues, axisOf}
 use Rattle.lists.specs.Lists.{rangeFault}
-use Rattle.table.specs.declared.Shape.{Shape}
+use Rattle.shapes.specs.declared.Shape.{Shape}
 use Rattle.fronts.specs.Fronts.{nearestFront, stepFront}
 use Rattle.ninterp.specs.Tables.{nearestRule, stepRule}
 use Rattle.slices.specs.declared.SliceAnswer.{SliceAnswer}

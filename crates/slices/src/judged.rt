@@ -6,7 +6,8 @@ ghost use Prim.Native.Nat.{ℕ, _<_, _≤_};
 ghost use lib.ListN.{length, drop, getD};
 ghost use lib.Ieee.{nan};
 ghost use lib.Ieee.Scale.{finite};
-ghost use Rattle.table.specs.Shape.{countsOf, size, without, sliceValues, axisOf};
+ghost use Rattle.shapes.specs.Shape.{countsOf, size};
+ghost use Rattle.table.specs.Layout.{without, sliceValues, axisOf};
 ghost use Rattle.table.specs.Table.{Grid};
 ghost use Rattle.axis.specs.Picks.{pickIndex};
 ghost use Rattle.slices.specs.Slices.{pointFault, sliceAnswer};
@@ -21,7 +22,7 @@ use answer::Answer;
 use axis::locate;
 use axis::pick;
 use blend::AxisLocation;
-use table::Shape;
+use shapes::Shape;
 
 // The slice at a pick's index on one axis: 0 Lower, 1 Upper, anything else Nearest.
 fn pick_slice(
@@ -63,7 +64,7 @@ pub(crate) fn pick_judged(
     if answer.number != 0 {
         return SliceAnswer {
             answer,
-            shape: table::no_shape(),
+            shape: shapes::no_shape(),
         };
     }
     pick_slice(shape, nodes, values, pick, axis, point, out);
@@ -114,14 +115,14 @@ pub(crate) fn linear_judged(
     if fault.number != 0 {
         return SliceAnswer {
             answer: fault,
-            shape: table::no_shape(),
+            shape: shapes::no_shape(),
         };
     }
     let answer = along_first(uniform, shape, nodes, values, point, out);
     if answer.number != 0 {
         return SliceAnswer {
             answer,
-            shape: table::no_shape(),
+            shape: shapes::no_shape(),
         };
     }
     SliceAnswer {

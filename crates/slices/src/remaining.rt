@@ -4,11 +4,12 @@ ghost use mathlib.Core.Bool.{cond};
 ghost use Prim.Native.Nat.{ℕ, suc, _+_, _<_, _≤_};
 ghost use lib.Dec.{ltb};
 ghost use lib.ListN.{take, drop, getD};
-ghost use Rattle.table.specs.Shape.{countsOf, size, total, without};
+ghost use Rattle.shapes.specs.Shape.{countsOf, size, total};
+ghost use Rattle.table.specs.Layout.{without};
 ghost use Rattle.table.specs.Table.{Grid};
 ghost use Rattle.slices.specs.Slices.{shapeWithout, pointFault};
 use answer::Answer;
-use table::Shape;
+use shapes::Shape;
 
 // The number that axis a of what is left has in the whole.
 fn axis_past(axis: usize, a: usize) -> usize
@@ -82,7 +83,7 @@ pub(crate) fn point_fault(
     requires { ⌜ (Grid (countsOf shape) (now nodes) × ((shape .axes ≤ 4) × (axis < shape .axes))) × (values ≡ size (countsOf shape)) ⌝ }
     ensures { λ r. ⌜ r ≡ pointFault shape (now (nodes .entry)) axis point room ⌝ }
 {
-    let fault = judge::reading_fault(axis, point);
+    let fault = numbers::reading_fault(axis, point);
     if fault.number != 0 {
         return fault;
     }
@@ -94,5 +95,5 @@ pub(crate) fn point_fault(
     if fault.number != 0 {
         return fault;
     }
-    judge::room_fault(1, values / n, room)
+    counts::room_fault(1, values / n, room)
 }

@@ -11,11 +11,15 @@ use Rattle.answer.specs.Answer.{good, _or_}
 use Rattle.answer.proofs.Orders as orders
 use Rattle.judge.specs.Check.{nodesFault}
 use Rattle.judge.proofs.Rows.{nodes-axis}
-use Rattle.table.specs.Shape.{countsOf, size, total, axesOf}
-use Rattle.table.specs.Table.{shapeFault, lengthFault, frameFault, axesFault, rangesFault, Grid}
+use Rattle.shapes.specs.Shape.{countsOf, size, total}
+use Rattle.table.specs.Layout.{axesOf}
+use Rattle.shapes.specs.Frame.{shapeFault, frameFault}
+use Rattle.counts.specs.Counts.{lengthFault}
+use Rattle.table.specs.Table.{axesFault, rangesFault, Grid}
 use Rattle.lists.specs.Lists.{rangeFault}
-use Rattle.table.specs.declared.Shape.{Shape}
-use Rattle.table.proofs.Tables.{shape-four, shape-enough, shape-few, shape-size, length-passed}
+use Rattle.shapes.specs.declared.Shape.{Shape}
+use Rattle.shapes.proofs.Frames.{shape-four, shape-enough, shape-few, shape-size}
+use Rattle.counts.proofs.Rows.{length-passed}
 
 pub length-axis : (counts : List ℕ) (nodes : List Float) → length nodes ≡ total counts → (a : ℕ) → a < length counts → length (getD (axesOf counts nodes) a []) ≡ getD counts a 0
 unfolding axesOf total

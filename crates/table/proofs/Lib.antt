@@ -1,5 +1,4 @@
-pub mod Shapes
-pub mod Tables
+pub mod Walks
 pub mod Layouts
 pub mod Grids
 pub mod Removals

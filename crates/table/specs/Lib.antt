@@ -1,2 +1,2 @@
-pub mod Shape
+pub mod Layout
 pub mod Table

@@ -3,12 +3,14 @@ use mathlib.Core.List.{List}
 use Prim.Native.Nat.{ℕ}
 use lib.Ieee.{Float}
 use Rattle.answer.specs.Answer.{indexAnswer}
-use Rattle.judge.specs.Check.{countFault, finiteFault, lentStepFault, toleranceFault}
+use Rattle.counts.specs.Counts.{countFault}
+use Rattle.numbers.specs.Numbers.{finiteFault, lentStepFault, toleranceFault}
 use Rattle.uniform.specs.Uniform.{gapFault, uniformFault, axesUniformFault}
 use Rattle.uniform.specs.Calls.{uniformReadFault, locateLowerIndexUniform, lentFault, validateUniformGridEpsilon}
 use Rattle.uniform.specs.declared.Tolerance.{Tolerance}
 use Rattle.uniform.specs.declared.Tolerance.the-variants.{Lent, Default}
-use Rattle.lists.proofs.Bares.{bare-reading, bare-axis}
+use Rattle.numbers.proofs.Bares.{bare-reading}
+use Rattle.judge.proofs.Bares.{bare-axis}
 use Rattle.answer.proofs.Bares.{Bare, bare-fine, bare-or, bare-first, row}
 
 pub uniform-index-bare : (first step : Float) (n : ℕ) (p : Float) → Bare (locateLowerIndexUniform first step n p .answer)

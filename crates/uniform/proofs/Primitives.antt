@@ -8,8 +8,10 @@ use lib.ListN.{length}
 use lib.Ieee.{Float, binary64, lt, sub}
 use Rattle.answer.specs.Answer.{refused, fine, good, _or_}
 use Rattle.answer.proofs.Orders as orders
-use Rattle.judge.specs.Check.{gap, countFault, finiteFault, lentStepFault, readingFault}
-use Rattle.judge.proofs.Rows.{count-enough}
+use Rattle.judge.specs.Check.{gap}
+use Rattle.counts.specs.Counts.{countFault}
+use Rattle.numbers.specs.Numbers.{finiteFault, lentStepFault, readingFault}
+use Rattle.counts.proofs.Rows.{count-enough}
 use Rattle.uniform.specs.Uniform.{apart, gapFault, uniformFault}
 use Rattle.uniform.specs.Calls.{uniformReadFault}
 

@@ -5,7 +5,9 @@ use lib.Ieee.{Float}
 use Rattle.answer.specs.Answer.{fine, _or_, indexAnswer}
 use Rattle.answer.specs.declared.Answer.{Answer}
 use Rattle.answer.specs.declared.IndexAnswer.{IndexAnswer}
-use Rattle.judge.specs.Check.{countFault, finiteFault, axisFault, lentStepFault, toleranceFault, readingFault}
+use Rattle.counts.specs.Counts.{countFault}
+use Rattle.numbers.specs.Numbers.{finiteFault, lentStepFault, toleranceFault, readingFault}
+use Rattle.judge.specs.Check.{axisFault}
 use Rattle.uniform.specs.Uniform.{uniformIndex, uniformFault, toleranceOf}
 use Rattle.uniform.specs.declared.Tolerance.{Tolerance}
 use Rattle.uniform.specs.declared.Tolerance.the-variants.{Lent, Default}

@@ -8,7 +8,7 @@ use lib.Ieee.{Float, fin, binary64, lt, sub, mul, div, toUnsigned}
 use Rattle.answer.specs.Answer.{plusZero, refused, when, firstOf}
 use Rattle.answer.specs.declared.Answer.{Answer}
 use Rattle.judge.specs.Check.{gap}
-use Rattle.table.specs.Shape.{axesOf}
+use Rattle.table.specs.Layout.{axesOf}
 use Rattle.uniform.specs.declared.Tolerance.{Tolerance}
 use Rattle.uniform.specs.declared.Tolerance.the-variants.{Lent, Default}
 

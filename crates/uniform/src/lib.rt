@@ -3,12 +3,12 @@
 ghost use mathlib.Core.Path.{_≡_};
 ghost use Prim.Native.Nat.{_+_, _<_, _≤_};
 ghost use lib.ListN.{length};
-ghost use Rattle.table.specs.Shape.{countsOf};
+ghost use Rattle.shapes.specs.Shape.{countsOf};
 ghost use Rattle.uniform.specs.Uniform.{uniformCell, uniformIndex, apart, gapFault, uniformFault, toleranceOf, defaultFault, axesUniformFault};
 ghost use Rattle.uniform.specs.Calls.{uniformReadFault, lentFault, locateLowerIndexUniform, validateUniformGrid, validateUniformGridEpsilon};
 use answer::Answer;
 use answer::IndexAnswer;
-use table::Shape;
+use shapes::Shape;
 
 // The tolerance of a uniform grid: a lent one, or the default. The Rust's Option<f64>.
 pub enum Tolerance {
@@ -99,7 +99,7 @@ fn lent_fault(tolerance: Tolerance) -> Answer
     ensures { λ r. ⌜ r ≡ lentFault tolerance ⌝ }
 {
     match tolerance {
-        Tolerance::Lent(lent) => judge::tolerance_fault(lent),
+        Tolerance::Lent(lent) => numbers::tolerance_fault(lent),
         Tolerance::Default => answer::pass(),
     }
 }
@@ -110,19 +110,19 @@ fn lent_fault(tolerance: Tolerance) -> Answer
 fn uniform_read_fault(first: f64, step: f64, n: usize, point: f64) -> Answer
     ensures { λ r. ⌜ r ≡ uniformReadFault first step n point ⌝ }
 {
-    let fault = judge::count_fault(0, n);
+    let fault = counts::count_fault(0, n);
     if fault.number != 0 {
         return fault;
     }
-    let fault = judge::finite_fault(0, 0, first);
+    let fault = numbers::finite_fault(0, 0, first);
     if fault.number != 0 {
         return fault;
     }
-    let fault = judge::lent_step_fault(step);
+    let fault = numbers::lent_step_fault(step);
     if fault.number != 0 {
         return fault;
     }
-    judge::reading_fault(0, point)
+    numbers::reading_fault(0, point)
 }
 
 pub fn locate_lower_index_uniform(first: f64, step: f64, n: usize, point: f64) -> IndexAnswer
@@ -174,7 +174,7 @@ pub fn axes_uniform_fault(shape: Shape, nodes: &[f64]) -> Answer
     ensures { λ r. ⌜ r ≡ axesUniformFault (countsOf shape) (now (nodes .entry)) ⌝ }
 {
     let counts = shape.counts;
-    let axes = table::least(shape.axes, 4);
+    let axes = counts::least(shape.axes, 4);
     let mut at: usize = 0;
     let mut a: usize = 0;
     while a < axes {

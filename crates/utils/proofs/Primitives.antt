@@ -11,7 +11,9 @@ use lib.Ieee.Scale.{finite}
 use Rattle.answer.specs.Answer.{refused, fine, good, _or_}
 use Rattle.answer.specs.declared.Answer.{Answer}
 use Rattle.answer.proofs.Orders as orders
-use Rattle.judge.specs.Check.{axisFault, directionFault, readingFault, Axis}
+use Rattle.judge.specs.Check.{axisFault, Axis}
+use Rattle.counts.specs.Counts.{directionFault}
+use Rattle.numbers.specs.Numbers.{readingFault}
 use Rattle.utils.specs.Calls.{exactAnswer, axisAnswer, axisReadingFault, directedFault, lowerFault}
 use Rattle.axis.specs.declared.locate.MaybeIndex.{MaybeIndex}
 use Rattle.axis.specs.declared.locate.MaybeIndex.the-variants.{None}
@@ -19,7 +21,9 @@ use Rattle.blend.specs.declared.AxisLocation.{AxisLocation}
 use Rattle.blend.specs.declared.AxisLocation.the-variants.{Exact}
 use Rattle.utils.specs.declared.ExactAnswer.{ExactAnswer}
 use Rattle.utils.specs.declared.AxisAnswer.{AxisAnswer}
-use Rattle.judge.proofs.Rows.{axis-of, reading-finite, direction-passed}
+use Rattle.judge.proofs.Rows.{axis-of}
+use Rattle.numbers.proofs.Rows.{reading-finite}
+use Rattle.counts.proofs.Rows.{direction-passed}
 use Rattle.axis.specs.Utils.{axisLocation, stepIndex}
 use Rattle.axis.specs.Picks.{pickFound}
 use Rattle.axis.specs.Locations.{locationFound}

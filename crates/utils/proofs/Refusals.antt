@@ -3,9 +3,11 @@ use mathlib.Core.List.{List}
 use Prim.Native.Nat.{ℕ}
 use lib.Ieee.{Float}
 use Rattle.answer.specs.Answer.{indexAnswer}
-use Rattle.judge.specs.Check.{directionFault, resultFault}
+use Rattle.counts.specs.Counts.{directionFault}
+use Rattle.numbers.specs.Numbers.{resultFault}
 use Rattle.utils.specs.Calls.{exactAnswer, axisAnswer, axisReadingFault, locateLowerIndex, lowerFault, exactFault, exactIndex, locateAxis, directedFault, locateStepIndex}
-use Rattle.lists.proofs.Bares.{bare-reading, bare-axis}
+use Rattle.numbers.proofs.Bares.{bare-reading}
+use Rattle.judge.proofs.Bares.{bare-axis}
 use Rattle.answer.proofs.Bares.{Bare, bare-or, row}
 
 bare-axis-reading : (nodes : List Float) (p : Float) → Bare (axisReadingFault nodes p)

@@ -8,7 +8,9 @@ use lib.Ieee.{Float}
 use Rattle.answer.specs.Answer.{plusZero, refused, when, _or_, given, indexAnswer}
 use Rattle.answer.specs.declared.Answer.{Answer}
 use Rattle.answer.specs.declared.IndexAnswer.{IndexAnswer}
-use Rattle.judge.specs.Check.{axisFault, directionFault, readingFault, resultFault}
+use Rattle.judge.specs.Check.{axisFault}
+use Rattle.counts.specs.Counts.{directionFault}
+use Rattle.numbers.specs.Numbers.{readingFault, resultFault}
 use Rattle.axis.specs.Utils.{lowerIndex, exactNode, axisLocation, stepIndex}
 use Rattle.axis.specs.declared.locate.MaybeIndex.{MaybeIndex}
 use Rattle.axis.specs.declared.locate.MaybeIndex.the-variants.{Some, None}

@@ -75,7 +75,7 @@ fn axis_reading_fault(grid: &[f64], point: f64) -> Answer
     if fault.number != 0 {
         return fault;
     }
-    judge::reading_fault(0, point)
+    numbers::reading_fault(0, point)
 }
 
 pub fn locate_lower_index(grid: &[f64], point: f64) -> IndexAnswer
@@ -100,7 +100,7 @@ pub fn locate_axis(grid: &[f64], point: f64) -> AxisAnswer
         };
     }
     let location = axis::locate::location_by(false, grid, point);
-    let answer = judge::result_fault(0, location_fraction(location));
+    let answer = numbers::result_fault(0, location_fraction(location));
     if answer.number != 0 {
         return AxisAnswer {
             answer,
@@ -118,11 +118,11 @@ fn directed_fault(direction: u8, grid: &[f64], point: f64) -> Answer
     if fault.number != 0 {
         return fault;
     }
-    let fault = judge::direction_fault(0, direction);
+    let fault = counts::direction_fault(0, direction);
     if fault.number != 0 {
         return fault;
     }
-    judge::reading_fault(0, point)
+    numbers::reading_fault(0, point)
 }
 
 pub fn locate_step_index(direction: u8, grid: &[f64], point: f64) -> IndexAnswer
@@ -160,7 +160,7 @@ fn exact_fault(grid: &[f64], lower: usize, point: f64) -> Answer
     if fault.number != 0 {
         return fault;
     }
-    judge::reading_fault(0, point)
+    numbers::reading_fault(0, point)
 }
 
 pub fn exact_index(grid: &[f64], lower: usize, point: f64) -> ExactAnswer

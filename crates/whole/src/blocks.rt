@@ -2,7 +2,7 @@
 ghost use Prim.Native.Nat.{_+_, _-_, _≤_};
 ghost use lib.ListN.{length};
 use libc::STDOUT_FILENO;
-use table::Shape;
+use shapes::Shape;
 
 // How many bytes of the records were taken, how many of them the buffer holds, how many records may still come, and whether to go on.
 struct Next {
@@ -17,7 +17,7 @@ fn fill(records: &[u8], at: usize, buf: &mut [u8], held: usize) -> usize
     requires { ⌜ (at ≤ length (now records)) × (held ≤ length (now buf)) ⌝ }
     ensures { λ r. ⌜ (held ≤ r) × ((r ≤ length (now (buf .exit))) × (at + (r - held) ≤ length (now (records .entry)))) ⌝ }
 {
-    let n = table::least(records.len() - at, buf.len() - held);
+    let n = counts::least(records.len() - at, buf.len() - held);
     let mut i: usize = 0;
     while i < n {
         buf[held + i] = records[at + i];

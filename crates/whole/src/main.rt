@@ -8,7 +8,7 @@ ghost use lib.ListN.{length};
 use answer::Answer;
 use libc::STDOUT_FILENO;
 use list::Next;
-use table::Shape;
+use shapes::Shape;
 
 // Puts the line of a refused image, and prints it.
 fn put_refusal(answer: Answer, out: &mut [u8])
@@ -25,15 +25,15 @@ fn print_refusal(answer: Answer) {
 
 // Answers the records that follow an image, from the nodes and the values at the front of two outputs.
 fn answer_records(run: u64, shape: Shape, nodes: &[f64], values: &[f64], records: &[u8]) {
-    let held = table::sizes(shape);
-    let n = table::least(held.nodes, nodes.len());
-    let v = table::least(held.values, values.len());
+    let held = shapes::sizes(shape);
+    let n = counts::least(held.nodes, nodes.len());
+    let v = counts::least(held.values, values.len());
     blocks::answer_all(run, shape, &nodes[..n], &values[..v], records);
 }
 
 // Loads the image at the front of an input, and answers the rest of it.
 fn answer(run: u64, input: &[u8], nodes: &mut [f64], values: &mut [f64]) {
-    let size = table::least(records::image_size(input), input.len());
+    let size = counts::least(records::image_size(input), input.len());
     let loaded = image::load(&input[..size], nodes, values);
     let answer = loaded.answer;
     if answer.number != 0 {

@@ -4,8 +4,8 @@ use mathlib.Core.Bool.{false, true}
 use mathlib.Core.List.{[], _∷_}
 use lib.IntN.{pos, negsuc}
 use lib.Ieee.{fin, toBits}
-use Rattle.table.specs.Shape.{size, total}
-use Rattle.table.specs.declared.Shape.{Shape}
+use Rattle.shapes.specs.Shape.{size, total}
+use Rattle.shapes.specs.declared.Shape.{Shape}
 use Rattle.words.specs.Words.{toBytes}
 use Rattle.image.proofs.Examples.{img}
 use Rattle.writer.specs.Made.{axisAt, valuesAt, imageLength, countIn, offsetIn, floatBytes, imageOf}

@@ -6,8 +6,8 @@ use native.Mathlib.Omega.{arith}
 use lib.ListN.{length, length-append}
 use lib.Seq.{sets}
 use lib.Ieee.{Float, binary64, toBits}
-use Rattle.table.specs.Shape.{countsOf, size, total}
-use Rattle.table.specs.declared.Shape.{Shape}
+use Rattle.shapes.specs.Shape.{countsOf, size, total}
+use Rattle.shapes.specs.declared.Shape.{Shape}
 use Rattle.words.specs.Words.{toBytes}
 use Rattle.words.proofs.Bytes.{length-bytes}
 use Rattle.image.proofs.Floats.{sets-append}

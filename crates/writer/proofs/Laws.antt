@@ -7,14 +7,15 @@ use lib.ListN.{length}
 use lib.Ieee.{Float}
 use Rattle.answer.specs.Answer.{good}
 use Rattle.answer.proofs.Orders as orders
-use Rattle.table.specs.Shape.{countsOf}
-use Rattle.table.specs.Table.{frameFault, axesFault}
-use Rattle.lists.specs.Lists.{valuesFault}
-use Rattle.table.specs.declared.Shape.{Shape}
+use Rattle.shapes.specs.Shape.{countsOf}
+use Rattle.shapes.specs.Frame.{frameFault}
+use Rattle.table.specs.Table.{axesFault}
+use Rattle.values.specs.Values.{valuesFault}
+use Rattle.shapes.specs.declared.Shape.{Shape}
 use Rattle.writer.specs.Made.{imageLength}
 use Rattle.writer.specs.Write.{writeFault}
-use Rattle.judge.specs.Check.{roomFault}
-use Rattle.judge.proofs.Rows.{room-enough, room-passed}
+use Rattle.counts.specs.Counts.{roomFault}
+use Rattle.counts.proofs.Rows.{room-enough, room-passed}
 
 -- "it checks 1 to 7, then 15"
 pub record Writable (s : Shape) (nodes values : List Float) (room : ℕ) : Type 0 where

@@ -10,10 +10,11 @@ use lib.ListN.{List·getD-eq-default, length, drop, getD, length-take, length-ap
 use lib.Seq.{drop-cons}
 use lib.Ieee.{Float}
 use Rattle.answer.specs.Answer.{good}
-use Rattle.table.specs.Shape.{countsOf, size, total, tabulate}
-use Rattle.table.specs.Table.{shapeFault}
-use Rattle.table.specs.declared.Shape.{Shape}
-use Rattle.table.proofs.Tables.{shape-four}
+use Rattle.shapes.specs.Shape.{countsOf, size, total}
+use Rattle.table.specs.Layout.{tabulate}
+use Rattle.shapes.specs.Frame.{shapeFault}
+use Rattle.shapes.specs.declared.Shape.{Shape}
+use Rattle.shapes.proofs.Frames.{shape-four}
 use Rattle.image.specs.Image.{axesField, countField, offsetField, valuesField, shapeOf, floatsAt, nodesFrom, nodesIn, valuesIn}
 use Rattle.words.specs.Words.{wordAt}
 use Rattle.writer.specs.Made.{axisAt, valuesAt, imageLength, countIn, offsetIn, headerFields, fieldBytes, floatBytes, imageOf}

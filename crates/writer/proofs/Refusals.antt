@@ -3,10 +3,11 @@ use mathlib.Core.List.{List}
 use Prim.Native.Nat.{ℕ}
 use lib.Ieee.{Float}
 use Rattle.answer.proofs.Bares.{Bare, bare-or, row}
-use Rattle.judge.specs.Check.{roomFault}
-use Rattle.lists.proofs.Bares.{bare-values}
-use Rattle.table.specs.declared.Shape.{Shape}
-use Rattle.table.proofs.Bares.{bare-frame, bare-axes}
+use Rattle.counts.specs.Counts.{roomFault}
+use Rattle.values.proofs.Bares.{bare-values}
+use Rattle.shapes.specs.declared.Shape.{Shape}
+use Rattle.shapes.proofs.Bares.{bare-frame}
+use Rattle.table.proofs.Bares.{bare-axes}
 use Rattle.writer.specs.Write.{writeFault}
 
 pub write-bare : (s : Shape) (nodes values : List Float) (room : ℕ) → Bare (writeFault s nodes values room)

@@ -13,13 +13,16 @@ use lib.Ieee.Fits.{nan-fits}
 use Rattle.answer.specs.Answer.{fine, good, _or_, firstOf, given, filledInto}
 use Rattle.answer.specs.declared.Answer.{Answer}
 use Rattle.answer.proofs.Orders as orders
-use Rattle.judge.proofs.Rows.{count-fine, room-enough}
-use Rattle.table.specs.Shape.{countsOf, size, total, tabulate, noShape}
-use Rattle.table.specs.Table.{shapeFault, lengthFault, frameFault, axesFault, axesRow, productRow}
-use Rattle.lists.specs.Lists.{valueFault, valuesFault}
-use Rattle.table.specs.declared.Shape.{Shape}
+use Rattle.counts.proofs.Rows.{count-fine, room-enough, length-same}
+use Rattle.shapes.specs.Shape.{countsOf, size, total, noShape}
+use Rattle.table.specs.Layout.{tabulate}
+use Rattle.shapes.specs.Frame.{shapeFault, frameFault, axesRow, productRow}
+use Rattle.counts.specs.Counts.{lengthFault, roomFault}
+use Rattle.table.specs.Table.{axesFault}
+use Rattle.values.specs.Values.{valueFault, valuesFault}
+use Rattle.shapes.specs.declared.Shape.{Shape}
 use Rattle.table.proofs.Layouts.{getD-tabulate, tabulate-same}
-use Rattle.table.proofs.Tables.{length-same, shape-some, shape-four, shape-enough, shape-few, shape-size}
+use Rattle.shapes.proofs.Frames.{shape-some, shape-four, shape-enough, shape-few, shape-size}
 use Rattle.words.specs.Words.{wordAt}
 use Rattle.image.specs.Image.{axesField, countField, offsetField, valuesField, shapeOf, floatsAt, nodesFrom, nodesIn, valuesIn}
 use Rattle.image.specs.Load.{fieldFault, shortFault, startFault, countRow, offsetRow, headFault, areaFault, areasFault, roomsFault, contentsFault, loadFault, loadAnswer}
@@ -34,7 +37,6 @@ use Rattle.writer.proofs.Images.{length-image}
 use Rattle.writer.proofs.Writes.{written-shape, written-nodes, written-values, written-axes, written-stored}
 use Rattle.writer.proofs.Back.{Held, floats-held, held-append}
 use Rattle.writer.proofs.Made as made
-use Rattle.judge.specs.Check.{roomFault}
 
 passed : (a : Answer) → fine ≡ a → good a ≡ true
 passed a e = orders.passed-fine a e

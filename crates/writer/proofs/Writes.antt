@@ -9,17 +9,18 @@ use lib.Ieee.{Float}
 use Rattle.answer.specs.Answer.{good, _or_}
 use Rattle.answer.specs.declared.Answer.{Answer}
 use Rattle.answer.proofs.Orders as orders
-use Rattle.table.specs.Shape.{countsOf, size, total}
-use Rattle.table.specs.Table.{shapeFault, frameFault, axesFault}
-use Rattle.lists.specs.Lists.{valuesFault}
-use Rattle.table.specs.declared.Shape.{Shape}
+use Rattle.shapes.specs.Shape.{countsOf, size, total}
+use Rattle.shapes.specs.Frame.{shapeFault, frameFault}
+use Rattle.table.specs.Table.{axesFault}
+use Rattle.values.specs.Values.{valuesFault}
+use Rattle.shapes.specs.declared.Shape.{Shape}
 use Rattle.table.proofs.Grids.{frame-shape, frame-nodes, frame-values}
 use Rattle.writer.specs.Made.{imageLength, imageOf}
 use Rattle.writer.specs.Write.{writeFault, writeAnswer}
 use Rattle.writer.specs.declared.WriteAnswer.{WriteAnswer}
 use Rattle.writer.proofs.Images.{length-image}
-use Rattle.judge.specs.Check.{roomFault}
-use Rattle.judge.proofs.Rows.{room-passed}
+use Rattle.counts.specs.Counts.{roomFault}
+use Rattle.counts.proofs.Rows.{room-passed}
 
 module _ (s : Shape) (nodes values : List Float) (room : ℕ) where
   abbrev fault : Answer

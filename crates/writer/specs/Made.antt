@@ -5,8 +5,8 @@ use Prim.Native.Nat.{ℕ, _+_, _*_}
 use lib.Dec.{ltb}
 use lib.ListN.{take, getD}
 use lib.Ieee.{Float, binary64, toBits}
-use Rattle.table.specs.Shape.{countsOf, size, total}
-use Rattle.table.specs.declared.Shape.{Shape}
+use Rattle.shapes.specs.Shape.{countsOf, size, total}
+use Rattle.shapes.specs.declared.Shape.{Shape}
 use Rattle.words.specs.Words.{toBytes}
 
 -- "The writer places the axes from byte 40 without gaps, then the values"

@@ -5,13 +5,15 @@ use lib.ListN.{length, take}
 use lib.Ieee.{Float}
 use Rattle.answer.specs.Answer.{_or_, given, filledInto}
 use Rattle.answer.specs.declared.Answer.{Answer}
-use Rattle.table.specs.Shape.{countsOf, tabulate}
-use Rattle.table.specs.Table.{frameFault, axesFault}
-use Rattle.lists.specs.Lists.{valuesFault}
-use Rattle.table.specs.declared.Shape.{Shape}
+use Rattle.shapes.specs.Shape.{countsOf}
+use Rattle.table.specs.Layout.{tabulate}
+use Rattle.shapes.specs.Frame.{frameFault}
+use Rattle.table.specs.Table.{axesFault}
+use Rattle.values.specs.Values.{valuesFault}
+use Rattle.shapes.specs.declared.Shape.{Shape}
 use Rattle.writer.specs.Made.{imageLength, countIn, imageOf}
 use Rattle.writer.specs.declared.WriteAnswer.{WriteAnswer}
-use Rattle.judge.specs.Check.{roomFault}
+use Rattle.counts.specs.Counts.{roomFault}
 
 -- "it checks 1 to 7, then 15": "place .. 2 image"
 unfoldable pub writeFault : Shape → List Float → List Float → ℕ → Answer

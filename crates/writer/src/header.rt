@@ -6,12 +6,12 @@ ghost use lib.Dec.{ltb};
 ghost use lib.ListN.{length, getD};
 ghost use lib.Seq.{sets};
 ghost use Rattle.answer.specs.Answer.{good};
-ghost use Rattle.table.specs.Shape.{countsOf};
-ghost use Rattle.table.specs.Table.{shapeFault};
+ghost use Rattle.shapes.specs.Shape.{countsOf};
+ghost use Rattle.shapes.specs.Frame.{shapeFault};
 ghost use Rattle.writer.specs.Made.{fieldBytes, headerFields};
 ghost use Rattle.writer.specs.Fields.{sum, pairs, widths};
 use crate::bytes;
-use table::Shape;
+use shapes::Shape;
 
 // Numbers of these widths, one after the other.
 fn put_fields(out: &mut [u8], widths: &[usize], fields: &[u64])
@@ -61,7 +61,7 @@ fn header_fields(shape: Shape) -> [u64; 14]
     let at2 = at1 + 8 * count1;
     let at3 = at2 + 8 * count2;
     let end = at3 + 8 * count3;
-    let held = table::sizes(shape);
+    let held = shapes::sizes(shape);
     let offset0 = offset_in(shape, 0, 40);
     let offset1 = offset_in(shape, 1, at1);
     let offset2 = offset_in(shape, 2, at2);

@@ -4,10 +4,9 @@ ghost use mathlib.Core.Bool.{true};
 ghost use Prim.Native.Nat.{_≤_};
 ghost use lib.ListN.{length};
 ghost use lib.Seq.{sets};
-ghost use Rattle.answer.specs.Answer.{good};
-ghost use Rattle.answer.specs.Answer.{filledInto};
-ghost use Rattle.table.specs.Shape.{countsOf, size, total};
-ghost use Rattle.table.specs.Table.{shapeFault};
+ghost use Rattle.answer.specs.Answer.{good, filledInto};
+ghost use Rattle.shapes.specs.Shape.{countsOf, size, total};
+ghost use Rattle.shapes.specs.Frame.{shapeFault};
 ghost use Rattle.writer.specs.Made.{imageLength, imageOf};
 ghost use Rattle.writer.specs.Write.{writeFault, writeAnswer};
 
@@ -15,7 +14,7 @@ pub(crate) mod bytes;
 pub(crate) mod header;
 
 use answer::Answer;
-use table::Shape;
+use shapes::Shape;
 
 // What writing answers, with the image's length.
 pub struct WriteAnswer {
@@ -27,7 +26,7 @@ fn image_length(shape: Shape) -> usize
     requires { ⌜ good (shapeFault shape) ≡ true ⌝ }
     ensures { λ r. ⌜ r ≡ imageLength shape ⌝ }
 {
-    let held = table::sizes(shape);
+    let held = shapes::sizes(shape);
     40 + 8 * held.nodes + 8 * held.values
 }
 
@@ -35,7 +34,7 @@ fn image_length(shape: Shape) -> usize
 fn write_fault(shape: Shape, nodes: &[f64], values: &[f64], room: usize) -> Answer
     ensures { λ r. ⌜ r ≡ writeFault shape (now (nodes .entry)) (now (values .entry)) room ⌝ }
 {
-    let fault = table::frame_fault(shape, nodes.len(), values.len());
+    let fault = shapes::frame_fault(shape, nodes.len(), values.len());
     if fault.number != 0 {
         return fault;
     }
@@ -43,11 +42,11 @@ fn write_fault(shape: Shape, nodes: &[f64], values: &[f64], room: usize) -> Answ
     if fault.number != 0 {
         return fault;
     }
-    let fault = lists::values_fault(values);
+    let fault = values::values_fault(values);
     if fault.number != 0 {
         return fault;
     }
-    judge::room_fault(2, image_length(shape), room)
+    counts::room_fault(2, image_length(shape), room)
 }
 
 fn put_image(shape: Shape, nodes: &[f64], values: &[f64], img: &mut [u8])

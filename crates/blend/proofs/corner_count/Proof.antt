@@ -1,4 +1,4 @@
-use Rattle.table.proofs.Shapes.{counts-least}
+use Rattle.shapes.proofs.Totals.{counts-least}
 use Rattle.blend.specs.declared.AxisLocation.{AxisLocation}
 use Rattle.blend.specs.Rust.{diffs}
 use Rattle.blend.proofs.Folds.{count-step, count-few, count-none}
@@ -14,7 +14,7 @@ use Rattle.blend.proofs.corner_count.Statement.{statement}
 use Rattle.blend.proofs.corner_count.Tie as tie
 use Rattle.blend.proofs.corner_count.Reads as reads
 use Rattle.blend.proofs.corner_count.Lts as lts
-use Rattle.table.proofs.least.Reads as least-reads
+use Rattle.counts.proofs.least.Reads as least-reads
 use Rattle.blend.proofs.grow.Reads as grow-reads
 
 abbrev Inv-loop : tie.InvT-loop

@@ -3,7 +3,7 @@ use mathlib.Core.List.{List}
 use Prim.Native.Nat.{ℕ, _+_, _-_, _≤_}
 use native.Mathlib.Omega.{arith}
 use lib.ListN.{length, take, drop, getD}
-use Rattle.table.proofs.Shapes.{counts-least}
+use Rattle.shapes.proofs.Totals.{counts-least}
 use Rattle.blend.specs.Rust.{diffs, butterfly}
 use Rattle.blend.specs.declared.AxisLocation.{AxisLocation}
 use Rattle.blend.specs.declared.AxisLocation.the-variants.{Exact}
@@ -14,7 +14,7 @@ use Rattle.blend.proofs.fold.Tie as tie
 use Rattle.blend.proofs.fold.Reads as reads
 use Rattle.blend.proofs.fold.Lts as lts
 use Rattle.blend.proofs.corner_count.Reads as corner-count-reads
-use Rattle.table.proofs.least.Reads as least-reads
+use Rattle.counts.proofs.least.Reads as least-reads
 use Rattle.blend.proofs.half_of.Reads as half-of-reads
 use Rattle.blend.proofs.merge.Reads as merge-reads
 

@@ -5,7 +5,7 @@ use native.Mathlib.Omega.{arith}
 use lib.ListN.{length, drop, length-set}
 use lib.Ieee.{Float}
 use denote.Ref.{now}
-use Rattle.table.specs.Shape.{tabulate}
+use Rattle.table.specs.Layout.{tabulate}
 use Rattle.blend.proofs.Folds.{blendAt, pass-step, pass-done}
 use borrow.Author.Needs.{needs}
 use Rattle.blend.proofs.pass_over.Statement.{statement}

@@ -20,7 +20,7 @@ use Rattle.image.proofs.contents.read_nodes.Reads as read-nodes-reads
 use Rattle.image.proofs.contents.read_values.Reads as read-values-reads
 use Rattle.image.proofs.header.shape_of.Reads as shape-of-reads
 use Rattle.image.proofs.load_fault.Reads as load-fault-reads
-use Rattle.table.proofs.no_shape.Reads as no-shape-reads
+use Rattle.shapes.proofs.no_shape.Reads as no-shape-reads
 
 abbrev start : tie.After-load-fault → tie.Start
 start f = f .before .before .before .before

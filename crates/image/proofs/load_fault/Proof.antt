@@ -2,7 +2,7 @@ use mathlib.Core.Bool.{true}
 use Rattle.answer.specs.Answer.{good, _or_}
 use Rattle.answer.specs.declared.Answer.{Answer}
 use Rattle.answer.proofs.Orders.{passes, or-stops, or-goes-on}
-use Rattle.table.specs.Table.{shapeFault}
+use Rattle.shapes.specs.Frame.{shapeFault}
 use Rattle.image.specs.Image.{shapeOf}
 use Rattle.image.specs.Load.{headFault, areasFault, roomsFault, contentsFault, loadFault}
 use Rattle.image.proofs.Heads.{head-shape}

@@ -7,7 +7,7 @@ use borrow.Author.Needs.{needs}
 use Rattle.answer.specs.Answer.{firstOf}
 use Rattle.answer.proofs.Orders.{passes, fails, first-begin, first-step, first-stop, first-end}
 use Rattle.lists.specs.Lists.{readingsFault}
-use Rattle.judge.specs.Check.{readingFault}
+use Rattle.numbers.specs.Numbers.{readingFault}
 use lib.Ieee.{nan}
 use Rattle.lists.proofs.readings_fault.Statement.{statement}
 use Rattle.lists.proofs.readings_fault.Tie as tie

@@ -2,7 +2,7 @@
 ghost use mathlib.Core.Path.{_≡_};
 ghost use Prim.Native.Nat.{ℕ, _+_, _≤_};
 ghost use lib.ListN.{length};
-ghost use Rattle.table.specs.Shape.{countsOf};
+ghost use Rattle.shapes.specs.Shape.{countsOf};
 ghost use Rattle.uniform.specs.Uniform.{axesUniformFault};
 ghost use Rattle.lines.specs.Line.{lineOf, longest};
 ghost use Rattle.lines.specs.Put.{Wrote};
@@ -11,7 +11,7 @@ ghost use Rattle.ninterp.specs.Records.{recordSize, recordAnswer, record
 ghost use Rattle.ninterp.specs.Kinds.{tableFault};
 use crate::records;
 use answer::Answer;
-use table::Shape;
+use shapes::Shape;
 
 // How many records were answered, and how many bytes their lines have.
 pub struct Done {

@@ -17,7 +17,7 @@ use Rattle.records.proofs.take_turn.Lts as lts
 use Rattle.lines.proofs.shift.Reads as shift-reads
 use Rattle.ninterp.proofs.records.block.answer_block.Reads as answer-block-reads
 use Rattle.records.proofs.used_bytes.Reads as used-bytes-reads
-use Rattle.table.proofs.least.Reads as least-reads
+use Rattle.counts.proofs.least.Reads as least-reads
 
 abbrev start : tie.After-least → tie.Start
 start l = l .before .before .before .before .before

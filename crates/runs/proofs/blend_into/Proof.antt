@@ -6,7 +6,7 @@ use native.Mathlib.Omega.{arith}
 use lib.ListN.{length, take, drop, getD}
 use lib.Ieee.{Float, nan}
 use denote.Ref.{now}
-use Rattle.table.specs.Shape.{tabulate}
+use Rattle.table.specs.Layout.{tabulate}
 use Rattle.table.proofs.Layouts.{tabulate-step}
 use Rattle.runs.specs.Runs.{blendedInto}
 use Rattle.runs.proofs.Blends.{runAt}
@@ -16,7 +16,7 @@ use Rattle.runs.proofs.blend_into.Tie as tie
 use Rattle.runs.proofs.blend_into.Reads as reads
 use Rattle.runs.proofs.blend_into.Lts as lts
 use Rattle.blend.proofs.blend.Reads as blend-reads
-use Rattle.table.proofs.least.Reads as least-reads
+use Rattle.counts.proofs.least.Reads as least-reads
 
 abbrev Inv-loop : tie.InvT-loop
 Inv-loop low high f out₀ both count i₀ out i = ((i ≤ count) × (length out ≡ length out₀)) × (out ≡ tabulate i (runAt f low high) ++ drop i out₀)

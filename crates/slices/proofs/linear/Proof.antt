@@ -1,6 +1,6 @@
 use Rattle.answer.specs.declared.Answer.{Answer}
 use Rattle.answer.proofs.Orders.{passes}
-use Rattle.table.proofs.Shapes.{length-ids}
+use Rattle.shapes.proofs.Totals.{length-ids}
 use Rattle.axis.specs.Utils.{axisLocation}
 use Rattle.slices.specs.Slices.{sliceAnswer}
 use Rattle.answer.specs.Answer.{filledInto}
@@ -19,7 +19,7 @@ use Rattle.slices.proofs.linear.Tie as tie
 use Rattle.slices.proofs.linear.Reads as reads
 use Rattle.slices.proofs.linear.Lts as lts
 use Rattle.slices.proofs.judged.linear_judged.Reads as linear-judged-reads
-use Rattle.table.proofs.no_shape.Reads as no-shape-reads
+use Rattle.shapes.proofs.no_shape.Reads as no-shape-reads
 use Rattle.fronts.proofs.linear_front.Reads as linear-front-reads
 
 abbrev start : tie.After-linear-front → tie.Start

@@ -4,15 +4,14 @@ use native.Mathlib.Omega.{arith}
 use Prim.Native.Nat.{ℕ, _≤_, _<_}
 use lib.ListN.{length, getD}
 use denote.Ref.{now}
-use Rattle.answer.specs.Answer.{good}
+use Rattle.answer.specs.Answer.{good, filledInto}
 use Rattle.answer.specs.declared.Answer.{Answer}
 use Rattle.answer.proofs.Orders.{passes}
-use Rattle.table.specs.Shape.{countsOf, sliceValues}
-use Rattle.table.proofs.Shapes.{length-ids}
+use Rattle.shapes.specs.Shape.{countsOf}
+use Rattle.table.specs.Layout.{sliceValues, axisOf}
+use Rattle.shapes.proofs.Totals.{length-ids}
 use Rattle.fronts.specs.Fronts.{nearestFront}
-use Rattle.table.specs.Shape.{axisOf}
 use Rattle.slices.specs.Slices.{pointFault, nearestSliceFault, sliceAnswer, ruleSlice, nearestSlice, nearestSliced}
-use Rattle.answer.specs.Answer.{filledInto}
 use Rattle.ninterp.proofs.Lookups.{is-nearest}
 use Rattle.slices.proofs.Sliced.{Sliceable, nearest-sliceable, slice-refused, out-kept, front-passed, front-refused}
 use borrow.Author.Needs.{needs}

@@ -8,9 +8,10 @@ use Rattle.answer.specs.Answer.{firstOf}
 use mathlib.Core.List.{[]}
 use lib.Seq.{length-take-le}
 use Rattle.answer.proofs.Orders.{passes, fails, first-begin, first-step, first-stop, first-end}
-use Rattle.table.specs.Shape.{axesOf}
+use Rattle.table.specs.Layout.{axesOf}
 use Rattle.uniform.specs.Uniform.{defaultFault, axesUniformFault}
-use Rattle.table.proofs.Shapes.{length-ids, counts-least, Walk, walk-axis, walk-on}
+use Rattle.shapes.proofs.Totals.{length-ids, counts-least}
+use Rattle.table.proofs.Walks.{Walk, walk-axis, walk-on}
 use Rattle.uniform.proofs.axes_uniform_fault.Statement.{statement}
 use Rattle.uniform.proofs.axes_uniform_fault.Tie as tie
 

@@ -1,7 +1,7 @@
 use mathlib.Core.Path.{_≡_, refl, sym, ap, ap₂, _∙_}
 use Rattle.answer.proofs.Orders.{passes, or-stops, or-goes-on}
 use Rattle.utils.proofs.Primitives.{axis-refused, axis-given, read-location}
-use Rattle.judge.specs.Check.{resultFault}
+use Rattle.numbers.specs.Numbers.{resultFault}
 use Rattle.utils.specs.Calls.{locationFraction, locateAxis}
 use borrow.Author.Needs.{needs}
 use Rattle.utils.proofs.locate_axis.Statement.{statement}

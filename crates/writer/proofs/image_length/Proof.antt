@@ -1,5 +1,5 @@
-use Rattle.table.specs.Shape.{countsOf, size, total}
-use Rattle.table.proofs.Tables.{shape-size}
+use Rattle.shapes.specs.Shape.{countsOf, size, total}
+use Rattle.shapes.proofs.Frames.{shape-size}
 use Rattle.image.proofs.Floats.{holds-nodes, holds-values, total-small}
 use Rattle.writer.specs.Made.{imageLength, valuesAt}
 use mathlib.Core.Path.{_≡_, refl, sym, ap, ap₂, _∙_, subst}
@@ -14,7 +14,7 @@ use Rattle.writer.proofs.image_length.Statement.{statement}
 use Rattle.writer.proofs.image_length.Tie as tie
 use Rattle.writer.proofs.image_length.Reads as reads
 use Rattle.writer.proofs.image_length.Lts as lts
-use Rattle.table.proofs.sizes.Reads as sizes-reads
+use Rattle.shapes.proofs.sizes.Reads as sizes-reads
 
 nodes : (c : tie.After-sizes) → c .sizes .result .nodes ≡ total (countsOf (c .before .args .shape))
 nodes c = holds-nodes _ (c .before .pre) _ (c .sizes .ensures)

@@ -1,4 +1,4 @@
-use Rattle.table.proofs.Shapes.{length-ids}
+use Rattle.shapes.proofs.Totals.{length-ids}
 use mathlib.Core.Bool.{true}
 use Rattle.answer.specs.Answer.{good}
 use Rattle.answer.specs.declared.Answer.{Answer}

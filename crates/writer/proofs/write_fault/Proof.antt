@@ -2,8 +2,10 @@ use mathlib.Core.Bool.{true}
 use Rattle.answer.specs.Answer.{good, _or_}
 use Rattle.answer.specs.declared.Answer.{Answer}
 use Rattle.answer.proofs.Orders.{passes, or-stops, or-goes-on, first-passed}
-use Rattle.table.specs.Shape.{countsOf, size, total}
-use Rattle.table.specs.Table.{shapeFault, lengthFault, frameFault, axesFault}
+use Rattle.shapes.specs.Shape.{countsOf, size, total}
+use Rattle.shapes.specs.Frame.{shapeFault, frameFault}
+use Rattle.counts.specs.Counts.{lengthFault, roomFault}
+use Rattle.table.specs.Table.{axesFault}
 use Rattle.writer.specs.Write.{writeFault}
 use mathlib.Core.Path.{_≡_, refl, sym, ap, ap₂, _∙_, subst}
 use mathlib.Core.List.{List, [], _∷_, _++_}
@@ -18,11 +20,10 @@ use Rattle.writer.proofs.write_fault.Tie as tie
 use Rattle.writer.proofs.write_fault.Reads as reads
 use Rattle.writer.proofs.write_fault.Lts as lts
 use Rattle.table.proofs.axes_fault.Reads as axes-fault-reads
-use Rattle.table.proofs.frame_fault.Reads as frame-fault-reads
-use Rattle.lists.proofs.values_fault.Reads as values-fault-reads
+use Rattle.shapes.proofs.frame_fault.Reads as frame-fault-reads
+use Rattle.values.proofs.values_fault.Reads as values-fault-reads
 use Rattle.writer.proofs.image_length.Reads as image-length-reads
-use Rattle.judge.proofs.room_fault.Reads as room-fault-reads
-use Rattle.judge.specs.Check.{roomFault}
+use Rattle.counts.proofs.room_fault.Reads as room-fault-reads
 
 abbrev start : tie.After-frame-fault → tie.Start
 start f = f .before .before .before

@@ -1,7 +1,7 @@
 use Rattle.answer.specs.Answer.{firstOf}
 use Rattle.answer.proofs.Orders.{or-stops, or-goes-on}
-use Rattle.table.specs.Shape.{countsOf, size}
-use Rattle.table.specs.Table.{sizesOf}
+use Rattle.shapes.specs.Shape.{countsOf, size}
+use Rattle.shapes.specs.Frame.{sizesOf}
 use Rattle.image.specs.Image.{axesField, countField, offsetField, shapeOf}
 use Rattle.image.specs.Load.{areaFault, areasFault}
 use Rattle.image.proofs.Floats.{axes-four, size-small, holds-values}

@@ -1,5 +1,5 @@
-use Rattle.table.specs.Shape.{countsOf, total}
-use Rattle.table.specs.Table.{sizesOf}
+use Rattle.shapes.specs.Shape.{countsOf, total}
+use Rattle.shapes.specs.Frame.{sizesOf}
 use Rattle.answer.proofs.Orders.{or-stops, or-goes-on}
 use Rattle.image.specs.Image.{shapeOf}
 use Rattle.image.specs.Load.{roomsFault}
@@ -10,7 +10,7 @@ use denote.Ref.{now}
 use borrow.Author.Needs.{needs}
 use Rattle.image.proofs.areas.rooms_fault.Statement.{statement}
 use Rattle.image.proofs.areas.rooms_fault.Tie as tie
-use Rattle.judge.specs.Check.{roomFault}
+use Rattle.counts.specs.Counts.{roomFault}
 
 abbrev start : tie.After-sizes → tie.Start
 start z = z .before .before .before

@@ -1,6 +1,7 @@
 use lib.Seq.{length-sets}
-use Rattle.table.specs.Shape.{countsOf, total}
-use Rattle.table.specs.Table.{sizesOf, axesFault}
+use Rattle.shapes.specs.Shape.{countsOf, total}
+use Rattle.shapes.specs.Frame.{sizesOf}
+use Rattle.table.specs.Table.{axesFault}
 use Rattle.image.specs.Image.{shapeOf, nodesIn}
 use Rattle.image.proofs.Floats.{holds-nodes, nodes-total, front-read}
 use mathlib.Core.Path.{_≡_, sym, ap, ap₂, _∙_}

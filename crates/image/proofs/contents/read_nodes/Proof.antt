@@ -1,8 +1,8 @@
 use mathlib.Core.Bool.{true}
 use lib.Seq.{sets, length-sets}
 use Rattle.answer.specs.Answer.{good}
-use Rattle.table.specs.Shape.{countsOf, total}
-use Rattle.table.specs.Table.{shapeFault}
+use Rattle.shapes.specs.Shape.{countsOf, total}
+use Rattle.shapes.specs.Frame.{shapeFault}
 use Rattle.image.specs.Image.{axesField, shapeOf, floatsAt, nodesFrom, nodesIn}
 use Rattle.image.proofs.Floats.{axes-four, nodes-total, nodes-length, nodes-step, nodes-end}
 use mathlib.Core.Path.{_≡_, refl, sym, ap, _∙_}

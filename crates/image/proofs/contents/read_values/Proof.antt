@@ -1,5 +1,5 @@
 use lib.Seq.{sets}
-use Rattle.table.specs.Table.{sizesOf}
+use Rattle.shapes.specs.Frame.{sizesOf}
 use Rattle.image.specs.Image.{floatsAt, valuesIn}
 use Rattle.image.proofs.Floats.{size-small, holds-values}
 use mathlib.Core.Path.{ap, ap₂, _∙_}

@@ -1,7 +1,7 @@
 use lib.Seq.{length-sets}
-use Rattle.table.specs.Shape.{countsOf, size}
-use Rattle.table.specs.Table.{sizesOf}
-use Rattle.lists.specs.Lists.{valuesFault}
+use Rattle.shapes.specs.Shape.{countsOf, size}
+use Rattle.shapes.specs.Frame.{sizesOf}
+use Rattle.values.specs.Values.{valuesFault}
 use Rattle.image.specs.Image.{shapeOf, valuesIn}
 use Rattle.image.proofs.Floats.{holds-values, values-size, front-read}
 use mathlib.Core.Path.{_≡_, sym, ap, _∙_}

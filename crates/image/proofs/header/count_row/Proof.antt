@@ -1,4 +1,4 @@
-use Rattle.judge.specs.Check.{countFault}
+use Rattle.counts.specs.Counts.{countFault}
 use Rattle.image.specs.Load.{fieldFault}
 use Rattle.image.proofs.Rows.{count-used, count-unused}
 use mathlib.Core.Path.{ap, _∙_}

@@ -2,7 +2,7 @@ use mathlib.Core.Bool.{true}
 use Rattle.answer.specs.Answer.{good, _or_, firstOf}
 use Rattle.answer.specs.declared.Answer.{Answer}
 use Rattle.answer.proofs.Orders.{passes, or-stops, or-goes-on}
-use Rattle.table.specs.Table.{shapeFault, axesRow, productRow}
+use Rattle.shapes.specs.Frame.{shapeFault, axesRow, productRow}
 use Rattle.image.specs.Image.{axesField, shapeOf}
 use Rattle.image.specs.Load.{fieldFault, startFault, countRow, offsetRow, headFault}
 use Rattle.image.proofs.Heads.{start-axes, axes-four, product-only}

@@ -4,7 +4,7 @@ use Rattle.answer.proofs.Orders.{or-stops, or-goes-on}
 use Rattle.words.specs.Words.{wordAt}
 use Rattle.image.specs.Image.{axesField}
 use Rattle.image.specs.Load.{fieldFault, shortFault, lengthRow, startFault}
-use Rattle.table.specs.Table.{axesRow}
+use Rattle.shapes.specs.Frame.{axesRow}
 use mathlib.Core.Path.{_≡_, ap, _∙_}
 use Prim.Native.Nat.{ℕ}
 use lib.ListN.{length}

@@ -2,7 +2,7 @@ use mathlib.Core.Path.{_≡_}
 use lib.ListN.{length}
 use denote.Ref.{now}
 use Rattle.answer.proofs.Orders.{passes, or-stops, or-goes-on}
-use Rattle.table.proofs.Shapes.{length-ids}
+use Rattle.shapes.proofs.Totals.{length-ids}
 use Rattle.ninterp.proofs.KindOrder.{point-judged}
 use borrow.Author.Needs.{needs}
 use Rattle.ninterp.proofs.records.point_answer.Statement.{statement}

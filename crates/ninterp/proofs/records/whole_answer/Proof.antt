@@ -1,7 +1,7 @@
 use mathlib.Core.Path.{_≡_, sym, ap, _∙_}
 use lib.ListN.{length}
 use denote.Ref.{now}
-use Rattle.table.proofs.Shapes.{length-ids}
+use Rattle.shapes.proofs.Totals.{length-ids}
 use Rattle.ninterp.proofs.KindOrder.{length-readings, read-enough, whole-refused, whole-table, whole-four, whole-found}
 use borrow.Author.Needs.{needs}
 use Rattle.ninterp.proofs.records.whole_answer.Statement.{statement}

@@ -3,7 +3,8 @@ ghost use mathlib.Core.Path.{_≡_};
 ghost use Prim.Native.Nat.{ℕ, _+_, _*_, _^_, _<_, _≤_};
 ghost use lib.ListN.{length, take, getD};
 ghost use lib.Ieee.{nan};
-ghost use Rattle.table.specs.Shape.{countsOf, size, table};
+ghost use Rattle.shapes.specs.Shape.{countsOf, size};
+ghost use Rattle.table.specs.Layout.{table};
 ghost use Rattle.blend.specs.Blend.{linear, computed};
 ghost use Rattle.blend.specs.Rust.{diffs};
 ghost use Rattle.ninterp.specs.Tables.{Judged};
@@ -14,7 +15,7 @@ use crate::interpolator::n::locations;
 use answer::Answer;
 use axis::locate;
 use blend::AxisLocation;
-use table::Shape;
+use shapes::Shape;
 
 // The node of an exact axis, the upper one of any other.
 fn upper_node(location: AxisLocation) -> usize

@@ -3,7 +3,7 @@ ghost use mathlib.Core.Path.{_≡_};
 ghost use Rattle.ninterp.specs.Linears.{linearAnswer};
 use crate::interpolator::n::corners;
 use answer::Answer;
-use table::Shape;
+use shapes::Shape;
 
 pub fn interpolate(shape: Shape, nodes: &[f64], values: &[f64], point: &[f64]) -> Answer
     ensures { λ r. ⌜ r ≡ linearAnswer shape (now (nodes .entry)) (now (values .entry)) (now (point .entry)) ⌝ }

@@ -5,14 +5,15 @@ ghost use Prim.Native.Nat.{ℕ, _<_, _≤_};
 ghost use lib.ListN.{length, take, getD};
 ghost use lib.Ieee.{nan};
 ghost use lib.Ieee.Scale.{finite};
-ghost use Rattle.table.specs.Shape.{countsOf, axesOf};
+ghost use Rattle.shapes.specs.Shape.{countsOf};
+ghost use Rattle.table.specs.Layout.{axesOf};
 ghost use Rattle.table.specs.Table.{Grid};
 ghost use Rattle.ninterp.specs.Linears.{locations};
 ghost use Rattle.axis.specs.Locations.{locationBy};
 ghost use Rattle.ninterp.specs.Locations.{Within};
 use axis::locate;
 use blend::AxisLocation;
-use table::Shape;
+use shapes::Shape;
 
 // The location on each axis, in axis order.
 pub(crate) fn all(uniform: bool, shape: Shape, nodes: &[f64], point: &[f64]) -> [AxisLocation; 4]

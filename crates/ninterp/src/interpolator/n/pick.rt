@@ -5,13 +5,14 @@ ghost use Prim.Native.Nat.{ℕ, _<_, _≤_};
 ghost use lib.ListN.{length, getD};
 ghost use lib.Ieee.{nan};
 ghost use lib.Ieee.Scale.{finite};
-ghost use Rattle.table.specs.Shape.{countsOf, size, axesOf, place};
+ghost use Rattle.shapes.specs.Shape.{countsOf, size};
+ghost use Rattle.table.specs.Layout.{axesOf, place};
 ghost use Rattle.table.specs.Table.{Grid};
 ghost use Rattle.answer.specs.Answer.{answered};
 ghost use Rattle.ninterp.specs.Tables.{indices, picked, Judged, pickRule};
 use answer::Answer;
 use axis::pick;
-use table::Shape;
+use shapes::Shape;
 
 // The flat place of the index list.
 fn pick_place(shape: Shape, nodes: &[f64], picks: &[u8], point: &[f64]) -> usize

@@ -3,7 +3,7 @@ ghost use mathlib.Core.Path.{_≡_};
 ghost use Rattle.ninterp.specs.Tables.{stepAnswer};
 use crate::interpolator::n::pick;
 use answer::Answer;
-use table::Shape;
+use shapes::Shape;
 
 pub fn interpolate(
     shape: Shape,

@@ -4,14 +4,13 @@ use Rattle.answer.proofs.Orders.{fine-number}
 use mathlib.Core.Bool.{Bool}
 use Prim.Native.Nat.{_/_}
 use Rattle.judge.specs.Check.{Axis}
-use Rattle.table.specs.Shape.{countsOf, size, total, without}
-use Rattle.table.proofs.Shapes.{length-ids}
+use Rattle.shapes.specs.Shape.{countsOf, size, total, noShape}
+use Rattle.table.specs.Layout.{without, axisOf}
+use Rattle.shapes.proofs.Totals.{length-ids}
 use Rattle.runs.specs.Runs.{resultsFault}
 use Rattle.blend.specs.declared.AxisLocation.{AxisLocation}
 use Rattle.blend.specs.declared.AxisLocation.the-variants.{Exact, Between}
-use Rattle.axis.specs.Locations.{locationIndex}
-use Rattle.axis.specs.Locations.{locationBy, upperOf}
-use Rattle.table.specs.Shape.{axisOf, noShape}
+use Rattle.axis.specs.Locations.{locationIndex, locationBy, upperOf}
 use Rattle.answer.specs.Answer.{filledInto}
 use Rattle.slices.specs.LinearSlices.{alongFirst, linearValues}
 use Rattle.slices.proofs.Slices.{few-at, some-at, axis-ends, axis-lies, slice-count, part-axis, part-index, inner-some, inner-few, fill-room, fill-reads, fill-result}

@@ -18,7 +18,7 @@ use Rattle.slices.proofs.judged.linear_judged.Tie as tie
 use Rattle.slices.proofs.judged.linear_judged.Reads as reads
 use Rattle.slices.proofs.judged.linear_judged.Lts as lts
 use Rattle.slices.proofs.judged.along_first.Reads as along-first-reads
-use Rattle.table.proofs.no_shape.Reads as no-shape-reads
+use Rattle.shapes.proofs.no_shape.Reads as no-shape-reads
 use Rattle.slices.proofs.remaining.point_fault.Reads as point-fault-reads
 use Rattle.slices.proofs.remaining.shape_without.Reads as shape-without-reads
 

@@ -4,10 +4,10 @@ use Prim.Native.Nat.{ℕ, _≤_, _<_}
 use lib.ListN.{length, getD}
 use denote.Ref.{now}
 use Rattle.answer.proofs.Orders.{passes}
-use Rattle.table.specs.Shape.{countsOf, size, without, sliceValues}
+use Rattle.shapes.specs.Shape.{countsOf, size}
+use Rattle.table.specs.Layout.{without, sliceValues, axisOf}
 use Rattle.table.proofs.Removals.{length-slice}
 use Rattle.axis.specs.Picks.{pickIndex}
-use Rattle.table.specs.Shape.{axisOf}
 use Rattle.slices.specs.Slices.{pointFault}
 use Rattle.slices.proofs.Sliced.{slice-refused, slice-made, out-kept, out-written, point-finite, point-room}
 use borrow.Author.Needs.{needs}

@@ -4,7 +4,7 @@ use native.Mathlib.Omega.{arith}
 use lib.ListN.{length, take, drop, getD}
 use denote.Ref.{now}
 use mathlib.Core.List.{List}
-use Rattle.table.proofs.Shapes.{length-ids}
+use Rattle.shapes.proofs.Totals.{length-ids}
 use lib.Ieee.{Float}
 use Rattle.judge.specs.Check.{Axis}
 use Rattle.axis.specs.Picks.{pickIndex}

@@ -5,8 +5,8 @@ use lib.ListN.{length, take, drop, getD}
 use borrow.Author.Needs.{needs}
 use native.Mathlib.Nat.{lt-of-le-of-lt}
 use lib.Dec.{lit<}
-use Rattle.table.specs.Shape.{total}
-use Rattle.table.proofs.Shapes.{total-back, total-none, total-bound}
+use Rattle.shapes.specs.Shape.{total}
+use Rattle.shapes.proofs.Totals.{total-back, total-none, total-bound}
 use Rattle.slices.proofs.remaining.axis_start.Statement.{statement}
 use Rattle.slices.proofs.remaining.axis_start.Tie as tie
 

@@ -5,15 +5,16 @@ use lib.ListN.{length, take, drop, getD}
 use denote.Ref.{now}
 use mathlib.Core.List.{List}
 use Rattle.answer.proofs.Orders.{or-stops, or-goes-on}
-use Rattle.table.specs.Shape.{countsOf, size, without}
+use Rattle.shapes.specs.Shape.{countsOf, size}
+use Rattle.table.specs.Layout.{without}
 use Rattle.lists.specs.Lists.{rangeFault}
-use Rattle.table.proofs.Shapes.{length-ids}
+use Rattle.shapes.proofs.Totals.{length-ids}
 use Rattle.slices.specs.Slices.{pointFault}
 use Rattle.slices.proofs.Slices.{few-at, some-at, axis-ends, axis-lies, slice-count}
 use borrow.Author.Needs.{needs}
 use Rattle.slices.proofs.remaining.point_fault.Statement.{statement}
 use Rattle.slices.proofs.remaining.point_fault.Tie as tie
-use Rattle.judge.specs.Check.{roomFault}
+use Rattle.counts.specs.Counts.{roomFault}
 
 abbrev C : tie.Start → List ℕ
 C s = s .args .shape .counts

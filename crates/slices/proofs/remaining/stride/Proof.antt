@@ -5,8 +5,8 @@ use lib.ListN.{length, take, drop, getD}
 use borrow.Author.Needs.{needs}
 use native.Mathlib.Nat.{lt-of-le-of-lt}
 use lib.Dec.{lit<}
-use Rattle.table.specs.Shape.{size}
-use Rattle.table.proofs.Shapes.{size-back, size-none, size-bound}
+use Rattle.shapes.specs.Shape.{size}
+use Rattle.shapes.proofs.Totals.{size-back, size-none, size-bound}
 use native.Mathlib.Numerals.{add-one}
 use Rattle.slices.proofs.remaining.stride.Statement.{statement}
 use Rattle.slices.proofs.remaining.stride.Tie as tie

@@ -1,5 +1,5 @@
-use Rattle.table.specs.Shape.{countsOf, size}
-use Rattle.table.proofs.Tables.{shape-size}
+use Rattle.shapes.specs.Shape.{countsOf, size}
+use Rattle.shapes.proofs.Frames.{shape-size}
 use Rattle.image.proofs.Floats.{holds-values}
 use Rattle.writer.proofs.Headers.{fields-made}
 use mathlib.Core.Path.{_≡_, refl, sym, ap, ap₂, _∙_, subst}
@@ -14,7 +14,7 @@ use Rattle.writer.proofs.header.header_fields.Statement.{statement}
 use Rattle.writer.proofs.header.header_fields.Tie as tie
 use Rattle.writer.proofs.header.header_fields.Reads as reads
 use Rattle.writer.proofs.header.header_fields.Lts as lts
-use Rattle.table.proofs.sizes.Reads as sizes-reads
+use Rattle.shapes.proofs.sizes.Reads as sizes-reads
 use Rattle.writer.proofs.header.count_in.Reads as count-in-reads
 use Rattle.writer.proofs.header.offset_in.Reads as offset-in-reads
 

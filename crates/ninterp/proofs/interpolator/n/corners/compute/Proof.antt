@@ -3,7 +3,8 @@ use Prim.Native.Nat.{_≤_, _<_}
 use native.Mathlib.Omega.{arith}
 use lib.ListN.{length, take, length-take}
 use denote.Ref.{now}
-use Rattle.table.specs.Shape.{size, place}
+use Rattle.shapes.specs.Shape.{size}
+use Rattle.table.specs.Layout.{place}
 use Rattle.table.proofs.Layouts.{place-below}
 use Rattle.blend.specs.Blend.{computed}
 use Rattle.blend.specs.Folds.{cornerAt}

@@ -4,8 +4,8 @@ use denote.Ref.{now}
 use lib.ListN.{length}
 use Rattle.answer.specs.Answer.{answered}
 use Rattle.answer.proofs.Orders.{passes, or-stops, or-goes-on}
-use Rattle.table.specs.Shape.{countsOf}
-use Rattle.table.proofs.Shapes.{length-ids}
+use Rattle.shapes.specs.Shape.{countsOf}
+use Rattle.shapes.proofs.Totals.{length-ids}
 use Rattle.ninterp.specs.Tables.{nearestAnswer, Judged}
 use Rattle.ninterp.specs.Kinds.{fourOf}
 use Rattle.ninterp.proofs.Lookups.{lookup-judged, four-at, picks-nearest}

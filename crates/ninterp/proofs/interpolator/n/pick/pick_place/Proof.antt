@@ -5,8 +5,10 @@ use lib.ListN.{length, take, drop}
 use denote.Ref.{now}
 use borrow.Author.Needs.{needs}
 use mathlib.Core.List.{List}
-use Rattle.table.specs.Shape.{size, axesOf, place}
-use Rattle.table.proofs.Shapes.{length-ids, Walk}
+use Rattle.shapes.specs.Shape.{size}
+use Rattle.table.specs.Layout.{axesOf, place}
+use Rattle.shapes.proofs.Totals.{length-ids}
+use Rattle.table.proofs.Walks.{Walk}
 use Rattle.table.proofs.Layouts.{place-start}
 use Rattle.ninterp.specs.Tables.{indices, pickRule}
 use Rattle.ninterp.proofs.Picks.{axis-within, axis-next, flat-next, flat-fits, flat-done}

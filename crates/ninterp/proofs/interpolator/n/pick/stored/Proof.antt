@@ -2,7 +2,7 @@ use mathlib.Core.Path.{ap, _∙_}
 use native.Mathlib.Omega.{arith}
 use denote.Ref.{now}
 use Rattle.answer.specs.Answer.{answered}
-use Rattle.table.specs.Shape.{countsOf}
+use Rattle.shapes.specs.Shape.{countsOf}
 use Rattle.ninterp.specs.Tables.{pickRule}
 use Rattle.ninterp.proofs.Lookups.{stored-at}
 use borrow.Author.Needs.{needs}

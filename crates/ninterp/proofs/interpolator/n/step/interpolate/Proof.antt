@@ -4,8 +4,8 @@ use denote.Ref.{now}
 use lib.ListN.{length}
 use Rattle.answer.specs.Answer.{answered, good}
 use Rattle.answer.proofs.Orders.{passes, or-stops, or-goes-on}
-use Rattle.table.specs.Shape.{countsOf}
-use Rattle.table.proofs.Shapes.{length-ids}
+use Rattle.shapes.specs.Shape.{countsOf}
+use Rattle.shapes.proofs.Totals.{length-ids}
 use Rattle.order.specs.Lookups.{stepFault}
 use Rattle.ninterp.specs.Tables.{stepAnswer, Judged}
 use Rattle.ninterp.proofs.Lookups.{step-judged, step-lent, step-directions, picks-step}

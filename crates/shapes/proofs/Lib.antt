@@ -1,0 +1,4 @@
+pub mod Totals
+pub mod Frames
+pub mod Bares
+pub mod Unique

@@ -30,7 +30,7 @@ pub(crate) fn table_fault(shape: Shape, nodes: &[f64], values: &[f64]) -> Answer
     if fault.number != 0 {
         return fault;
     }
-    order::table_fault(shape, nodes, values)
+    order::stored_fault(shape, nodes, values)
 }
 
 // 8, of LinearUniform alone.

@@ -25,7 +25,7 @@ fn lengths_fault(shape: Shape, nodes: usize, values: usize, point: usize) -> Ans
 }
 
 // 4, 5, 6; 7.
-pub fn table_fault(shape: Shape, nodes: &[f64], values: &[f64]) -> Answer
+pub fn stored_fault(shape: Shape, nodes: &[f64], values: &[f64]) -> Answer
     ensures { λ r. ⌜ r ≡ (axesFault (countsOf shape) (now (nodes .entry)) or valuesFault (now (values .entry))) ⌝ }
 {
     let fault = table::axes_fault(shape, nodes);
@@ -56,7 +56,7 @@ pub fn lookup_fault(shape: Shape, nodes: &[f64], values: &[f64], point: &[f64]) 
     if found.number != 0 {
         return found;
     }
-    let found = table_fault(shape, nodes, values);
+    let found = stored_fault(shape, nodes, values);
     if found.number != 0 {
         return found;
     }
@@ -81,7 +81,7 @@ pub fn step_fault(
     if lent.number != 0 {
         return lent;
     }
-    let fault = table_fault(shape, nodes, values);
+    let fault = stored_fault(shape, nodes, values);
     if fault.number != 0 {
         return fault;
     }
@@ -100,7 +100,7 @@ pub fn linear_uniform_fault(shape: Shape, nodes: &[f64], values: &[f64], point: 
     if fault.number != 0 {
         return fault;
     }
-    let fault = table_fault(shape, nodes, values);
+    let fault = stored_fault(shape, nodes, values);
     if fault.number != 0 {
         return fault;
     }

@@ -37,8 +37,8 @@ returns-3 c =
     let f0 = e0 .before .before in
     or-goes-on _ _ (f0 .frame-fault .ensures) _ _ (e0 .if1 .left) (or-goes-on _ _ (f1 .length-fault .ensures) _ _ (e1 .if2 .left) (or-stops _ _ (f2 .no-axis-fault .ensures) _ (c .if3 .taken)))
 
-table-fault-requires : tie.Need-table-fault-requires
-table-fault-requires c κs = search needs
+stored-fault-requires : tie.Need-stored-fault-requires
+stored-fault-requires c κs = search needs
 
 returns-4 : tie.Need-returns-4
 unfolding stepFront
@@ -50,7 +50,7 @@ returns-4 c =
     let f1 = e1 .before .before in
     let e0 = f1 .before in
     let f0 = e0 .before .before in
-    or-goes-on _ _ (f0 .frame-fault .ensures) _ _ (e0 .if1 .left) (or-goes-on _ _ (f1 .length-fault .ensures) _ _ (e1 .if2 .left) (or-goes-on _ _ (f2 .no-axis-fault .ensures) _ _ (e2 .if3 .left) (pair-stops _ _ _ (f3 .table-fault .ensures) _ (c .if4 .taken))))
+    or-goes-on _ _ (f0 .frame-fault .ensures) _ _ (e0 .if1 .left) (or-goes-on _ _ (f1 .length-fault .ensures) _ _ (e1 .if2 .left) (or-goes-on _ _ (f2 .no-axis-fault .ensures) _ _ (e2 .if3 .left) (pair-stops _ _ _ (f3 .stored-fault .ensures) _ (c .if4 .taken))))
 
 directions-fault-requires : tie.Need-directions-fault-requires
 directions-fault-requires c κs = search needs
@@ -66,7 +66,7 @@ returns-5 c =
     let f1 = e1 .before .before in
     let e0 = f1 .before in
     let f0 = e0 .before .before in
-    or-goes-on _ _ (f0 .frame-fault .ensures) _ _ (e0 .if1 .left) (or-goes-on _ _ (f1 .length-fault .ensures) _ _ (e1 .if2 .left) (or-goes-on _ _ (f2 .no-axis-fault .ensures) _ _ (e2 .if3 .left) (pair-goes-on _ _ _ (f3 .table-fault .ensures) _ _ (e3 .if4 .left) (c .directions-fault .ensures))))
+    or-goes-on _ _ (f0 .frame-fault .ensures) _ _ (e0 .if1 .left) (or-goes-on _ _ (f1 .length-fault .ensures) _ _ (e1 .if2 .left) (or-goes-on _ _ (f2 .no-axis-fault .ensures) _ _ (e2 .if3 .left) (pair-goes-on _ _ _ (f3 .stored-fault .ensures) _ _ (e3 .if4 .left) (c .directions-fault .ensures))))
 
 pub step-front-spec : {M : Type 1} → statement M
 step-front-spec =
@@ -78,7 +78,7 @@ step-front-spec =
     returns-2
     no-axis-fault-requires
     returns-3
-    table-fault-requires
+    stored-fault-requires
     returns-4
     directions-fault-requires
     returns-5)

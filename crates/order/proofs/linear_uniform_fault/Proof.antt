@@ -13,8 +13,8 @@ returns c =
     let f0 = c .before .before in
     pair-stops _ _ _ (f0 .lengths-fault .ensures) _ (c .if1 .taken)
 
-table-fault-requires : tie.Need-table-fault-requires
-table-fault-requires c κs = search needs
+stored-fault-requires : tie.Need-stored-fault-requires
+stored-fault-requires c κs = search needs
 
 returns-2 : tie.Need-returns-2
 unfolding linearUniformFault
@@ -22,7 +22,7 @@ returns-2 c =
     let f1 = c .before .before in
     let e0 = f1 .before in
     let f0 = e0 .before .before in
-    pair-goes-on _ _ _ (f0 .lengths-fault .ensures) _ _ (e0 .if1 .left) (pair-stops _ _ _ (f1 .table-fault .ensures) _ (c .if2 .taken))
+    pair-goes-on _ _ _ (f0 .lengths-fault .ensures) _ _ (e0 .if1 .left) (pair-stops _ _ _ (f1 .stored-fault .ensures) _ (c .if2 .taken))
 
 axes-uniform-fault-requires : tie.Need-axes-uniform-fault-requires
 axes-uniform-fault-requires c κs = search needs
@@ -35,7 +35,7 @@ returns-3 c =
     let f1 = e1 .before .before in
     let e0 = f1 .before in
     let f0 = e0 .before .before in
-    pair-goes-on _ _ _ (f0 .lengths-fault .ensures) _ _ (e0 .if1 .left) (pair-goes-on _ _ _ (f1 .table-fault .ensures) _ _ (e1 .if2 .left) (or-stops _ _ (f2 .axes-uniform-fault .ensures) _ (c .if3 .taken)))
+    pair-goes-on _ _ _ (f0 .lengths-fault .ensures) _ _ (e0 .if1 .left) (pair-goes-on _ _ _ (f1 .stored-fault .ensures) _ _ (e1 .if2 .left) (or-stops _ _ (f2 .axes-uniform-fault .ensures) _ (c .if3 .taken)))
 
 inside-fault-requires : tie.Need-inside-fault-requires
 inside-fault-requires c κs = search needs
@@ -49,7 +49,7 @@ returns-4 c =
     let f1 = e1 .before .before in
     let e0 = f1 .before in
     let f0 = e0 .before .before in
-    pair-goes-on _ _ _ (f0 .lengths-fault .ensures) _ _ (e0 .if1 .left) (pair-goes-on _ _ _ (f1 .table-fault .ensures) _ _ (e1 .if2 .left) (or-goes-on _ _ (f2 .axes-uniform-fault .ensures) _ _ (e2 .if3 .left) (c .inside-fault .ensures)))
+    pair-goes-on _ _ _ (f0 .lengths-fault .ensures) _ _ (e0 .if1 .left) (pair-goes-on _ _ _ (f1 .stored-fault .ensures) _ _ (e1 .if2 .left) (or-goes-on _ _ (f2 .axes-uniform-fault .ensures) _ _ (e2 .if3 .left) (c .inside-fault .ensures)))
 
 pub linear-uniform-fault-spec : {M : Type 1} → statement M
 linear-uniform-fault-spec =
@@ -57,7 +57,7 @@ linear-uniform-fault-spec =
     (tie.spec
     lengths-fault-requires
     returns
-    table-fault-requires
+    stored-fault-requires
     returns-2
     axes-uniform-fault-requires
     returns-3

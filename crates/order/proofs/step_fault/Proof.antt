@@ -24,8 +24,8 @@ returns-2 c =
     let f0 = e0 .before .before in
     pair-goes-on _ _ _ (f0 .lengths-fault .ensures) _ _ (e0 .if1 .left) (or-stops _ _ (f1 .length-fault .ensures) _ (c .if2 .taken))
 
-table-fault-requires : tie.Need-table-fault-requires
-table-fault-requires c κs = search needs
+stored-fault-requires : tie.Need-stored-fault-requires
+stored-fault-requires c κs = search needs
 
 returns-3 : tie.Need-returns-3
 unfolding stepFault
@@ -35,7 +35,7 @@ returns-3 c =
     let f1 = e1 .before .before in
     let e0 = f1 .before in
     let f0 = e0 .before .before in
-    pair-goes-on _ _ _ (f0 .lengths-fault .ensures) _ _ (e0 .if1 .left) (or-goes-on _ _ (f1 .length-fault .ensures) _ _ (e1 .if2 .left) (pair-stops _ _ _ (f2 .table-fault .ensures) _ (c .if3 .taken)))
+    pair-goes-on _ _ _ (f0 .lengths-fault .ensures) _ _ (e0 .if1 .left) (or-goes-on _ _ (f1 .length-fault .ensures) _ _ (e1 .if2 .left) (pair-stops _ _ _ (f2 .stored-fault .ensures) _ (c .if3 .taken)))
 
 directions-fault-requires : tie.Need-directions-fault-requires
 directions-fault-requires c κs = search needs
@@ -50,7 +50,7 @@ returns-4 c =
     let f1 = e1 .before .before in
     let e0 = f1 .before in
     let f0 = e0 .before .before in
-    pair-goes-on _ _ _ (f0 .lengths-fault .ensures) _ _ (e0 .if1 .left) (or-goes-on _ _ (f1 .length-fault .ensures) _ _ (e1 .if2 .left) (pair-goes-on _ _ _ (f2 .table-fault .ensures) _ _ (e2 .if3 .left) (or-stops _ _ (f3 .directions-fault .ensures) _ (c .if4 .taken))))
+    pair-goes-on _ _ _ (f0 .lengths-fault .ensures) _ _ (e0 .if1 .left) (or-goes-on _ _ (f1 .length-fault .ensures) _ _ (e1 .if2 .left) (pair-goes-on _ _ _ (f2 .stored-fault .ensures) _ _ (e2 .if3 .left) (or-stops _ _ (f3 .directions-fault .ensures) _ (c .if4 .taken))))
 
 inside-fault-requires : tie.Need-inside-fault-requires
 inside-fault-requires c κs = search needs
@@ -66,7 +66,7 @@ returns-5 c =
     let f1 = e1 .before .before in
     let e0 = f1 .before in
     let f0 = e0 .before .before in
-    pair-goes-on _ _ _ (f0 .lengths-fault .ensures) _ _ (e0 .if1 .left) (or-goes-on _ _ (f1 .length-fault .ensures) _ _ (e1 .if2 .left) (pair-goes-on _ _ _ (f2 .table-fault .ensures) _ _ (e2 .if3 .left) (or-goes-on _ _ (f3 .directions-fault .ensures) _ _ (e3 .if4 .left) (c .inside-fault .ensures))))
+    pair-goes-on _ _ _ (f0 .lengths-fault .ensures) _ _ (e0 .if1 .left) (or-goes-on _ _ (f1 .length-fault .ensures) _ _ (e1 .if2 .left) (pair-goes-on _ _ _ (f2 .stored-fault .ensures) _ _ (e2 .if3 .left) (or-goes-on _ _ (f3 .directions-fault .ensures) _ _ (e3 .if4 .left) (c .inside-fault .ensures))))
 
 pub step-fault-spec : {M : Type 1} → statement M
 step-fault-spec =
@@ -76,7 +76,7 @@ step-fault-spec =
     returns
     length-fault-requires
     returns-2
-    table-fault-requires
+    stored-fault-requires
     returns-3
     directions-fault-requires
     returns-4

@@ -9,13 +9,13 @@ frame-fault-requires c κs = search needs
 returns : tie.Need-returns
 returns c = or-stops _ _ (c .before .before .frame-fault .ensures) _ (c .if1 .taken)
 
-table-fault-requires : tie.Need-table-fault-requires
-table-fault-requires c κs = search needs
+stored-fault-requires : tie.Need-stored-fault-requires
+stored-fault-requires c κs = search needs
 
 returns-2 : tie.Need-returns-2
 returns-2 c =
     let e = c .before in
-    or-goes-on _ _ (e .before .before .frame-fault .ensures) _ _ (e .if1 .left) (c .table-fault .ensures)
+    or-goes-on _ _ (e .before .before .frame-fault .ensures) _ _ (e .if1 .left) (c .stored-fault .ensures)
 
 pub table-fault-spec : {M : Type 1} → statement M
 table-fault-spec =
@@ -23,5 +23,5 @@ table-fault-spec =
     (tie.spec
     frame-fault-requires
     returns
-    table-fault-requires
+    stored-fault-requires
     returns-2)

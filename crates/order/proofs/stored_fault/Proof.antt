@@ -1,7 +1,7 @@
 use Rattle.answer.proofs.Orders.{or-goes-on, or-stops}
 use borrow.Author.Needs.{needs}
-use Rattle.order.proofs.table_fault.Statement.{statement}
-use Rattle.order.proofs.table_fault.Tie as tie
+use Rattle.order.proofs.stored_fault.Statement.{statement}
+use Rattle.order.proofs.stored_fault.Tie as tie
 
 axes-fault-requires : tie.Need-axes-fault-requires
 axes-fault-requires c κs = search needs
@@ -20,8 +20,8 @@ returns-2 c =
     let f0 = e0 .before .before in
     or-goes-on _ _ (f0 .axes-fault .ensures) _ _ (e0 .if1 .left) (c .values-fault .ensures)
 
-pub table-fault-spec : {M : Type 1} → statement M
-table-fault-spec =
+pub stored-fault-spec : {M : Type 1} → statement M
+stored-fault-spec =
     tie.close
     (tie.spec
     axes-fault-requires

@@ -25,12 +25,6 @@ fn word_within(s: &[u8], at: usize, n: usize) -> u64
     x
 }
 
-fn least(m: usize, n: usize) -> usize
-    ensures { λ r. ⌜ r ≡ min m n ⌝ }
-{
-    if m < n { m } else { n }
-}
-
 // The number of n bytes at a place, the lowest first; of a longer word the first eight.
 pub fn word(s: &[u8], at: usize, n: usize) -> u64
     ensures { λ r. ⌜ (r ≡ wordAt (min n 8) (now (s .entry)) at) × (r < 256 ^ min n 8) ⌝ }
@@ -39,8 +33,8 @@ pub fn word(s: &[u8], at: usize, n: usize) -> u64
     if at >= len {
         return 0;
     }
-    let wanted = least(n, 8);
-    let there = least(wanted, len - at);
+    let wanted = counts::least(n, 8);
+    let there = counts::least(wanted, len - at);
     word_within(s, at, there)
 }
 

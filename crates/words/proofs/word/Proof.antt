@@ -13,7 +13,6 @@ use Rattle.words.proofs.word.Statement.{statement}
 use Rattle.words.proofs.word.Tie as tie
 use Rattle.words.proofs.word.Reads as reads
 use Rattle.words.proofs.word.Lts as lts
-use Rattle.words.proofs.least.Reads as least-reads
 use Rattle.words.proofs.word_within.Reads as word-within-reads
 
 -- src/lib.rt:40:9

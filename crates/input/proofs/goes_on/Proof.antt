@@ -1,18 +1,9 @@
-use mathlib.Core.Bool.{Bool, true, false, not, _||_}
+use mathlib.Core.Bool.{Bool, _||_}
 use borrow.Author.Tests.{not-true, not-false}
-use Rattle.records.proofs.Ends.{output-failed, limit-reached, more-to-come}
-use mathlib.Core.Path.{_≡_, refl, sym, ap, ap₂, _∙_, subst}
-use mathlib.Core.List.{List, [], _∷_, _++_}
-use Prim.Native.Nat.{ℕ, _+_, _-_, _*_, _^_, _≤_, _<_, min}
-use native.Mathlib.Omega.{arith}
-use lib.ListN.{length, take, drop, getD}
-use lib.Ieee.{Float, nan}
-use denote.Ref.{now}
-use borrow.Author.Needs.{needs}
-use Rattle.records.proofs.goes_on.Statement.{statement}
-use Rattle.records.proofs.goes_on.Tie as tie
-use Rattle.records.proofs.goes_on.Reads as reads
-use Rattle.records.proofs.goes_on.Lts as lts
+use Rattle.input.proofs.Ends.{output-failed, limit-reached, more-to-come}
+use mathlib.Core.Path.{sym, ap, _∙_}
+use Rattle.input.proofs.goes_on.Statement.{statement}
+use Rattle.input.proofs.goes_on.Tie as tie
 
 -- src/lib.rt:80:9
 returns : tie.Need-returns

@@ -1,21 +1,11 @@
-use Rattle.answer.specs.Answer.{refused}
 use Rattle.answer.specs.declared.Answer.{Answer}
 use Rattle.lines.specs.Put.{lineInto, lineEnd}
-use Rattle.records.proofs.Ends.{no-record-left, no-byte-left, cut-short}
-use mathlib.Core.Path.{_≡_, refl, sym, ap, ap₂, _∙_, subst}
-use mathlib.Core.List.{List, [], _∷_, _++_}
-use Prim.Native.Nat.{ℕ, _+_, _-_, _*_, _^_, _≤_, _<_, min}
-use native.Mathlib.Omega.{arith}
-use lib.ListN.{length, take, drop, getD}
-use lib.Ieee.{Float, nan}
+use Rattle.input.proofs.Ends.{no-record-left, no-byte-left, cut-short}
+use mathlib.Core.Path.{ap, _∙_}
 use denote.Ref.{now}
 use borrow.Author.Needs.{needs}
-use Rattle.records.proofs.finish.Statement.{statement}
-use Rattle.records.proofs.finish.Tie as tie
-use Rattle.records.proofs.finish.Reads as reads
-use Rattle.records.proofs.finish.Lts as lts
-use Rattle.answer.proofs.refuse.Reads as refuse-reads
-use Rattle.lines.proofs.put_line.Reads as put-line-reads
+use Rattle.input.proofs.finish.Statement.{statement}
+use Rattle.input.proofs.finish.Tie as tie
 
 -- src/lib.rt:75:9
 returns : tie.Need-returns

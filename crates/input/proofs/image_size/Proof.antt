@@ -1,17 +1,7 @@
-use Rattle.records.proofs.Ends.{size-short, size-long, size-stated}
-use mathlib.Core.Path.{_≡_, refl, sym, ap, ap₂, _∙_, subst}
-use mathlib.Core.List.{List, [], _∷_, _++_}
-use Prim.Native.Nat.{ℕ, _+_, _-_, _*_, _^_, _≤_, _<_, min}
-use native.Mathlib.Omega.{arith}
-use lib.ListN.{length, take, drop, getD}
-use lib.Ieee.{Float, nan}
-use denote.Ref.{now}
+use Rattle.input.proofs.Ends.{size-short, size-long, size-stated}
 use borrow.Author.Needs.{needs}
-use Rattle.records.proofs.image_size.Statement.{statement}
-use Rattle.records.proofs.image_size.Tie as tie
-use Rattle.records.proofs.image_size.Reads as reads
-use Rattle.records.proofs.image_size.Lts as lts
-use Rattle.words.proofs.word.Reads as word-reads
+use Rattle.input.proofs.image_size.Statement.{statement}
+use Rattle.input.proofs.image_size.Tie as tie
 
 -- src/lib.rt:13:18
 word-requires : tie.Need-word-requires

@@ -1,7 +1,7 @@
 -- Where the image ends, and what is printed at the input's end. Assumes nothing.
 use mathlib.Core.Path.{_≡_, refl, sym, ap, ap₂, _∙_}
-use mathlib.Core.Bool.{Bool, true, false, _&&_, _||_, cond}
-use mathlib.Core.Logic.{_⊎_, inl, inr}
+use mathlib.Core.Bool.{Bool, true, false, _&&_, _||_, cond, and-false, or-true}
+use mathlib.Core.Logic.{inr}
 use mathlib.Core.List.{List, [], _++_}
 use Prim.Native.Nat.{ℕ, _+_, _≤_, _<_}
 use native.Mathlib.Omega.{arith}
@@ -10,7 +10,6 @@ use lib.Dec.{leb, eqb}
 use lib.ListN.{length, take, drop, length-append, length-drop, length-take}
 use lib.Seq.{length-take-le, take-all, take-append-le, drop-append-le}
 use Rattle.answer.specs.Answer.{refused}
-use Rattle.judge.proofs.Rows.{and-false}
 use Rattle.lines.specs.Feed.{Filled}
 use Rattle.lines.specs.Line.{lineOf, longest}
 use Rattle.lines.specs.Put.{Wrote, lineInto, lineEnd}
@@ -19,7 +18,7 @@ use Rattle.lines.proofs.Puts.{wrote-take, wrote-length}
 use Rattle.lines.proofs.Runs.{cut-off, cut-none, cut-some}
 use Rattle.lines.proofs.Shows.{line-wrote, line-fits}
 use Rattle.words.specs.Words.{ofBytes, wordAt}
-use Rattle.records.specs.Run.{imageSize, imageIn, nothingMore, endInto, endSize, goesOn}
+use Rattle.input.specs.Input.{imageSize, imageIn, nothingMore, endInto, endSize, goesOn}
 
 module _ (input : List ℕ) (w : ℕ) (e : w ≡ wordAt 4 input 4) where
   sized : (b : Bool) → (leb 40 w && leb w 36864) ≡ b → cond b w 40 ≡ imageSize input
@@ -30,7 +29,7 @@ module _ (input : List ℕ) (w : ℕ) (e : w ≡ wordAt 4 input 4) where
   size-short h = sized false (ap (λ (t : Bool). t && leb w 36864) (lt-leb 40 w h))
 
   pub size-long : 36864 < w → 40 ≡ imageSize input
-  size-long h = sized false (and-false (leb 40 w) (leb w 36864) (lt-leb w 36864 h))
+  size-long h = sized false (ap (λ (t : Bool). leb 40 w && t) (lt-leb w 36864 h) ∙ and-false (leb 40 w))
 
   pub size-stated : 40 ≤ w → w ≤ 36864 → w ≡ imageSize input
   size-stated h k = sized true (ap₂ _&&_ (le-leb 40 w h) (le-leb w 36864 k))
@@ -65,10 +64,6 @@ module _ (rest left : ℕ) (out : List ℕ) where
   pub no-byte-left : rest ≡ 0 → (0 ≡ endSize rest left out) × (out ≡ endInto rest left out)
   unfolding nothingMore
   no-byte-left h = told true (ap (λ (t : Bool). eqb left 0 || t) (eq-eqb rest 0 h) ∙ or-true (eqb left 0))
-    where
-      or-true : (t : Bool) → (t || true) ≡ true
-      or-true true = refl
-      or-true false = refl
 
   pub cut-short : (left ≡ 0 → ⊥) → (rest ≡ 0 → ⊥) → (r : ℕ) (after : List ℕ) → r ≡ lineEnd (refused 3 0 2) out 0 → after ≡ lineInto (refused 3 0 2) out 0
       → (r ≡ endSize rest left out) × (after ≡ endInto rest left out)

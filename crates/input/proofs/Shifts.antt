@@ -1,16 +1,16 @@
 -- The laws of bytes moved to the front.
 use mathlib.Core.Path.{_≡_, refl, sym, ap, ap₂, _∙_}
-use mathlib.Core.Bool.{Bool, false, cond}
+use mathlib.Core.Bool.{Bool, cond}
 use mathlib.Core.List.{List, _++_}
 use Prim.Native.Nat.{ℕ, _+_, _≤_, _<_}
 use native.Mathlib.Nat.{add-comm}
 use native.Mathlib.Numerals.{add-one}
 use native.Mathlib.Omega.{arith}
-use lib.Dec.{leb}
 use lib.ListN.{length, take, drop, getD, set, length-append, length-take, length-drop, length-set, take-append-drop}
 use lib.Seq.{drop-drop, take-at, take-suc, take-suc-set, drop-set-lt, getD-drop}
-use borrow.Author.Tests.{le-leb}
-use Rattle.lines.specs.Put.{roomFor, shifted}
+use borrow.Author.Tests.{le-leb, lt-leb}
+use Rattle.lines.specs.Put.{roomFor}
+use Rattle.input.specs.Input.{shifted}
 
 -- on the way: the first i bytes are moved, the rest is as it was
 pub record Shifting (a : List ℕ) (from n i : ℕ) (b : List ℕ) : Type 0 where
@@ -49,9 +49,9 @@ module _ (a : List ℕ) (from n : ℕ) where
   unfolding shifted roomFor
   there h = ap (λ (t : Bool). cond t (take n (drop from a) ++ drop n a) a) (le-leb (from + n) (length a) h)
 
-  pub shift-left : leb (from + n) (length a) ≡ false → a ≡ shifted a from n
+  pub shift-left : length a < from + n → a ≡ shifted a from n
   unfolding shifted roomFor
-  shift-left h = ap (λ (t : Bool). cond t (take n (drop from a) ++ drop n a) a) (sym h)
+  shift-left h = ap (λ (t : Bool). cond t (take n (drop from a) ++ drop n a) a) (sym (lt-leb (from + n) (length a) h))
 
   pub shift-end : (i : ℕ) (b : List ℕ) → Shifting a from n i b → n ≤ i → b ≡ shifted a from n
   shift-end i b s l =

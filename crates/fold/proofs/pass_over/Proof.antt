@@ -1,18 +1,14 @@
 use mathlib.Core.Path.{_≡_, refl, _∙_}
-use mathlib.Core.List.{List, _++_}
-use Prim.Native.Nat.{ℕ, _+_, _-_, _≤_, _<_}
+use mathlib.Core.List.{_++_}
+use Prim.Native.Nat.{_-_, _≤_, _<_}
 use native.Mathlib.Omega.{arith}
 use lib.ListN.{length, drop, length-set}
-use lib.Ieee.{Float}
 use denote.Ref.{now}
 use Rattle.table.specs.Shape.{tabulate}
-use Rattle.blend.proofs.Folds.{blendAt, pass-step, pass-done}
+use Rattle.fold.proofs.Folds.{blendAt, pass-step, pass-done}
 use borrow.Author.Needs.{needs}
-use Rattle.blend.proofs.pass_over.Statement.{statement}
-use Rattle.blend.proofs.pass_over.Tie as tie
-use Rattle.blend.proofs.pass_over.Reads as reads
-use Rattle.blend.proofs.pass_over.Lts as lts
-use Rattle.blend.proofs.blend.Reads as blend-reads
+use Rattle.fold.proofs.pass_over.Statement.{statement}
+use Rattle.fold.proofs.pass_over.Tie as tie
 
 abbrev Inv-loop : tie.InvT-loop
 Inv-loop vals₀ half f i₀ vals i = ((i ≤ half) × (length vals ≡ length vals₀)) × (vals ≡ tabulate i (blendAt f half vals₀) ++ drop i vals₀)

@@ -1,16 +1,11 @@
-use mathlib.Core.Path.{_≡_, sym, ap, _∙_}
+use mathlib.Core.Path.{ap, _∙_}
 use Rattle.answer.specs.Answer.{answered}
 use Rattle.answer.proofs.Orders.{or-stops, or-goes-on}
 use Rattle.judge.specs.Check.{resultFault}
 use Rattle.blend.specs.Blend.{computed}
 use borrow.Author.Needs.{needs}
-use Rattle.blend.proofs.compute.Statement.{statement}
-use Rattle.blend.proofs.compute.Tie as tie
-use Rattle.blend.proofs.compute.Reads as reads
-use Rattle.blend.proofs.compute.Lts as lts
-use Rattle.answer.proofs.succeed.Reads as succeed-reads
-use Rattle.blend.proofs.fold.Reads as fold-reads
-use Rattle.judge.proofs.result_fault.Reads as result-fault-reads
+use Rattle.fold.proofs.compute.Statement.{statement}
+use Rattle.fold.proofs.compute.Tie as tie
 
 -- src/lib.rt:116:9
 fold-requires : tie.Need-fold-requires

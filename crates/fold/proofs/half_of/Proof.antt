@@ -1,8 +1,6 @@
 use borrow.Author.Needs.{needs}
-use Rattle.blend.proofs.half_of.Statement.{statement}
-use Rattle.blend.proofs.half_of.Tie as tie
-use Rattle.blend.proofs.half_of.Reads as reads
-use Rattle.blend.proofs.half_of.Lts as lts
+use Rattle.fold.proofs.half_of.Statement.{statement}
+use Rattle.fold.proofs.half_of.Tie as tie
 
 -- src/lib.rt:57:35
 enum-told : tie.Need-enum-told

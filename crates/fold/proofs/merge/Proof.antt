@@ -1,10 +1,7 @@
 use native.Mathlib.Omega.{arith}
 use borrow.Author.Needs.{needs}
-use Rattle.blend.proofs.merge.Statement.{statement}
-use Rattle.blend.proofs.merge.Tie as tie
-use Rattle.blend.proofs.merge.Reads as reads
-use Rattle.blend.proofs.merge.Lts as lts
-use Rattle.blend.proofs.pass_over.Reads as pass-over-reads
+use Rattle.fold.proofs.merge.Statement.{statement}
+use Rattle.fold.proofs.merge.Tie as tie
 
 -- src/lib.rt:43:43
 enum-known-location : tie.Need-enum-known-location

@@ -1,21 +1,21 @@
 -- The fold of the corners, pass by pass. Assumes nothing.
-use mathlib.Core.Path.{_≡_, sym, ap, ap₂, _∙_, subst}
-use mathlib.Core.List.{List, [], _∷_, _++_}
-use Prim.Native.Nat.{ℕ, suc, _+_, _-_, _^_, _≤_, _<_, min}
-use native.Mathlib.Nat.{add-zero, pow-le-pow-right}
+use mathlib.Core.Path.{_≡_, sym, ap, ap₂, _∙_}
+use mathlib.Core.List.{List, _∷_, _++_}
+use Prim.Native.Nat.{ℕ, _+_, _^_, _≤_, _<_}
+use native.Mathlib.Nat.{add-zero}
 use native.Mathlib.Omega.{arith}
-use lib.ListN.{length, take, drop, getD, set, length-drop, length-take, List·getD-append}
+use lib.ListN.{length, take, drop, getD, set, List·getD-append}
 use lib.Seq.{getD-append-add, getD-drop}
 use lib.Ieee.{Float, nan}
 use Rattle.table.specs.Shape.{tabulate}
-use Rattle.table.proofs.Layouts.{length-tabulate, tabulate-same, tabulate-step}
+use Rattle.table.proofs.Layouts.{length-tabulate, tabulate-step}
 use Rattle.table.proofs.Shapes.{ahead, past}
 use Rattle.blend.specs.Blend.{blended}
 use Rattle.blend.specs.Rust.{diffs, passed, butterfly}
-use Rattle.blend.specs.Folds.{passedOver, merged, halfOf, grown, moreCorners}
 use Rattle.blend.specs.declared.AxisLocation.{AxisLocation}
 use Rattle.blend.specs.declared.AxisLocation.the-variants.{Exact, Between}
-use Rattle.blend.proofs.Bits.{power-suc}
+use Rattle.blend.proofs.Bits.{power-suc, butterfly-same}
+use Rattle.fold.specs.Folds.{passedOver, merged, halfOf, grown}
 
 -- ---- writing over the front of a list
 pub over-at : (i j : ℕ) (h : ℕ → Float) (xs : List Float) → getD (tabulate i h ++ drop i xs) (i + j) nan ≡ getD xs (i + j) nan
@@ -44,15 +44,6 @@ pub pass-done : (f : Float) (half i : ℕ) (vals v : List Float) → i ≡ half 
 unfolding passed
 pass-done f half i vals v e q = q ∙ ap (λ (k : ℕ). tabulate k (blendAt f half vals) ++ drop k vals) e
 
--- ---- the butterfly looks at the corners in use alone
-pub butterfly-same : (fs xs ys : List Float) → ((i : ℕ) → i < 2 ^ length fs → getD xs i nan ≡ getD ys i nan) → butterfly fs xs ≡ butterfly fs ys
-unfolding butterfly passed
-butterfly-same [] xs ys h = h 0 (omega arith)
-butterfly-same (f ∷ fs) xs ys h =
-    ap (butterfly fs)
-    (tabulate-same (2 ^ length fs) _ _
-    (λ i b. ap₂ (λ (x y : Float). blended x y f) (h i (omega (arith, power-suc (length fs), b))) (h (i + 2 ^ length fs) (omega (arith, power-suc (length fs), b)))))
-
 pub front : (fs xs ys : List Float) → 2 ^ length fs ≤ length xs → butterfly fs (xs ++ ys) ≡ butterfly fs xs
 front fs xs ys l = butterfly-same fs (xs ++ ys) xs (λ i b. List·getD-append xs ys nan i (omega (arith, l, b)))
 
@@ -64,41 +55,6 @@ half-power (Between l f) ps h e = let d : h ≡ 2 ^ length (diffs ps) + 2 ^ leng
 pub grown-power : (p : AxisLocation) (ps : List AxisLocation) (h : ℕ) → h ≡ 2 ^ length (diffs ps) → grown p h ≡ 2 ^ length (diffs (p ∷ ps))
 grown-power (Exact node) ps h e = e
 grown-power (Between l f) ps h e = ap₂ (λ (x y : ℕ). x + y) e e ∙ sym (power-suc (length (diffs ps)))
-
-pub more-power : (p : AxisLocation) (ps : List AxisLocation) (h : ℕ) → h ≡ 2 ^ length (diffs ps) → 2 ^ length (diffs (p ∷ ps)) ≤ 16 → moreCorners p h ≡ 2 ^ length (diffs (p ∷ ps))
-more-power (Exact node) ps h e l = e
-more-power (Between k f) ps h e l =
-    let d : h + h ≡ 2 ^ suc (length (diffs ps)) = grown-power (Between k f) ps h e in
-    let m : min (h + h) 16 ≡ h + h = omega (arith, d, l) in
-    m ∙ d
-
-pub few-diffs : (ps : List AxisLocation) → length (diffs ps) ≤ length ps
-few-diffs [] = omega arith
-few-diffs (Exact node ∷ ps) = omega (arith, few-diffs ps)
-few-diffs (Between l f ∷ ps) = omega (arith, few-diffs ps)
-
-pub few-corners : (ps : List AxisLocation) → length ps ≤ 4 → 2 ^ length (diffs ps) ≤ 16
-few-corners ps l = let u : 2 ^ length (diffs ps) ≤ 2 ^ 4 = pow-le-pow-right (omega arith) {j = 4} (omega (arith, few-diffs ps, l)) in u
-
-left-few : (ls : List AxisLocation) (n d : ℕ) → n ≤ 4 → length (drop d (take n ls)) ≤ 4
-left-few ls n d l = omega (arith, length-drop d (take n ls), length-take n ls, l)
-
--- from the last axis on
-pub count-step : (ls : List AxisLocation) (n d count : ℕ) → n ≤ 4 → n ≤ length ls → 0 < d → d ≤ n → count ≡ 2 ^ length (diffs (drop d (take n ls)))
-    → moreCorners (getD ls (d - 1) (Exact 0)) count ≡ 2 ^ length (diffs (drop (d - 1) (take n ls)))
-count-step ls n d count f a b l e =
-    let v : d ≡ d - 1 + 1 = omega arith in
-    let open-up : drop (d - 1) (take n ls) ≡ getD ls (d - 1) (Exact 0) ∷ drop (d - 1 + 1) (take n ls) = ahead ls n (d - 1) (Exact 0) (omega arith) a in
-    let few : 2 ^ length (diffs (getD ls (d - 1) (Exact 0) ∷ drop (d - 1 + 1) (take n ls))) ≤ 16 =
-    subst (λ (r : List AxisLocation). 2 ^ length (diffs r) ≤ 16) open-up (few-corners (drop (d - 1) (take n ls)) (left-few ls n (d - 1) f)) in
-    more-power (getD ls (d - 1) (Exact 0)) (drop (d - 1 + 1) (take n ls)) count (e ∙ ap (λ (k : ℕ). 2 ^ length (diffs (drop k (take n ls)))) v) few
-    ∙ ap (λ (r : List AxisLocation). 2 ^ length (diffs r)) (sym open-up)
-
-pub count-few : (ls : List AxisLocation) (n d count : ℕ) → n ≤ 4 → count ≡ 2 ^ length (diffs (drop d (take n ls))) → count ≤ 16
-count-few ls n d count l e = omega (arith, e, few-corners (drop d (take n ls)) (left-few ls n d l))
-
-pub count-none : (ls : List AxisLocation) (n : ℕ) → 1 ≡ 2 ^ length (diffs (drop n (take n ls)))
-count-none ls n = sym (ap (λ (r : List AxisLocation). 2 ^ length (diffs r)) (past ls n n (omega arith)))
 
 -- ---- the loop: the corners in use, blended on the axes that are left, give r
 pub record Folding (ps : List AxisLocation) (r : Float) (v : List Float) (h : ℕ) : Type 0 where

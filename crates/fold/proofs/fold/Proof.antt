@@ -1,22 +1,17 @@
 use mathlib.Core.Path.{_≡_, refl, ap, _∙_}
 use mathlib.Core.List.{List}
-use Prim.Native.Nat.{ℕ, _+_, _-_, _≤_}
+use Prim.Native.Nat.{_+_, _-_, _≤_}
 use native.Mathlib.Omega.{arith}
 use lib.ListN.{length, take, drop, getD}
 use Rattle.table.proofs.Shapes.{counts-least}
 use Rattle.blend.specs.Rust.{diffs, butterfly}
 use Rattle.blend.specs.declared.AxisLocation.{AxisLocation}
 use Rattle.blend.specs.declared.AxisLocation.the-variants.{Exact}
-use Rattle.blend.proofs.Folds.{Folding, fold-step, fold-fits, fold-at, fold-done, count-few}
+use Rattle.blend.proofs.Counts.{count-few}
+use Rattle.fold.proofs.Folds.{Folding, fold-step, fold-fits, fold-at, fold-done}
 use borrow.Author.Needs.{needs}
-use Rattle.blend.proofs.fold.Statement.{statement}
-use Rattle.blend.proofs.fold.Tie as tie
-use Rattle.blend.proofs.fold.Reads as reads
-use Rattle.blend.proofs.fold.Lts as lts
-use Rattle.blend.proofs.corner_count.Reads as corner-count-reads
-use Rattle.table.proofs.least.Reads as least-reads
-use Rattle.blend.proofs.half_of.Reads as half-of-reads
-use Rattle.blend.proofs.merge.Reads as merge-reads
+use Rattle.fold.proofs.fold.Statement.{statement}
+use Rattle.fold.proofs.fold.Tie as tie
 
 abbrev Inv-loop : tie.InvT-loop
 Inv-loop n locations axes half₀ v₀ d₀ half v d = ((d ≤ axes) × (length v ≡ 16)) × Folding (drop d (take axes locations)) (butterfly (diffs (take axes locations)) v₀) v half

@@ -10,7 +10,7 @@ use Rattle.table.specs.Layout.{tabulate}
 use Rattle.table.proofs.Layouts.{getD-tabulate, tabulate-same}
 use Rattle.blend.specs.Blend.{blended, sliced, linear}
 use Rattle.blend.specs.Rust.{view, lowers, diffs, corner, corners, passed, butterfly, rustLinear}
-use Rattle.blend.specs.Folds.{cornerAt}
+use Rattle.blend.specs.Corners.{cornerAt}
 use Rattle.blend.specs.declared.AxisLocation.{AxisLocation}
 use Rattle.blend.specs.declared.AxisLocation.the-variants.{Exact, Between}
 
@@ -101,3 +101,12 @@ rust-linear ps g =
     (ap (λ (n : ℕ). tabulate n (λ m. view ps g (corner (lowers ps) m))) (ap (λ (k : ℕ). 2 ^ k) (length-lowers ps))
     ∙ tabulate-same (2 ^ length (diffs ps)) _ _ (λ m b. view-corner ps g m))
     ∙ fold-linear ps g
+
+-- ---- the butterfly looks at the corners in use alone
+pub butterfly-same : (fs xs ys : List Float) → ((i : ℕ) → i < 2 ^ length fs → getD xs i nan ≡ getD ys i nan) → butterfly fs xs ≡ butterfly fs ys
+unfolding butterfly passed
+butterfly-same [] xs ys h = h 0 (omega arith)
+butterfly-same (f ∷ fs) xs ys h =
+    ap (butterfly fs)
+    (tabulate-same (2 ^ length fs) _ _
+    (λ i b. ap₂ (λ (x y : Float). blended x y f) (h i (omega (arith, power-suc (length fs), b))) (h (i + 2 ^ length fs) (omega (arith, power-suc (length fs), b)))))

@@ -14,7 +14,7 @@ use borrow.Author.Tests.{ltb-true, ltb-false}
 use Rattle.binary64.proofs.Finite.{add-finite, mul-finite}
 use Rattle.blend.specs.Blend.{one, blended, sliced, linear}
 use Rattle.blend.specs.Rust.{diffs}
-use Rattle.blend.specs.Folds.{cornerAt}
+use Rattle.blend.specs.Corners.{cornerAt}
 use Rattle.blend.specs.declared.AxisLocation.{AxisLocation}
 use Rattle.blend.specs.declared.AxisLocation.the-variants.{Exact, Between}
 use Rattle.blend.proofs.Bits.{power-suc, low-corner, high-corner}

@@ -1,4 +1,4 @@
 pub mod Bits
-pub mod Folds
+pub mod Counts
 pub mod Finites
 pub mod Unique

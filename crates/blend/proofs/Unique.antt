@@ -2,13 +2,10 @@
 use mathlib.Core.Path.{_≡_}
 use Prim.Native.Nat.{ℕ}
 use lib.Ieee.{Float}
-use Rattle.answer.specs.declared.Answer.{Answer}
 use Rattle.answer.proofs.Outcome.{one-outcome}
 use Rattle.blend.proofs.blend.Reads as blend
 use Rattle.blend.proofs.grow.Reads as grow
 use Rattle.blend.proofs.corner_count.Reads as corner-count
-use Rattle.blend.proofs.fold.Reads as fold
-use Rattle.blend.proofs.compute.Reads as compute
 
 pub blend-unique : (κs : _) (a : _) (r s : Float) (x y : _) → blend.Post κs a r x → blend.Post κs a s y → r ≡ s
 blend-unique κs a r s x y p q = one-outcome r s _ p q
@@ -18,9 +15,3 @@ grow-unique κs a r s x y p q = one-outcome r s _ p q
 
 pub corner-count-unique : (κs : _) (a : _) (r s : ℕ) (x y : _) → corner-count.Post κs a r x → corner-count.Post κs a s y → r ≡ s
 corner-count-unique κs a r s x y p q = one-outcome r s _ p q
-
-pub fold-unique : (κs : _) (a : _) (r s : Float) (x y : _) → fold.Post κs a r x → fold.Post κs a s y → r ≡ s
-fold-unique κs a r s x y p q = one-outcome r s _ p q
-
-pub compute-unique : (κs : _) (a : _) (r s : Answer) (x y : _) → compute.Post κs a r x → compute.Post κs a s y → r ≡ s
-compute-unique κs a r s x y p q = one-outcome r s _ p q

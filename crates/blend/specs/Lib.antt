@@ -1,3 +1,3 @@
 pub mod Blend
 pub mod Rust
-pub mod Folds
+pub mod Corners

@@ -1,11 +1,10 @@
-// What the two linears compute: the blend of two values, and the fold of a reading's corners.
+// What the two linears compute with: where a reading lies on an axis, the blend of two values, and how many corners a reading has.
 ghost use mathlib.Core.Path.{_≡_};
-ghost use Prim.Native.Nat.{_+_, _^_, _≤_, min};
+ghost use Prim.Native.Nat.{_+_, _^_, min};
 ghost use lib.ListN.{length, take};
-ghost use Rattle.blend.specs.Blend.{blended, computed};
-ghost use Rattle.blend.specs.Rust.{diffs, butterfly};
-ghost use Rattle.blend.specs.Folds.{passedOver, merged, halfOf, grown, moreCorners};
-use answer::Answer;
+ghost use Rattle.blend.specs.Blend.{blended};
+ghost use Rattle.blend.specs.Rust.{diffs};
+ghost use Rattle.blend.specs.Corners.{moreCorners};
 
 // Where a reading lies on an axis: on a node, or at a fraction of a cell.
 pub enum AxisLocation {
@@ -21,40 +20,6 @@ pub fn blend(a: f64, b: f64, f: f64) -> f64
 }
 
 // ---- the corners of a reading
-
-// One pass: each of the first `half` values blended with the one `half` places on.
-fn pass_over(vals: &mut [f64], half: usize, f: f64)
-    requires { ⌜ half + half ≤ length (now vals) ⌝ }
-    ensures { λ _. ⌜ now (vals .exit) ≡ passedOver f half (now (vals .entry)) ⌝ }
-{
-    let mut i: usize = 0;
-    while i < half {
-        let j = i + half;
-        vals[i] = blend(vals[i], vals[j], f);
-        i += 1;
-    }
-}
-
-// The corners after one axis, of which `half` are left: an exact axis has fixed them already.
-fn merge(location: AxisLocation, vals: &mut [f64], half: usize)
-    requires { ⌜ grown location half ≤ length (now vals) ⌝ }
-    ensures { λ _. ⌜ now (vals .exit) ≡ merged location half (now (vals .entry)) ⌝ }
-{
-    let AxisLocation::Between { lower: _, frac } = location else {
-        return;
-    };
-    pass_over(vals, half, frac);
-}
-
-// How many corners one axis leaves.
-fn half_of(location: AxisLocation, count: usize) -> usize
-    ensures { λ r. ⌜ r ≡ halfOf location count ⌝ }
-{
-    match location {
-        AxisLocation::Exact(_) => count,
-        AxisLocation::Between { lower: _, frac: _ } => count / 2,
-    }
-}
 
 // Twice a count of corners, at most 16.
 fn double(count: usize) -> usize
@@ -85,33 +50,4 @@ pub fn corner_count(locations: [AxisLocation; 4], n: usize) -> usize
         count = grow(location, count);
     }
     count
-}
-
-// The corners' values blended, axis after axis, the first one first.
-pub fn fold(mut vals: [f64; 16], locations: [AxisLocation; 4], n: usize) -> f64
-    ensures { λ r. ⌜ r ≡ butterfly (diffs (take n locations)) vals ⌝ }
-{
-    let axes = counts::least(n, 4);
-    let mut half = corner_count(locations, axes);
-    let v: &mut [f64] = &mut vals;
-    let mut d: usize = 0;
-    while d < axes {
-        let location = locations[d];
-        half = half_of(location, half);
-        merge(location, v, half);
-        d += 1;
-    }
-    v[0]
-}
-
-// The fold's value, or 12.
-pub fn compute(vals: [f64; 16], locations: [AxisLocation; 4], n: usize) -> Answer
-    ensures { λ r. ⌜ r ≡ computed (butterfly (diffs (take n locations)) vals) ⌝ }
-{
-    let value = fold(vals, locations, n);
-    let fault = numbers::result_fault(0, value);
-    if fault.number != 0 {
-        return fault;
-    }
-    answer::succeed(value)
 }

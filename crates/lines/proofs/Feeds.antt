@@ -5,7 +5,7 @@ use Prim.Native.Nat.{ℕ, _+_, _≤_}
 use native.Mathlib.Omega.{arith}
 use lib.ListN.{length, take, length-append}
 use lib.Seq.{length-take-le, take-append-add, take-append-le}
-use Rattle.lines.specs.Stream.{Rule, linesOf, Turning}
+use Rattle.lines.specs.Stream.{Rule, linesOf}
 use Rattle.lines.specs.Feed.{Filled, Stepped, Reached, Ended}
 
 pub filled : (b ys post : List ℕ) (held got : ℕ) → held ≤ length b → got ≤ length ys → Filled held b (take held b ++ (ys ++ post)) (held + got)
@@ -19,14 +19,6 @@ filled b ys post held got h g =
           ∙ ap (λ (l : List ℕ). take held b ++ l) (take-append-le got ys post g);
       within = simp length-append (omega arith);
     }
-
-pub stepped : {p : Rule} {held left have : ℕ} {b c d f e : List ℕ} {w h l : ℕ} → Filled held b c have → Turning p left have c d f e w h l → Stepped p held left b f h l
-stepped {p} {held} {left} {have} {b} {c} {d} {f} {e} {w} {h} {l} i u = record {
-  block = i .block;
-  printed = take w e;
-  turned = rw (← i .bytes) (u .turned);
-  within = omega (arith, u .held, i .within, u .kept);
-}
 
 pub reached-start : (p : Rule) (limit : ℕ) → Reached p limit limit []
 reached-start p limit = record { read = []; printed = []; right = λ more. refl }

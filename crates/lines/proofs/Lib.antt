@@ -1,7 +1,6 @@
 pub mod Puts
 pub mod Digits
 pub mod Backs
-pub mod Shifts
 pub mod Shows
 pub mod Blocks
 pub mod Runs

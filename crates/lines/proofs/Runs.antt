@@ -1,18 +1,15 @@
 -- Cutting the input into blocks has no effect on what is printed.
 use mathlib.Core.Path.{_≡_, refl, sym, ap, _∙_}
-use mathlib.Core.Logic.{_⊎_, inl, inr, ⊎-elim}
+use mathlib.Core.Logic.{_⊎_, inl, inr}
 use mathlib.Core.List.{List, [], _∷_, _++_, append-assoc, append-nil}
 use Prim.Native.Nat.{ℕ, zero, suc, _+_, _-_, _*_, _≤_, _<_}
 use native.Mathlib.Nat.{zero-add, suc-add, zero-mul, suc-mul}
 use native.Mathlib.Omega.{arith}
-use lib.ListN.{length, take, drop, length-append, length-drop}
-use lib.Seq.{take-append-le, drop-append-le, take-nil, length-take-le}
+use lib.ListN.{length, drop, length-append, length-drop}
+use lib.Seq.{take-append-le, drop-append-le}
 use borrow.Author.Tests.{lt-ltb, le-ltb}
-use Rattle.lines.specs.Put.{shifted}
-use Rattle.lines.specs.Stream.{Rule, linesFirst, linesOf, cutLine, Block, Turned, Turning, Run, ended, block, joined}
-use Rattle.lines.proofs.Puts.{wrote-take}
-use Rattle.lines.proofs.Shifts.{shifted-front, shifted-length}
-use Rattle.lines.proofs.Blocks.{drop-size, Answered, answered}
+use Rattle.lines.specs.Stream.{Rule, linesFirst, linesOf, cutLine, Turned}
+use Rattle.lines.proofs.Blocks.{drop-size}
 
 module _ (p : Rule) where
   rest-fits : (k : ℕ) (input : List ℕ) → suc k * p .size ≤ length input → k * p .size ≤ length (drop (p .size) input)
@@ -45,6 +42,17 @@ module _ (p : Rule) where
         ∙ rw (lines-front k held more h, drop-append-le (k * p .size) held more h);
   }
 
+-- The bytes `held`, then blocks as they come, each put after what is held: what is printed at each turn and, at the input's end, of what is left.
+pub data Run (p : Rule) : ℕ → List ℕ → List (List ℕ) → List ℕ → Type 0 where
+  ended : {most : ℕ} {held : List ℕ} → Run p most held [] (linesOf p most held)
+  block : {most : ℕ} {held b xs : List ℕ} {left : ℕ} {rest : List ℕ} {bs : List (List ℕ)} {ys : List ℕ}
+      → Turned p most (held ++ b) xs left rest → Run p left rest bs ys → Run p most held (b ∷ bs) (xs ++ ys)
+
+-- the blocks one after another
+abbrev pub joined : List (List ℕ) → List ℕ
+joined [] = []
+joined (b ∷ bs) = b ++ joined bs
+
 -- whatever is held and whatever blocks come, what is printed is what is printed of them all
 pub run-law : {p : Rule} {most : ℕ} {held : List ℕ} {bs : List (List ℕ)} {out : List ℕ} → Run p most held bs out → out ≡ linesOf p most (held ++ joined bs)
 run-law {p} {most} {held} ended = ap (linesOf p most) (sym (append-nil held))
@@ -75,29 +83,3 @@ module _ (p : Rule) where
   cut-some (suc m) [] s u v = absurd (v refl)
   cut-some (suc m) (b ∷ bs) (inl z) u v = absurd (u z)
   cut-some (suc m) (b ∷ bs) (inr l) u v = rw (lt-ltb (length (b ∷ bs)) (p .size) l)
-
--- ---- a turn: a block of what is held is answered, and what is left of it moved to the front
-
-drop-take : (k n : ℕ) (l : List ℕ) → drop k (take n l) ≡ take (n - k) (drop k l)
-drop-take zero n l = let e : n - 0 ≡ n = omega arith in rw e
-drop-take (suc k) zero l = let e : 0 - suc k ≡ 0 = omega arith in rw e
-drop-take (suc k) (suc n) [] = sym (take-nil (suc n - suc k))
-drop-take (suc k) (suc n) (x ∷ l) = let e : suc n - suc k ≡ n - k = omega arith in rw e (drop-take k n l)
-
-pub turning : {p : Rule} {most have : ℕ} {b d c e : List ℕ} {count written : ℕ} → have ≤ length b → Block p most (take have b) d e count written → length e ≡ length d
-    → c ≡ shifted b (count * p .size) (have - count * p .size) → Turning p most have b d c e written (have - count * p .size) (most - count)
-turning {p} {most} {have} {b} {d} {c} {e} {count} {written} h k spaced m =
-    let used = count * p .size in
-    let a : Answered p most (take have b) d e count written = answered k spaced in
-    let n : length (take have b) ≡ have = length-take-le have b h in
-    let fits : count * p .size + (have - count * p .size) ≤ length b = omega (arith, a .whole) in
-    let rest : drop (count * p .size) (take have b) ≡ take (have - count * p .size) c =
-    drop-take used have b ∙ sym (ap (take (have - used)) m ∙ shifted-front b used (have - used) fits) in
-    record {
-      turned = rw (wrote-take (a .lines), ← rest) (turned p most count (take have b) (a .within) (a .whole));
-      printed = omega (arith, a .room);
-      held = omega arith;
-      kept = ap length m ∙ shifted-length b used (have - used) fits;
-      spaced = spaced;
-      stop = ⊎-elim (λ s. inl (omega arith)) (λ s. ⊎-elim (λ u. inr (inl (omega (arith, a .whole)))) (λ u. inr (inr u)) s) (a .stop);
-    }

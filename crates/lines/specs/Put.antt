@@ -1,4 +1,4 @@
--- Bytes put into a buffer, and bytes moved in it.
+-- Bytes put into a buffer.
 use mathlib.Core.Path.{_≡_}
 use mathlib.Core.Bool.{Bool, cond}
 use mathlib.Core.List.{List, _++_}
@@ -28,7 +28,3 @@ lineInto a d at = cond (roomFor longest d at) (put d at (lineOf a)) d
 -- the place past that line, or the place itself where nothing was written
 unfoldable pub lineEnd : Answer → List ℕ → ℕ → ℕ
 lineEnd a d at = cond (roomFor longest d at) (at + length (lineOf a)) at
-
--- the n bytes at a place moved to the front, the rest as it was; where they are not all there, the buffer as it was
-unfoldable pub shifted : List ℕ → ℕ → ℕ → List ℕ
-shifted d from n = cond (roomFor n d from) (take n (drop from d) ++ drop n d) d

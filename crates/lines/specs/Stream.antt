@@ -1,9 +1,8 @@
 -- Lines that come of records: what is printed of an input, of a block of it, and turn by turn. Of any rule.
 use mathlib.Core.Path.{_≡_}
-use mathlib.Core.Logic.{_⊎_}
 use mathlib.Core.Bool.{cond}
 use mathlib.Core.List.{List, [], _∷_, _++_}
-use Prim.Native.Nat.{ℕ, zero, suc, _+_, _-_, _≤_, _<_}
+use Prim.Native.Nat.{ℕ, zero, suc, _-_}
 use lib.Dec.{ltb}
 use lib.ListN.{length, take, drop}
 use Rattle.lines.specs.Put.{put}
@@ -56,23 +55,3 @@ pub record Block (p : Rule) (most : ℕ) (input d e : List ℕ) (count written :
 -- bytes come next, xs and then what is printed of the rest and them is what is printed of them all.
 pub record Turned (p : Rule) (most : ℕ) (held xs : List ℕ) (left : ℕ) (rest : List ℕ) : Type 0 where
   pub right : (more : List ℕ) → linesOf p most (held ++ more) ≡ xs ++ linesOf p left (rest ++ more)
-
--- what a turn does: b and d are the buffer and the output before it, c and e after it
-pub record Turning (p : Rule) (most have : ℕ) (b d c e : List ℕ) (w h l : ℕ) : Type 0 where
-  pub turned : Turned p most (take have b) (take w e) l (take h c)
-  pub printed : w ≤ length e
-  pub held : h ≤ have
-  pub kept : length c ≡ length b
-  pub spaced : length e ≡ length d
-  pub stop : (l ≡ 0) ⊎ ((h < p .size) ⊎ (length d < w + p .longest))
-
--- The bytes `held`, then blocks as they come, each put after what is held: what is printed at each turn and, at the input's end, of what is left.
-pub data Run (p : Rule) : ℕ → List ℕ → List (List ℕ) → List ℕ → Type 0 where
-  ended : {most : ℕ} {held : List ℕ} → Run p most held [] (linesOf p most held)
-  block : {most : ℕ} {held b xs : List ℕ} {left : ℕ} {rest : List ℕ} {bs : List (List ℕ)} {ys : List ℕ}
-      → Turned p most (held ++ b) xs left rest → Run p left rest bs ys → Run p most held (b ∷ bs) (xs ++ ys)
-
--- the blocks one after another
-abbrev pub joined : List (List ℕ) → List ℕ
-joined [] = []
-joined (b ∷ bs) = b ++ joined bs

@@ -1,11 +1,11 @@
-// An answer's line put into a buffer, and bytes moved to its front. What is printed of records, block by block, is in specs/Stream.antt.
+// An answer's line put into a buffer. What is printed of records, block by block, is in specs/Stream.antt.
 ghost use mathlib.Core.Path.{_≡_};
 ghost use Prim.Native.Nat.{_+_, _≤_};
 ghost use lib.ListN.{length};
 ghost use lib.Dec.{leb};
 ghost use Rattle.lines.specs.Digit.{decimal};
 ghost use Rattle.lines.specs.Line.{okLine, noLine, longest};
-ghost use Rattle.lines.specs.Put.{Wrote, lineInto, lineEnd, shifted};
+ghost use Rattle.lines.specs.Put.{Wrote, lineInto, lineEnd};
 
 pub(crate) mod text;
 
@@ -55,19 +55,5 @@ pub fn put_line(a: Answer, out: &mut [u8], at: usize) -> usize
         put_ok(a.value, out, at)
     } else {
         put_no(a.number as u64, a.axis as u64, a.place as u64, out, at)
-    }
-}
-
-// Moves the n bytes at a place to the front, where they are all there.
-pub fn shift(buf: &mut [u8], from: usize, n: usize)
-    ensures { λ _. ⌜ now (buf .exit) ≡ shifted (now (buf .entry)) from n ⌝ }
-{
-    if !within(from, n, buf.len()) {
-        return;
-    }
-    let mut i: usize = 0;
-    while i < n {
-        buf[i] = buf[from + i];
-        i += 1;
     }
 }

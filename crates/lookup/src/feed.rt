@@ -1,6 +1,6 @@
 // Records from standard input, block by block, to lines on standard output.
 ghost use mathlib.Core.Path.{_≡_};
-ghost use Prim.Native.Nat.{ℕ, _≤_, _<_};
+ghost use Prim.Native.Nat.{_≤_, _<_};
 ghost use lib.ListN.{length, take};
 ghost use Rattle.lines.specs.Feed.{Filled, Stepped, Reached, Ended};
 ghost use Rattle.ninterp.specs.Records.{recordSize, recordRule};
@@ -46,7 +46,7 @@ fn step(
     Next {
         held: rest,
         left: turn.left,
-        go: records::goes_on(ok, full, turn.left, rest >= size),
+        go: input::goes_on(ok, full, turn.left, rest >= size),
         failed: !ok,
     }
 }
@@ -66,7 +66,7 @@ fn last(
     ensures { λ r. ⌜ Ended (recordRule shape (now (nodes .entry)) (now (values .entry))) 1000000 (take r (now (out .exit))) ⌝ }
     ensures { λ r. ⌜ r ≤ length (now (out .exit)) ⌝ }
 {
-    records::finish(held, left, out)
+    input::finish(held, left, out)
 }
 
 // Prints what is printed at the input's end.

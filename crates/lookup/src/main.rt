@@ -2,10 +2,10 @@
 mod feed;
 
 ghost use mathlib.Core.Path.{_≡_};
-ghost use Prim.Native.Nat.{ℕ, _≤_};
+ghost use Prim.Native.Nat.{_≤_};
 ghost use lib.ListN.{length, take};
 ghost use Rattle.lines.specs.Feed.{Filled};
-ghost use Rattle.records.specs.Run.{imageIn};
+ghost use Rattle.input.specs.Input.{imageIn};
 use answer::Answer;
 use image::LoadAnswer;
 use shapes::Shape;
@@ -37,7 +37,7 @@ fn read_image(img: &mut [u8]) -> usize
         return got;
     }
     let head: &[u8] = img;
-    let size = records::image_size(&head[0..40]);
+    let size = input::image_size(&head[0..40]);
     read_rest(img, size)
 }
 

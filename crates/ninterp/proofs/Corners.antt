@@ -17,11 +17,11 @@ use Rattle.shapes.proofs.Totals.{ahead, past}
 use Rattle.table.proofs.Layouts.{place-cons, place-none, size-cons, size-nil, place-below, getD-tabulate}
 use Rattle.blend.specs.Blend.{linear}
 use Rattle.blend.specs.Rust.{diffs, butterfly}
-use Rattle.blend.specs.Folds.{cornerAt, moreCorners}
+use Rattle.blend.specs.Corners.{cornerAt, moreCorners}
 use Rattle.blend.specs.declared.AxisLocation.{AxisLocation}
 use Rattle.blend.specs.declared.AxisLocation.the-variants.{Exact, Between}
-use Rattle.blend.proofs.Bits.{power-suc, low-corner, high-corner, fold-linear}
-use Rattle.blend.proofs.Folds.{butterfly-same, few-diffs, few-corners, more-power}
+use Rattle.blend.proofs.Bits.{power-suc, low-corner, high-corner, fold-linear, butterfly-same}
+use Rattle.blend.proofs.Counts.{few-diffs, few-corners, more-power}
 use Rattle.axis.specs.Locations.{locationIndex, upperOf}
 use Rattle.ninterp.specs.Locations.{Within, cornerPlace}
 

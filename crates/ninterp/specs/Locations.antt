@@ -2,7 +2,7 @@
 use mathlib.Core.List.{List, [], _∷_}
 use Prim.Native.Nat.{ℕ, _<_}
 use Rattle.table.specs.Layout.{place}
-use Rattle.blend.specs.Folds.{cornerAt}
+use Rattle.blend.specs.Corners.{cornerAt}
 use Rattle.blend.specs.declared.AxisLocation.{AxisLocation}
 use Rattle.axis.specs.Locations.{upperOf}
 

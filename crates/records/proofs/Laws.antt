@@ -2,7 +2,7 @@
 use mathlib.Core.Path.{_≡_, refl, sym, ap, ap₂, _∙_}
 use mathlib.Core.Bool.{Bool, true, false, cond}
 use mathlib.Core.List.{List, _++_}
-use Prim.Native.Nat.{ℕ, _+_, _≤_, _<_}
+use Prim.Native.Nat.{ℕ, _≤_}
 use native.Mathlib.Omega.{arith}
 use lib.ListN.{length, take, drop}
 use lib.Seq.{take-at, drop-at}
@@ -13,10 +13,11 @@ use Rattle.words.specs.Words.{wordAt}
 use Rattle.image.specs.Image.{shapeOf, nodesIn, valuesIn}
 use Rattle.image.specs.Load.{headFault, loadFault}
 use Rattle.image.proofs.Heads.{stated-length}
-use Rattle.image.proofs.Laws.{Loadable, load-means}
+use Rattle.image.proofs.Laws.{load-means}
 use Rattle.ninterp.specs.Records.{recordRule}
-use Rattle.records.specs.Run.{imageSize, imageIn, runOf}
-use Rattle.records.proofs.Ends.{head-enough, size-stated}
+use Rattle.input.specs.Input.{imageSize, imageIn}
+use Rattle.input.proofs.Ends.{head-enough, size-stated}
+use Rattle.records.specs.Run.{runOf}
 
 -- an image that loads is as long as it states, so what follows it is records
 module _ (img more : List ℕ) (g : good (loadFault img 256 4096) ≡ true) where

@@ -1,5 +1,4 @@
 pub mod Turning
-pub mod Ends
 pub mod Laws
 pub mod Unique
 pub mod Examples

@@ -1,18 +1,11 @@
 -- The contract of each public function, as it stands in the source (`Post`), allows one outcome, of the result and of what is lent.
 use mathlib.Core.Path.{_≡_}
-use mathlib.Core.Bool.{Bool}
 use mathlib.Core.List.{List}
 use Prim.Native.Nat.{ℕ}
 use denote.Ref.{now}
 use Rattle.answer.proofs.Outcome.{one-outcome}
 use Rattle.records.specs.declared.Turn.{Turn}
-use Rattle.records.proofs.finish.Reads as finish
-use Rattle.records.proofs.goes_on.Reads as goes-on
-use Rattle.records.proofs.image_size.Reads as image-size
 use Rattle.records.proofs.take_turn.Reads as take-turn
-
-pub image-size-unique : (κs : _) (a : _) (r s : ℕ) (x y : _) → image-size.Post κs a r x → image-size.Post κs a s y → r ≡ s
-image-size-unique κs a r s x y p q = one-outcome r s _ p q
 
 pub take-turn-written : (κs : _) (a : _) (r s : Turn) (x y : _) → take-turn.Post κs a r x → take-turn.Post κs a s y → r .written ≡ s .written
 take-turn-written κs a r s x y p q = one-outcome (r .written) (s .written) _ (p .written) (q .written)
@@ -28,12 +21,3 @@ take-turn-buffer κs a r s x y p q = one-outcome (now (x .1 .1 .1 .0)) (now (y .
 
 pub take-turn-bytes : (κs : _) (a : _) (r s : Turn) (x y : _) → take-turn.Post κs a r x → take-turn.Post κs a s y → _≡_ {A = List ℕ} (now (x .1 .1 .1 .1 .1 .1 .0)) (now (y .1 .1 .1 .1 .1 .1 .0))
 take-turn-bytes κs a r s x y p q = one-outcome (now (x .1 .1 .1 .1 .1 .1 .0)) (now (y .1 .1 .1 .1 .1 .1 .0)) _ (p .bytes) (q .bytes)
-
-pub goes-on-unique : (κs : _) (a : _) (r s : Bool) (x y : _) → goes-on.Post κs a r x → goes-on.Post κs a s y → r ≡ s
-goes-on-unique κs a r s x y p q = one-outcome r s _ p q
-
-pub finish-unique : (κs : _) (a : _) (r s : ℕ) (x y : _) → finish.Post κs a r x → finish.Post κs a s y → r ≡ s
-finish-unique κs a r s x y p q = one-outcome r s _ (p .0) (q .0)
-
-pub finish-bytes : (κs : _) (a : _) (r s : ℕ) (x y : _) → finish.Post κs a r x → finish.Post κs a s y → _≡_ {A = List ℕ} (now (x .1 .1 .0)) (now (y .1 .1 .0))
-finish-bytes κs a r s x y p q = one-outcome (now (x .1 .1 .0)) (now (y .1 .1 .0)) _ (p .1) (q .1)

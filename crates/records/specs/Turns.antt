@@ -3,8 +3,9 @@ use mathlib.Core.Path.{_≡_}
 use mathlib.Core.List.{List}
 use Prim.Native.Nat.{ℕ, _-_, _*_}
 use lib.ListN.{length, take}
-use Rattle.lines.specs.Put.{put, shifted}
+use Rattle.lines.specs.Put.{put}
 use Rattle.lines.specs.Stream.{Rule, linesFirst, countOf}
+use Rattle.input.specs.Input.{shifted}
 
 -- how many records are answered of the first `have` bytes of the buffer b, with room in d
 abbrev pub turnCount : Rule → ℕ → ℕ → List ℕ → List ℕ → ℕ

@@ -11,7 +11,7 @@ use Rattle.answer.specs.Answer.{refused}
 use Rattle.lines.specs.Line.{lineOf, longest}
 use Rattle.lines.specs.Put.{lineEnd, roomFor}
 use Rattle.lines.proofs.Shows.{line-fits}
-use Rattle.records.specs.Run.{nothingMore, endSize}
+use Rattle.input.specs.Input.{nothingMore, endSize}
 
 pub end-fits : (rest left : ℕ) (out : List ℕ) → endSize rest left out ≤ length out
 unfolding endSize lineEnd roomFor refused

@@ -61,7 +61,7 @@ fn step(
 
 // Prints what is printed at the input's end.
 fn end(held: usize, left: usize, out: &mut [u8]) {
-    let n = records::finish(held, left, out);
+    let n = input::finish(held, left, out);
     io::write_all(STDOUT_FILENO, &out[..n]);
 }
 

@@ -33,7 +33,7 @@ fn answer_records(run: u64, shape: Shape, nodes: &[f64], values: &[f64], records
 
 // Loads the image at the front of an input, and answers the rest of it.
 fn answer(run: u64, input: &[u8], nodes: &mut [f64], values: &mut [f64]) {
-    let size = counts::least(records::image_size(input), input.len());
+    let size = counts::least(input::image_size(input), input.len());
     let loaded = image::load(&input[..size], nodes, values);
     let answer = loaded.answer;
     if answer.number != 0 {

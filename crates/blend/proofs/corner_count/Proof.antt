@@ -1,21 +1,15 @@
 use Rattle.shapes.proofs.Totals.{counts-least}
 use Rattle.blend.specs.declared.AxisLocation.{AxisLocation}
 use Rattle.blend.specs.Rust.{diffs}
-use Rattle.blend.proofs.Folds.{count-step, count-few, count-none}
-use mathlib.Core.Path.{_≡_, refl, sym, ap, ap₂, _∙_, subst}
-use mathlib.Core.List.{List, [], _∷_, _++_}
-use Prim.Native.Nat.{ℕ, _+_, _-_, _*_, _^_, _≤_, _<_, min}
+use Rattle.blend.proofs.Counts.{count-step, count-none}
+use mathlib.Core.Path.{_≡_, ap, _∙_}
+use mathlib.Core.List.{List}
+use Prim.Native.Nat.{ℕ, _^_, _≤_}
 use native.Mathlib.Omega.{arith}
-use lib.ListN.{length, take, drop, getD}
-use lib.Ieee.{Float, nan}
-use denote.Ref.{now}
+use lib.ListN.{length, take, drop}
 use borrow.Author.Needs.{needs}
 use Rattle.blend.proofs.corner_count.Statement.{statement}
 use Rattle.blend.proofs.corner_count.Tie as tie
-use Rattle.blend.proofs.corner_count.Reads as reads
-use Rattle.blend.proofs.corner_count.Lts as lts
-use Rattle.counts.proofs.least.Reads as least-reads
-use Rattle.blend.proofs.grow.Reads as grow-reads
 
 abbrev Inv-loop : tie.InvT-loop
 Inv-loop n locations count₀ d₀ count d = (d ≤ d₀) × (count ≡ 2 ^ length (diffs (drop d (take d₀ locations))))

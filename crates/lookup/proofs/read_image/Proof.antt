@@ -1,19 +1,8 @@
-use Rattle.records.proofs.Ends.{size-within, head-read, image-read}
-use mathlib.Core.Path.{_≡_, refl, sym, ap, ap₂, _∙_, subst}
-use mathlib.Core.List.{List, [], _∷_, _++_}
-use Prim.Native.Nat.{ℕ, _+_, _-_, _*_, _^_, _≤_, _<_, min}
+use Rattle.input.proofs.Ends.{size-within, head-read, image-read}
 use native.Mathlib.Omega.{arith}
-use lib.ListN.{length, take, drop, getD}
-use lib.Ieee.{Float, nan}
-use denote.Ref.{now}
 use borrow.Author.Needs.{needs}
 use Rattle.lookup.proofs.read_image.Statement.{statement}
 use Rattle.lookup.proofs.read_image.Tie as tie
-use Rattle.lookup.proofs.read_image.Reads as reads
-use Rattle.lookup.proofs.read_image.Lts as lts
-use Rattle.lookup.proofs.read_head.Reads as read-head-reads
-use Rattle.lookup.proofs.read_rest.Reads as read-rest-reads
-use Rattle.records.proofs.image_size.Reads as image-size-reads
 
 -- src/main.rt:35:9
 read-head-requires : tie.Need-read-head-requires

@@ -2,22 +2,14 @@ use lib.Seq.{length-take-le}
 use Rattle.lines.proofs.Blocks.{answered}
 use Rattle.ninterp.specs.Records.{recordSize, recordRule}
 use Rattle.records.proofs.Turning.{there-fits, turn-of}
-use mathlib.Core.Path.{_≡_, refl, sym, ap, ap₂, _∙_, subst}
-use mathlib.Core.List.{List, [], _∷_, _++_}
-use Prim.Native.Nat.{ℕ, _+_, _-_, _*_, _^_, _≤_, _<_, min}
+use mathlib.Core.Path.{sym}
+use Prim.Native.Nat.{_*_, _≤_}
 use native.Mathlib.Omega.{arith}
-use lib.ListN.{length, take, drop, getD}
-use lib.Ieee.{Float, nan}
+use lib.ListN.{length}
 use denote.Ref.{now}
 use borrow.Author.Needs.{needs}
 use Rattle.records.proofs.take_turn.Statement.{statement}
 use Rattle.records.proofs.take_turn.Tie as tie
-use Rattle.records.proofs.take_turn.Reads as reads
-use Rattle.records.proofs.take_turn.Lts as lts
-use Rattle.lines.proofs.shift.Reads as shift-reads
-use Rattle.ninterp.proofs.records.block.answer_block.Reads as answer-block-reads
-use Rattle.records.proofs.used_bytes.Reads as used-bytes-reads
-use Rattle.counts.proofs.least.Reads as least-reads
 
 abbrev start : tie.After-least → tie.Start
 start l = l .before .before .before .before .before

@@ -1,19 +1,11 @@
-use Rattle.records.proofs.Ends.{end-told}
+use Rattle.input.proofs.Ends.{end-told}
 use Rattle.lines.proofs.Feeds.{reached-end}
 use Rattle.ninterp.specs.Records.{recordRule}
-use mathlib.Core.Path.{_≡_, refl, sym, ap, ap₂, _∙_, subst}
-use mathlib.Core.List.{List, [], _∷_, _++_}
-use Prim.Native.Nat.{ℕ, _+_, _-_, _*_, _^_, _≤_, _<_, min}
-use native.Mathlib.Omega.{arith}
-use lib.ListN.{length, take, drop, getD}
-use lib.Ieee.{Float, nan}
+use mathlib.Core.Path.{refl}
 use denote.Ref.{now}
 use borrow.Author.Needs.{needs}
 use Rattle.lookup.proofs.feed.last.Statement.{statement}
 use Rattle.lookup.proofs.feed.last.Tie as tie
-use Rattle.lookup.proofs.feed.last.Reads as reads
-use Rattle.lookup.proofs.feed.last.Lts as lts
-use Rattle.records.proofs.finish.Reads as finish-reads
 
 -- src/feed.rt:74:5
 finish-requires : tie.Need-finish-requires

@@ -1,24 +1,11 @@
 use lib.Seq.{length-take-le}
-use Rattle.lines.specs.Stream.{Turning}
-use Rattle.lines.proofs.Feeds.{stepped}
-use Rattle.ninterp.specs.Records.{recordRule}
-use Rattle.records.proofs.Turning.{turn-turning}
-use mathlib.Core.Path.{_≡_, refl, sym, ap, ap₂, _∙_, subst}
-use mathlib.Core.List.{List, [], _∷_, _++_}
-use Prim.Native.Nat.{ℕ, _+_, _-_, _*_, _^_, _≤_, _<_, min}
-use native.Mathlib.Omega.{arith}
-use lib.ListN.{length, take, drop, getD}
-use lib.Ieee.{Float, nan}
-use denote.Ref.{now}
+use Rattle.records.proofs.Turning.{turn-turning, stepped}
+use mathlib.Core.Path.{sym}
+use Prim.Native.Nat.{_≤_}
+use lib.ListN.{length}
 use borrow.Author.Needs.{needs}
 use Rattle.lookup.proofs.feed.step.Statement.{statement}
 use Rattle.lookup.proofs.feed.step.Tie as tie
-use Rattle.lookup.proofs.feed.step.Reads as reads
-use Rattle.lookup.proofs.feed.step.Lts as lts
-use Rattle.io.proofs.write_all.Reads as write-all-reads
-use Rattle.lookup.proofs.feed.fill.Reads as fill-reads
-use Rattle.records.proofs.goes_on.Reads as goes-on-reads
-use Rattle.records.proofs.take_turn.Reads as take-turn-reads
 
 abbrev start : tie.After-take-turn → tie.Start
 start t = t .before .before .before .before .before .before .before .before .before .before .before

@@ -97,7 +97,7 @@ fn compute(shape: Shape, values: &[f64], locations: [AxisLocation; 4]) -> Answer
     let count = corner_places(counts, locations, axes, places);
     let corners: &[usize] = places;
     let vals = gather(values, corners, count);
-    blend::compute(vals, locations, axes)
+    fold::compute(vals, locations, axes)
 }
 
 // The same of a judged reading, by Linear's rule or by LinearUniform's.

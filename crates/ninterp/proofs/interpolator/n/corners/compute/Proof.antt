@@ -7,8 +7,8 @@ use Rattle.shapes.specs.Shape.{size}
 use Rattle.table.specs.Layout.{place}
 use Rattle.table.proofs.Layouts.{place-below}
 use Rattle.blend.specs.Blend.{computed}
-use Rattle.blend.specs.Folds.{cornerAt}
-use Rattle.blend.proofs.Folds.{few-corners}
+use Rattle.blend.specs.Corners.{cornerAt}
+use Rattle.blend.proofs.Counts.{few-corners}
 use Rattle.ninterp.proofs.Corners.{corner-inside, gathered}
 use borrow.Author.Needs.{needs}
 use Rattle.ninterp.proofs.interpolator.n.corners.compute.Statement.{statement}

@@ -9,9 +9,11 @@ use Rattle.answer.specs.Answer.{refused, answered, fine, good, when, _or_, firs
 use Rattle.answer.specs.declared.Answer.{Answer}
 use Rattle.answer.specs.declared.IndexAnswer.{IndexAnswer}
 use Rattle.judge.specs.Check.{gap, countFault, riseFault, nodeFault, nodesFault, axisFault, finiteFault, lentStepFault, directionFault, readingFault, resultFault, roomFault}
-use Rattle.uniform.specs.Uniform.{uniformCell, uniformIndex, apart, gapFault, uniformFault, toleranceOf}
-use Rattle.uniform.specs.Calls.{uniformReadFault, locateLowerIndexUniform, validateUniformGridEpsilon}
-use Rattle.uniform.specs.declared.Tolerance.the-variants.{Default}
+use Rattle.uniform.specs.Uniform.{uniformCell, uniformIndex}
+use Rattle.grids.specs.Uniform.{apart, gapFault, uniformFault, toleranceOf}
+use Rattle.uniform.specs.Calls.{uniformReadFault, locateLowerIndexUniform}
+use Rattle.grids.specs.Calls.{validateUniformGridEpsilon}
+use Rattle.grids.specs.declared.Tolerance.the-variants.{Default}
 use Rattle.axis.specs.Utils.{howMany, lowerIndex, exactNode, fraction, axisLocation, lowerStep, upperStep, stepIndex}
 use Rattle.utils.specs.Calls.{axisAnswer, axisReadingFault, directedFault, locateLowerIndex, locateAxis, locateStepIndex}
 use Rattle.axis.specs.Picks.{nearestIndex}

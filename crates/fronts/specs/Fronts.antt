@@ -11,7 +11,7 @@ use Rattle.table.specs.Shape.{countsOf}
 use Rattle.table.specs.Table.{frameFault, lengthFault, axesFault}
 use Rattle.lists.specs.Lists.{valuesFault, directionsFault}
 use Rattle.table.specs.declared.Shape.{Shape}
-use Rattle.uniform.specs.Uniform.{axesUniformFault}
+use Rattle.spacing.specs.Uniform.{axesUniformFault}
 
 -- 16: "slice of a one-axis table, no such axis"
 unfoldable pub noAxisFault : Shape → ℕ → Answer

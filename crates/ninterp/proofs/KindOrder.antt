@@ -21,7 +21,7 @@ use Rattle.table.specs.declared.Shape.{Shape}
 use Rattle.table.proofs.Tables.{length-same, shape-four}
 use Rattle.table.proofs.Grids.{frame-shape}
 use Rattle.table.proofs.Layouts.{length-tabulate, getD-tabulate}
-use Rattle.uniform.specs.Uniform.{axesUniformFault}
+use Rattle.spacing.specs.Uniform.{axesUniformFault}
 use Rattle.order.specs.Lookups.{lookupFault, stepFault, linearUniformFault}
 use Rattle.blend.specs.Blend.{computed}
 use Rattle.ninterp.specs.Tables.{picked, nearestRule, stepRule, nearestAnswer, stepAnswer, Judged, pickRule}

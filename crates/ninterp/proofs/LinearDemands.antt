@@ -19,7 +19,7 @@ use Rattle.table.proofs.Shapes.{length-axes}
 use Rattle.table.proofs.Layouts.{tabulate-same, place-below}
 use Rattle.lists.proofs.Rows.{values-finite}
 use Rattle.table.proofs.Grids.{frame-values, grid-of}
-use Rattle.uniform.specs.Uniform.{axesUniformFault}
+use Rattle.spacing.specs.Uniform.{axesUniformFault}
 use Rattle.order.specs.Lookups.{lookupFault, linearUniformFault}
 use Rattle.blend.specs.Blend.{linear, computed}
 use Rattle.blend.specs.Rust.{rustLinear}

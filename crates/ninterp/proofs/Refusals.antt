@@ -16,7 +16,7 @@ use Rattle.blend.specs.Blend.{computed}
 use Rattle.axis.specs.Utils.{axisLocation}
 use Rattle.axis.specs.Locations.{uniformLocation}
 use Rattle.ninterp.specs.Linears.{interpolated, linearAnswer, linearUniformAnswer}
-use Rattle.uniform.proofs.Bares.{bare-uniform}
+use Rattle.spacing.proofs.Bares.{bare-uniform}
 use Rattle.table.proofs.Bares.{bare-length, bare-frame, bare-axes, bare-ranges}
 use Rattle.lists.proofs.Bares.{bare-values, bare-directions, bare-readings}
 use Rattle.answer.proofs.Bares.{Bare, bare-or, row, after, succeeds}

@@ -9,7 +9,7 @@ use Rattle.table.specs.Shape.{countsOf}
 use Rattle.table.specs.Table.{frameFault, lengthFault, axesFault, rangesFault}
 use Rattle.lists.specs.Lists.{valuesFault, directionsFault, readingsFault}
 use Rattle.table.specs.declared.Shape.{Shape}
-use Rattle.uniform.specs.Uniform.{axesUniformFault}
+use Rattle.spacing.specs.Uniform.{axesUniformFault}
 
 -- "Order for a lookup: 1, 2, 3; then each axis node by node (4, 5, 6 at each node); 7; .. 10 for all axes; 11 for all axes"
 unfoldable pub lookupFault : Shape → List Float → List Float → List Float → Answer

@@ -19,8 +19,9 @@ use Rattle.table.proofs.Shapes.{length-axes}
 use Rattle.lists.proofs.Rows.{value-good}
 use Rattle.table.proofs.Layouts.{getD-tabulate, place-below}
 use Rattle.table.proofs.Removals.{indices-back, tabulate-insert, length-without, getD-insert-above}
-use Rattle.uniform.specs.Uniform.{apart, gapFault, uniformFault, toleranceOf, defaultFault, axesUniformFault}
-use Rattle.uniform.specs.declared.Tolerance.the-variants.{Default}
+use Rattle.grids.specs.Uniform.{apart, gapFault, uniformFault, toleranceOf, defaultFault}
+use Rattle.spacing.specs.Uniform.{axesUniformFault}
+use Rattle.grids.specs.declared.Tolerance.the-variants.{Default}
 use Rattle.fronts.specs.Fronts.{notFirstFault, linearFront, linearUniformFront}
 use Rattle.blend.specs.Blend.{blended, sliced, linear, computed}
 use Rattle.runs.specs.Runs.{resultsFault}

@@ -16,7 +16,7 @@ use Rattle.lists.specs.Lists.{valuesFault, directionsFault, rangeFault}
 use Rattle.table.specs.Shape.{countsOf, size, without, axisOf}
 use Rattle.table.specs.Table.{frameFault, lengthFault, axesFault}
 use Rattle.table.specs.declared.Shape.{Shape}
-use Rattle.uniform.specs.Uniform.{axesUniformFault}
+use Rattle.spacing.specs.Uniform.{axesUniformFault}
 use Rattle.runs.specs.Runs.{resultsFault}
 use Rattle.blend.specs.declared.AxisLocation.{AxisLocation}
 use Rattle.axis.specs.Utils.{axisLocation}

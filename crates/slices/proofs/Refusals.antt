@@ -17,7 +17,7 @@ use Rattle.axis.specs.Locations.{uniformLocation}
 use Rattle.slices.specs.LinearSlices.{linearValues, linearRest, linearSliceFault, linearUniformSliceFault}
 use Rattle.slices.specs.Slices.{shapeWithout, pointFault, nearestSliceFault, stepSliceFault, sliceAnswer}
 use Rattle.table.specs.Shape.{noShape}
-use Rattle.uniform.proofs.Bares.{bare-uniform}
+use Rattle.spacing.proofs.Bares.{bare-uniform}
 use Rattle.table.proofs.Bares.{bare-length, bare-frame, bare-axes}
 use Rattle.lists.proofs.Bares.{bare-values, bare-directions, bare-reading, bare-range}
 use Rattle.answer.proofs.Bares.{Bare, bare-or, bare-first, row}

@@ -20,7 +20,7 @@ use Rattle.table.proofs.Grids.{frame-shape, frame-values, grid-of}
 use Rattle.lists.proofs.Rows.{values-finite}
 use Rattle.table.proofs.Tables.{shape-four, length-passed}
 use Rattle.fronts.specs.Fronts.{noAxisFault, notFirstFault, nearestFront, stepFront, linearFront, linearUniformFront}
-use Rattle.uniform.specs.Uniform.{axesUniformFault}
+use Rattle.spacing.specs.Uniform.{axesUniformFault}
 use Rattle.slices.specs.Slices.{shapeWithout, pointFault, sliceAnswer}
 use Rattle.slices.specs.declared.SliceAnswer.{SliceAnswer}
 use Rattle.fronts.proofs.Fronts.{axis-many, axis-in, first-many, first-axis}

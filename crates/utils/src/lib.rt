@@ -1,5 +1,5 @@
 // Single-axis primitives for locating a reading on one axis: four of the seven of the Rust's strategy/utils.rs under their names,
-// total, with the checks in front. The other three are in the crate `uniform`.
+// total, with the checks in front. The other three are in the crates `uniform` and `grids`.
 ghost use mathlib.Core.Path.{_≡_};
 ghost use mathlib.Core.Bool.{true};
 ghost use Prim.Native.Nat.{_+_, _<_, _≤_};

@@ -1,8 +1,8 @@
-use mathlib.Core.Path.{_≡_, refl, sym, ap, ap₂, _∙_}
-use Rattle.uniform.specs.Calls.{lentFault}
+use mathlib.Core.Path.{sym, ap, _∙_}
+use Rattle.grids.specs.Calls.{lentFault}
 use borrow.Author.Needs.{needs}
-use Rattle.uniform.proofs.lent_fault.Statement.{statement}
-use Rattle.uniform.proofs.lent_fault.Tie as tie
+use Rattle.grids.proofs.lent_fault.Statement.{statement}
+use Rattle.grids.proofs.lent_fault.Tie as tie
 
 enum-known-tolerance : tie.Need-enum-known-tolerance
 enum-known-tolerance c = search needs

@@ -1,13 +1,13 @@
-use mathlib.Core.Path.{_≡_, refl, sym, ap, ap₂, _∙_}
+use mathlib.Core.Path.{ap, _∙_}
 use Rattle.answer.proofs.Orders.{passes, or-stops, or-goes-on}
 use Rattle.judge.proofs.Rows.{axis-of}
-use Rattle.uniform.specs.Uniform.{uniformFault}
-use Rattle.uniform.specs.Calls.{validateUniformGridEpsilon}
+use Rattle.grids.specs.Uniform.{uniformFault}
+use Rattle.grids.specs.Calls.{validateUniformGridEpsilon}
 use borrow.Author.Needs.{needs}
-use Rattle.uniform.proofs.validate_uniform_grid_epsilon.Statement.{
+use Rattle.grids.proofs.validate_uniform_grid_epsilon.Statement.{
   statement,
 }
-use Rattle.uniform.proofs.validate_uniform_grid_epsilon.Tie as tie
+use Rattle.grids.proofs.validate_uniform_grid_epsilon.Tie as tie
 
 axis-fault-requires : tie.Need-axis-fault-requires
 axis-fault-requires c κs = search needs

@@ -1,14 +1,14 @@
-use mathlib.Core.Path.{_≡_, refl, sym, ap, ap₂, _∙_}
-use Prim.Native.Nat.{_≤_, _-_, _+_}
+use mathlib.Core.Path.{_≡_, sym, _∙_}
+use Prim.Native.Nat.{_≤_, _-_}
 use native.Mathlib.Omega.{arith}
 use lib.ListN.{length}
 use denote.Ref.{now}
 use borrow.Author.Needs.{needs}
 use Rattle.answer.specs.Answer.{firstOf}
 use Rattle.answer.proofs.Orders.{passes, fails, first-begin, first-step, first-stop, first-end}
-use Rattle.uniform.specs.Uniform.{gapFault, uniformFault}
-use Rattle.uniform.proofs.uniform_fault.Statement.{statement}
-use Rattle.uniform.proofs.uniform_fault.Tie as tie
+use Rattle.grids.specs.Uniform.{gapFault, uniformFault}
+use Rattle.grids.proofs.uniform_fault.Statement.{statement}
+use Rattle.grids.proofs.uniform_fault.Tie as tie
 
 abbrev Inv-loop : tie.InvT-loop
 Inv-loop axis grid tolerance end i₀ i = ((1 ≤ i) × (i ≤ length grid - 1)) × (uniformFault axis grid tolerance ≡ firstOf (gapFault axis grid tolerance) i (length grid - 1 - i))

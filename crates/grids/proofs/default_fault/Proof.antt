@@ -1,9 +1,9 @@
 use mathlib.Core.Path.{ap, _∙_}
-use Rattle.uniform.specs.Uniform.{uniformFault}
-use Rattle.uniform.proofs.Primitives.{few-gaps}
+use Rattle.grids.specs.Uniform.{uniformFault}
+use Rattle.grids.proofs.Primitives.{few-gaps}
 use borrow.Author.Needs.{needs}
-use Rattle.uniform.proofs.default_fault.Statement.{statement}
-use Rattle.uniform.proofs.default_fault.Tie as tie
+use Rattle.grids.proofs.default_fault.Statement.{statement}
+use Rattle.grids.proofs.default_fault.Tie as tie
 
 pass-requires : tie.Need-pass-requires
 pass-requires c κs = search needs

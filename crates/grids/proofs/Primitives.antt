@@ -2,16 +2,14 @@
 use mathlib.Core.Path.{_≡_, sym, ap, _∙_}
 use mathlib.Core.Bool.{true, false}
 use mathlib.Core.List.{List}
-use Prim.Native.Nat.{ℕ, _-_, _≤_, _<_}
+use Prim.Native.Nat.{ℕ, _-_, _<_}
 use native.Mathlib.Omega.{arith}
 use lib.ListN.{length}
 use lib.Ieee.{Float, binary64, lt, sub}
-use Rattle.answer.specs.Answer.{refused, fine, good, _or_}
+use Rattle.answer.specs.Answer.{refused, fine}
 use Rattle.answer.proofs.Orders as orders
-use Rattle.judge.specs.Check.{gap, countFault, finiteFault, lentStepFault, readingFault}
-use Rattle.judge.proofs.Rows.{count-enough}
-use Rattle.uniform.specs.Uniform.{apart, gapFault, uniformFault}
-use Rattle.uniform.specs.Calls.{uniformReadFault}
+use Rattle.judge.specs.Check.{gap}
+use Rattle.grids.specs.Uniform.{apart, gapFault, uniformFault}
 
 -- ---- 8 of an interval
 module _ (axis : ℕ) (nodes : List Float) (tolerance : Float) (i : ℕ) (d : Float) (e : d ≡ apart (gap nodes i) (gap nodes 0)) where

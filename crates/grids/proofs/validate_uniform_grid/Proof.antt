@@ -1,8 +1,7 @@
-use mathlib.Core.Path.{_≡_, refl, sym, ap, ap₂, _∙_}
-use Rattle.uniform.specs.Calls.{validateUniformGrid}
+use Rattle.grids.specs.Calls.{validateUniformGrid}
 use borrow.Author.Needs.{needs}
-use Rattle.uniform.proofs.validate_uniform_grid.Statement.{statement}
-use Rattle.uniform.proofs.validate_uniform_grid.Tie as tie
+use Rattle.grids.proofs.validate_uniform_grid.Statement.{statement}
+use Rattle.grids.proofs.validate_uniform_grid.Tie as tie
 
 validate-uniform-grid-epsilon-requires : tie.Need-validate-uniform-grid-epsilon-requires
 validate-uniform-grid-epsilon-requires c κs = search needs

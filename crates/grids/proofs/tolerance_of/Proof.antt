@@ -1,11 +1,11 @@
-use mathlib.Core.Path.{_≡_, refl, sym, ap, ap₂, _∙_}
+use mathlib.Core.Path.{sym, ap}
 use denote.Ref.{now}
 use lib.Ieee.{ofBits}
 use Rattle.judge.specs.Check.{gap}
-use Rattle.uniform.specs.Uniform.{toleranceOf}
+use Rattle.grids.specs.Uniform.{toleranceOf}
 use borrow.Author.Needs.{needs}
-use Rattle.uniform.proofs.tolerance_of.Statement.{statement}
-use Rattle.uniform.proofs.tolerance_of.Tie as tie
+use Rattle.grids.proofs.tolerance_of.Statement.{statement}
+use Rattle.grids.proofs.tolerance_of.Tie as tie
 
 enum-known-tolerance : tie.Need-enum-known-tolerance
 enum-known-tolerance c = search needs

@@ -1,7 +1,7 @@
-use mathlib.Core.Path.{_≡_, refl, sym, ap, _∙_, subst}
-use Prim.Native.Nat.{ℕ, _+_, _-_, _*_, _≤_, _<_, min}
+use mathlib.Core.Path.{_≡_, refl, sym, ap, _∙_}
+use Prim.Native.Nat.{ℕ, _-_, _≤_}
 use native.Mathlib.Omega.{arith}
-use lib.ListN.{length, take, drop, getD}
+use lib.ListN.{length, take, getD}
 use denote.Ref.{now}
 use borrow.Author.Needs.{needs}
 use Rattle.answer.specs.Answer.{firstOf}
@@ -9,10 +9,11 @@ use mathlib.Core.List.{[]}
 use lib.Seq.{length-take-le}
 use Rattle.answer.proofs.Orders.{passes, fails, first-begin, first-step, first-stop, first-end}
 use Rattle.table.specs.Shape.{axesOf}
-use Rattle.uniform.specs.Uniform.{defaultFault, axesUniformFault}
+use Rattle.grids.specs.Uniform.{defaultFault}
+use Rattle.spacing.specs.Uniform.{axesUniformFault}
 use Rattle.table.proofs.Shapes.{length-ids, counts-least, Walk, walk-axis, walk-on}
-use Rattle.uniform.proofs.axes_uniform_fault.Statement.{statement}
-use Rattle.uniform.proofs.axes_uniform_fault.Tie as tie
+use Rattle.spacing.proofs.axes_uniform_fault.Statement.{statement}
+use Rattle.spacing.proofs.axes_uniform_fault.Tie as tie
 
 abbrev Inv-loop : tie.InvT-loop
 Inv-loop nodes counts axes at₀ a₀ at a = ((a ≤ axes) × (at ≤ length nodes)) × ((Walk (take axes counts) nodes a at) × (axesUniformFault (take axes counts) nodes ≡ firstOf (λ k. defaultFault k (getD (axesOf (take axes counts) nodes) k [])) a (axes - a)))

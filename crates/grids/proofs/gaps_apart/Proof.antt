@@ -1,6 +1,6 @@
-use Rattle.uniform.proofs.Primitives.{apart-wider, apart-narrower}
-use Rattle.uniform.proofs.gaps_apart.Statement.{statement}
-use Rattle.uniform.proofs.gaps_apart.Tie as tie
+use Rattle.grids.proofs.Primitives.{apart-wider, apart-narrower}
+use Rattle.grids.proofs.gaps_apart.Statement.{statement}
+use Rattle.grids.proofs.gaps_apart.Tie as tie
 
 returns : tie.Need-returns
 returns c = apart-wider _ _ (c .if1 .taken)

@@ -1,9 +1,9 @@
-use mathlib.Core.Path.{_≡_, refl, sym, ap, ap₂, _∙_}
+use mathlib.Core.Path.{_∙_}
 use Rattle.judge.specs.Check.{gap}
-use Rattle.uniform.proofs.Primitives.{gap-far, gap-near}
+use Rattle.grids.proofs.Primitives.{gap-far, gap-near}
 use borrow.Author.Needs.{needs}
-use Rattle.uniform.proofs.gap_fault.Statement.{statement}
-use Rattle.uniform.proofs.gap_fault.Tie as tie
+use Rattle.grids.proofs.gap_fault.Statement.{statement}
+use Rattle.grids.proofs.gap_fault.Tie as tie
 
 shared-slice-read-step : tie.Need-shared-slice-read-step
 shared-slice-read-step c = search needs

@@ -14,9 +14,10 @@ use Rattle.grids.specs.Uniform.{apart, gapFault, uniformFault, toleranceOf}
 use Rattle.uniform.specs.Calls.{uniformReadFault, locateLowerIndexUniform}
 use Rattle.grids.specs.Calls.{validateUniformGridEpsilon}
 use Rattle.grids.specs.declared.Tolerance.the-variants.{Default}
-use Rattle.axis.specs.Utils.{howMany, lowerIndex, exactNode, fraction, axisLocation, lowerStep, upperStep, stepIndex}
+use Rattle.picks.specs.Utils.{howMany, lowerIndex, lowerStep, upperStep, stepIndex}
+use Rattle.axis.specs.Utils.{exactNode, fraction, axisLocation}
 use Rattle.utils.specs.Calls.{axisAnswer, axisReadingFault, directedFault, locateLowerIndex, locateAxis, locateStepIndex}
-use Rattle.axis.specs.Picks.{nearestIndex}
+use Rattle.picks.specs.Picks.{nearestIndex}
 use Rattle.ninterp.specs.Tables.{indices, picked, nearestAnswer}
 use Rattle.ninterp.specs.Linears.{locations, interpolated, linearAnswer}
 use Rattle.slices.specs.Slices.{shapeWithout, pointFault, sliceAnswer}

@@ -1,7 +1,7 @@
 // The program's records: a kind byte and one reading for each axis. What a table's own checks give is found once and lent to each record.
 ghost use mathlib.Core.Path.{_≡_};
 ghost use mathlib.Core.Bool.{true};
-ghost use Prim.Native.Nat.{_+_, _*_, _≤_};
+ghost use Prim.Native.Nat.{_≤_};
 ghost use lib.Dec.{leb, eqb};
 ghost use lib.ListN.{length, take, getD};
 ghost use Rattle.answer.specs.Answer.{good, when, _or_};

@@ -20,11 +20,12 @@ use Rattle.blend.specs.declared.AxisLocation.the-variants.{Exact}
 use Rattle.utils.specs.declared.ExactAnswer.{ExactAnswer}
 use Rattle.utils.specs.declared.AxisAnswer.{AxisAnswer}
 use Rattle.judge.proofs.Rows.{axis-of, reading-finite, direction-passed}
-use Rattle.axis.specs.Utils.{axisLocation, stepIndex}
-use Rattle.axis.specs.Picks.{pickFound}
+use Rattle.axis.specs.Utils.{axisLocation}
+use Rattle.picks.specs.Utils.{stepIndex}
+use Rattle.picks.specs.Picks.{pickFound}
 use Rattle.axis.specs.Locations.{locationFound}
 use Rattle.axis.proofs.Located.{location-found}
-use Rattle.axis.proofs.Picks.{step-found}
+use Rattle.picks.proofs.Picks.{step-found}
 
 -- ---- an answer with what it gives
 module _ (r a : Answer) (e : r ≡ a) where

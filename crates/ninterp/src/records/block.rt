@@ -1,6 +1,6 @@
 // A block of records to a block of lines: the table is judged once for all of them.
 ghost use mathlib.Core.Path.{_≡_};
-ghost use Prim.Native.Nat.{ℕ, _+_, _≤_};
+ghost use Prim.Native.Nat.{_+_, _≤_};
 ghost use lib.ListN.{length};
 ghost use Rattle.table.specs.Shape.{countsOf};
 ghost use Rattle.spacing.specs.Uniform.{axesUniformFault};

@@ -10,7 +10,7 @@ ghost use Rattle.table.specs.Table.{Grid};
 ghost use Rattle.answer.specs.Answer.{answered};
 ghost use Rattle.ninterp.specs.Tables.{indices, picked, Judged, pickRule};
 use answer::Answer;
-use axis::pick;
+use picks::pick;
 use table::Shape;
 
 // The flat place of the index list.

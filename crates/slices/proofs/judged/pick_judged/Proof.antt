@@ -1,14 +1,12 @@
-use mathlib.Core.Path.{_≡_, refl, sym, ap, _∙_, subst}
+use mathlib.Core.Path.{sym}
 use native.Mathlib.Omega.{arith}
-use Prim.Native.Nat.{ℕ, _≤_, _<_}
-use lib.ListN.{length, getD}
+use lib.ListN.{length}
 use denote.Ref.{now}
 use Rattle.answer.proofs.Orders.{passes}
-use Rattle.table.specs.Shape.{countsOf, size, without, sliceValues}
+use Rattle.table.specs.Shape.{countsOf}
 use Rattle.table.proofs.Removals.{length-slice}
-use Rattle.axis.specs.Picks.{pickIndex}
+use Rattle.picks.specs.Picks.{pickIndex}
 use Rattle.table.specs.Shape.{axisOf}
-use Rattle.slices.specs.Slices.{pointFault}
 use Rattle.slices.proofs.Sliced.{slice-refused, slice-made, out-kept, out-written, point-finite, point-room}
 use borrow.Author.Needs.{needs}
 use Rattle.slices.proofs.judged.pick_judged.Statement.{statement}

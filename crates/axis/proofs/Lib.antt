@@ -1,12 +1,4 @@
-pub mod Counts
-pub mod Axes
-pub mod Steps
-pub mod Cells
-pub mod Nearests
 pub mod Exacts
-pub mod Rusts
 pub mod Laws
-pub mod Nodes
-pub mod Picks
 pub mod Located
 pub mod Unique

@@ -13,11 +13,12 @@ use Rattle.answer.specs.Answer.{plusZero}
 use Rattle.judge.specs.Check.{node, gap, Axis}
 use Rattle.uniform.specs.Uniform.{uniformCell, uniformIndex}
 use Rattle.blend.specs.declared.AxisLocation.{AxisLocation}
-use Rattle.blend.specs.declared.AxisLocation.the-variants.{Exact, Between}
-use Rattle.axis.specs.Utils.{lowerIndex, exactNode, exactOr, fraction, axisLocation}
+use Rattle.blend.specs.declared.AxisLocation.the-variants.{Between}
+use Rattle.picks.specs.Utils.{lowerIndex}
+use Rattle.picks.proofs.Cells.{cell-inside}
+use Rattle.axis.specs.Utils.{exactNode, exactOr, fraction, axisLocation}
 use Rattle.axis.specs.declared.locate.MaybeIndex.the-variants.{Some, None}
 use Rattle.axis.specs.Locations.{uniformLocation, locationBy, locationFound, upperOf}
-use Rattle.axis.proofs.Axes.{lower-fits}
 
 -- ---- on one axis
 pub cell-fits : (n : ℕ) (t : Float) → 2 ≤ n → uniformCell n t + 1 < n
@@ -43,9 +44,9 @@ module _ (xs : List Float) (p : Float) (ax : Axis xs) (fp : finite p ≡ true) w
   exact-fits = go (eq (node xs (lowerIndex xs p)) p) (eq (node xs (lowerIndex xs p + 1)) p)
     where
       go : (b c : Bool) → upperOf (exactOr (cond b (Some (lowerIndex xs p)) (cond c (Some (lowerIndex xs p + 1)) None)) (Between (lowerIndex xs p) (fraction xs (lowerIndex xs p) p))) < length xs
-      go true c = omega (arith, lower-fits xs p ax fp)
-      go false true = lower-fits xs p ax fp
-      go false false = lower-fits xs p ax fp
+      go true c = omega (arith, cell-inside xs p (ax .enough))
+      go false true = cell-inside xs p (ax .enough)
+      go false false = cell-inside xs p (ax .enough)
 
   pub location-fits : (uniform : Bool) → upperOf (locationBy uniform xs p) < length xs
   location-fits true = uniform-fits

@@ -7,7 +7,6 @@ use Rattle.axis.specs.declared.locate.MaybeIndex.{MaybeIndex}
 use Rattle.axis.proofs.locate.exact_node.Reads as exact-node
 use Rattle.axis.proofs.locate.location_by.Reads as location-by
 use Rattle.axis.proofs.locate.lower_node.Reads as lower-node
-use Rattle.axis.proofs.pick.pick_index.Reads as pick-index
 
 pub exact-node-unique : (κs : _) (a : _) (r s : MaybeIndex) (x y : _) → exact-node.Post κs a r x → exact-node.Post κs a s y → r ≡ s
 exact-node-unique κs a r s x y p q = one-outcome r s _ p q
@@ -17,6 +16,3 @@ location-by-unique κs a r s x y p q = one-outcome r s _ p q
 
 pub lower-node-unique : (κs : _) (a : _) (r s : ℕ) (x y : _) → lower-node.Post κs a r x → lower-node.Post κs a s y → r ≡ s
 lower-node-unique κs a r s x y p q = one-outcome r s _ p q
-
-pub pick-index-unique : (κs : _) (a : _) (r s : ℕ) (x y : _) → pick-index.Post κs a r x → pick-index.Post κs a s y → r ≡ s
-pick-index-unique κs a r s x y p q = one-outcome r s _ p q

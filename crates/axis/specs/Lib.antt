@@ -1,4 +1,2 @@
 pub mod Utils
-pub mod Rust
-pub mod Picks
 pub mod Locations

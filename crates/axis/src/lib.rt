@@ -1,5 +1,3 @@
 // Where a reading lies on one axis. The primitives, the table rules and the slices share this. It judges nothing and takes any nodes and any reading
 // at all: a board calls `utils`, `ninterp` and `slices`, which judge first.
-pub(crate) mod cell;
 pub mod locate;
-pub mod pick;

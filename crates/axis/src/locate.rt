@@ -4,8 +4,8 @@ ghost use Prim.Native.Nat.{_≤_};
 ghost use lib.ListN.{length};
 ghost use Rattle.axis.specs.Utils.{exactNode, axisLocation};
 ghost use Rattle.axis.specs.Locations.{locationIndex, uniformLocation, locationFound};
-use crate::cell;
 use blend::AxisLocation;
+use picks::cell;
 
 // An index, or none: the Rust's Option<usize>.
 pub enum MaybeIndex {

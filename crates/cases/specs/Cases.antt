@@ -11,12 +11,15 @@ use Rattle.answer.specs.declared.IndexAnswer.{IndexAnswer}
 use Rattle.judge.specs.Check.{gap, riseFault, nodeFault, nodesFault, axisFault}
 use Rattle.counts.specs.Counts.{countFault, directionFault, roomFault, lengthFault, notFirstFault}
 use Rattle.numbers.specs.Numbers.{finiteFault, lentStepFault, readingFault, resultFault}
-use Rattle.uniform.specs.Uniform.{uniformCell, uniformIndex, apart, gapFault, uniformFault, toleranceOf}
-use Rattle.uniform.specs.Calls.{uniformReadFault, locateLowerIndexUniform, validateUniformGridEpsilon}
-use Rattle.uniform.specs.declared.Tolerance.the-variants.{Default}
-use Rattle.axis.specs.Utils.{howMany, lowerIndex, exactNode, fraction, axisLocation, lowerStep, upperStep, stepIndex}
+use Rattle.uniform.specs.Uniform.{uniformCell, uniformIndex}
+use Rattle.grids.specs.Uniform.{apart, gapFault, uniformFault, toleranceOf}
+use Rattle.uniform.specs.Calls.{uniformReadFault, locateLowerIndexUniform}
+use Rattle.grids.specs.Calls.{validateUniformGridEpsilon}
+use Rattle.grids.specs.declared.Tolerance.the-variants.{Default}
+use Rattle.picks.specs.Utils.{howMany, lowerIndex, lowerStep, upperStep, stepIndex}
+use Rattle.axis.specs.Utils.{exactNode, fraction, axisLocation}
 use Rattle.utils.specs.Calls.{axisAnswer, axisReadingFault, directedFault, locateLowerIndex, locateAxis, locateStepIndex}
-use Rattle.axis.specs.Picks.{nearestIndex}
+use Rattle.picks.specs.Picks.{nearestIndex}
 use Rattle.ninterp.specs.Tables.{indices, picked, nearestAnswer}
 use Rattle.ninterp.specs.Linears.{locations, interpolated, linearAnswer}
 use Rattle.slices.specs.Slices.{shapeWithout, pointFault, sliceAnswer}

@@ -12,7 +12,7 @@ use Rattle.table.specs.Table.{axesFault}
 use Rattle.values.specs.Values.{valuesFault}
 use Rattle.lists.specs.Lists.{directionsFault}
 use Rattle.shapes.specs.declared.Shape.{Shape}
-use Rattle.uniform.specs.Uniform.{axesUniformFault}
+use Rattle.spacing.specs.Uniform.{axesUniformFault}
 
 -- "A slice inserts 16 after 3 .."
 unfoldable pub nearestFront : Shape → List Float → List Float → ℕ → Answer

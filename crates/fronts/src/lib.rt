@@ -71,5 +71,5 @@ pub fn linear_uniform_front(shape: Shape, nodes: &[f64], values: &[f64], axis: u
     if fault.number != 0 {
         return fault;
     }
-    uniform::axes_uniform_fault(shape, nodes)
+    spacing::axes_uniform_fault(shape, nodes)
 }

@@ -30,9 +30,9 @@ use Rattle.lists.proofs.Rows.{range-inside}
 use Rattle.table.proofs.Grids.{frame-axes, grid-of}
 use Rattle.order.specs.Lookups.{lookupFault, stepFault}
 use Rattle.ninterp.specs.Tables.{indices, picked, nearestRule, stepRule, nearestAnswer, stepAnswer}
-use Rattle.axis.specs.Rust.{rustStep}
-use Rattle.axis.proofs.Laws.{Held}
-use Rattle.axis.proofs.Nodes.{step-rust, nearest-on-node, step-on-node}
+use Rattle.picks.specs.Rust.{rustStep}
+use Rattle.picks.proofs.Laws.{Held}
+use Rattle.picks.proofs.Nodes.{step-rust, nearest-on-node, step-on-node}
 
 -- ---- an accepted table, and finite readings in range
 pub record Accepted (s : Shape) (nodes values : List Float) : Type 0 where

@@ -23,7 +23,7 @@ use Rattle.shapes.specs.declared.Shape.{Shape}
 use Rattle.shapes.proofs.Frames.{shape-four}
 use Rattle.table.proofs.Grids.{frame-shape}
 use Rattle.table.proofs.Layouts.{length-tabulate, getD-tabulate}
-use Rattle.uniform.specs.Uniform.{axesUniformFault}
+use Rattle.spacing.specs.Uniform.{axesUniformFault}
 use Rattle.order.specs.Lookups.{lookupFault, stepFault, linearUniformFault}
 use Rattle.blend.specs.Blend.{computed}
 use Rattle.ninterp.specs.Tables.{picked, nearestRule, stepRule, nearestAnswer, stepAnswer, Judged, pickRule}

@@ -24,7 +24,7 @@ use Rattle.table.proofs.Walks.{length-axes}
 use Rattle.table.proofs.Layouts.{tabulate-same, place-below}
 use Rattle.values.proofs.Rows.{values-finite}
 use Rattle.table.proofs.Grids.{frame-values, grid-of}
-use Rattle.uniform.specs.Uniform.{axesUniformFault}
+use Rattle.spacing.specs.Uniform.{axesUniformFault}
 use Rattle.order.specs.Lookups.{lookupFault, linearUniformFault}
 use Rattle.blend.specs.Blend.{linear, computed}
 use Rattle.blend.specs.Rust.{rustLinear}

@@ -24,10 +24,10 @@ use Rattle.shapes.proofs.Frames.{shape-four}
 use Rattle.table.proofs.Layouts.{tabulate-same}
 use Rattle.table.proofs.Grids.{frame-shape, frame-values, frame-axes, grid-of}
 use Rattle.lists.proofs.Rows.{readings-finite}
-use Rattle.axis.specs.Utils.{stepIndex}
-use Rattle.uniform.specs.Uniform.{axesUniformFault}
+use Rattle.picks.specs.Utils.{stepIndex}
+use Rattle.spacing.specs.Uniform.{axesUniformFault}
 use Rattle.order.specs.Lookups.{lookupFault, stepFault, linearUniformFault}
-use Rattle.axis.specs.Picks.{nearestIndex, pickIndex}
+use Rattle.picks.specs.Picks.{nearestIndex, pickIndex}
 use Rattle.ninterp.specs.Tables.{indices, picked, nearestRule, stepRule, Judged, pickRule}
 use Rattle.ninterp.specs.Kinds.{fourOf}
 

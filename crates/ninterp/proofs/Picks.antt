@@ -16,8 +16,8 @@ use Rattle.table.proofs.Walks.{length-axes, Walk, walk-here, walk-axis, walk-on
 use Rattle.table.proofs.Layouts.{length-tabulate, getD-tabulate, place-below, place-step, place-fits, place-done, inside-tabulate}
 use Rattle.table.proofs.Grids.{length-axis}
 use Rattle.ninterp.specs.Tables.{indices, pickRule}
-use Rattle.axis.specs.Picks.{pickIndex, pickFound}
-use Rattle.axis.proofs.Picks.{pick-fits, pick-found}
+use Rattle.picks.specs.Picks.{pickIndex, pickFound}
+use Rattle.picks.proofs.Picks.{pick-fits, pick-found}
 
 -- ---- the index list lies in the table, for any rule whose indexes are of their axes
 module _ (rule : ℕ → List Float → Float → ℕ) (counts : List ℕ) (nodes readings : List Float) (flat : length nodes ≡ total counts)

@@ -16,7 +16,7 @@ use Rattle.blend.specs.Blend.{computed}
 use Rattle.axis.specs.Utils.{axisLocation}
 use Rattle.axis.specs.Locations.{uniformLocation}
 use Rattle.ninterp.specs.Linears.{interpolated, linearAnswer, linearUniformAnswer}
-use Rattle.uniform.proofs.Bares.{bare-uniform}
+use Rattle.spacing.proofs.Bares.{bare-uniform}
 use Rattle.counts.proofs.Bares.{bare-length}
 use Rattle.shapes.proofs.Bares.{bare-frame}
 use Rattle.table.proofs.Bares.{bare-axes, bare-ranges}

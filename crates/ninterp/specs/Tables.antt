@@ -13,8 +13,8 @@ use Rattle.table.specs.Layout.{axesOf, table, tabulate}
 use Rattle.table.specs.Table.{Grid}
 use Rattle.shapes.specs.declared.Shape.{Shape}
 use Rattle.order.specs.Lookups.{lookupFault, stepFault}
-use Rattle.axis.specs.Utils.{stepIndex}
-use Rattle.axis.specs.Picks.{nearestIndex, pickIndex}
+use Rattle.picks.specs.Utils.{stepIndex}
+use Rattle.picks.specs.Picks.{nearestIndex, pickIndex}
 
 -- a rule gives each axis an index, from the axis's number, its nodes and its reading: the stored value there
 unfoldable pub indices : (ℕ → List Float → Float → ℕ) → List (List Float) → List Float → List ℕ

@@ -1,14 +1,14 @@
 // The program's records: a kind byte and one reading for each axis. What a table's own checks give is found once and lent to each record.
 ghost use mathlib.Core.Path.{_≡_};
 ghost use mathlib.Core.Bool.{true};
-ghost use Prim.Native.Nat.{_+_, _*_, _≤_};
+ghost use Prim.Native.Nat.{_≤_};
 ghost use lib.Dec.{leb, eqb};
 ghost use lib.ListN.{length, take, getD};
 ghost use Rattle.answer.specs.Answer.{good, when, _or_};
 ghost use Rattle.shapes.specs.Shape.{countsOf};
 ghost use Rattle.lists.specs.Lists.{readingsFault};
 ghost use Rattle.table.specs.Table.{rangesFault};
-ghost use Rattle.uniform.specs.Uniform.{axesUniformFault};
+ghost use Rattle.spacing.specs.Uniform.{axesUniformFault};
 ghost use Rattle.ninterp.specs.Tables.{Judged};
 ghost use Rattle.ninterp.specs.Records.{kindAnswer, recordSize, recordReadings, recordAnswer};
 ghost use Rattle.ninterp.specs.Kinds.{tableFault, kindFault, pickOf, kindFound};
@@ -144,6 +144,6 @@ pub fn record_answer(shape: Shape, nodes: &[f64], values: &[f64], rec: &[u8]) ->
         return answer::refuse(3, 0, 2);
     }
     let table = table_fault(shape, nodes, values);
-    let uniform = uniform::axes_uniform_fault(shape, nodes);
+    let uniform = spacing::axes_uniform_fault(shape, nodes);
     whole_answer(shape, nodes, values, table, uniform, rec)
 }

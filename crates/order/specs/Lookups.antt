@@ -12,7 +12,7 @@ use Rattle.table.specs.Table.{axesFault, rangesFault}
 use Rattle.values.specs.Values.{valuesFault}
 use Rattle.lists.specs.Lists.{directionsFault, readingsFault}
 use Rattle.shapes.specs.declared.Shape.{Shape}
-use Rattle.uniform.specs.Uniform.{axesUniformFault}
+use Rattle.spacing.specs.Uniform.{axesUniformFault}
 
 -- "Order for a lookup: 1, 2, 3; then each axis node by node (4, 5, 6 at each node); 7; .. 10 for all axes; 11 for all axes"
 unfoldable pub lookupFault : Shape → List Float → List Float → List Float → Answer

@@ -104,7 +104,7 @@ pub fn linear_uniform_fault(shape: Shape, nodes: &[f64], values: &[f64], point: 
     if fault.number != 0 {
         return fault;
     }
-    let fault = uniform::axes_uniform_fault(shape, nodes);
+    let fault = spacing::axes_uniform_fault(shape, nodes);
     if fault.number != 0 {
         return fault;
     }

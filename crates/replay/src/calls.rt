@@ -6,7 +6,7 @@ use answer::Answer;
 use answer::IndexAnswer;
 use axis::locate::MaybeIndex;
 use blend::AxisLocation;
-use uniform::Tolerance;
+use grids::Tolerance;
 use utils::AxisAnswer;
 use utils::ExactAnswer;
 
@@ -76,7 +76,7 @@ fn locate_lower_index_uniform(call: Header) -> Reply {
 
 fn validate_uniform_grid(nodes: &[f64], call: Header) -> Reply {
     let tolerance = binary64::float_of_bits(call.second);
-    of_check(uniform::validate_uniform_grid(nodes, tolerance))
+    of_check(grids::validate_uniform_grid(nodes, tolerance))
 }
 
 fn validate_uniform_grid_epsilon(nodes: &[f64], call: Header) -> Reply {
@@ -86,7 +86,7 @@ fn validate_uniform_grid_epsilon(nodes: &[f64], call: Header) -> Reply {
         1 => Tolerance::Lent(binary64::float_of_bits(call.second)),
         _ => return Reply::Bad,
     };
-    of_check(uniform::validate_uniform_grid_epsilon(nodes, tolerance))
+    of_check(grids::validate_uniform_grid_epsilon(nodes, tolerance))
 }
 
 // Bad where the list's format has no such call.

@@ -32,7 +32,7 @@ use Rattle.table.proofs.Layouts.{length-tabulate, getD-tabulate}
 use Rattle.table.proofs.Removals.{size-split, size-without, length-without, getD-without, getD-without-below, axes-without, total-without, length-insert, getD-insert, getD-insert-below, getD-insert-above}
 use Rattle.table.proofs.Grids.{length-axis}
 use Rattle.lists.proofs.Rows.{readings-finite}
-use Rattle.uniform.specs.Uniform.{axesUniformFault}
+use Rattle.spacing.specs.Uniform.{axesUniformFault}
 use Rattle.order.specs.Lookups.{lookupFault, linearUniformFault}
 use Rattle.slices.specs.Slices.{shapeWithout, lowered}
 use Rattle.slices.proofs.Sliced.{Sliceable}

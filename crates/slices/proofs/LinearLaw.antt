@@ -22,8 +22,9 @@ use Rattle.table.proofs.Walks.{length-axes}
 use Rattle.values.proofs.Rows.{value-good}
 use Rattle.table.proofs.Layouts.{getD-tabulate, place-below}
 use Rattle.table.proofs.Removals.{indices-back, tabulate-insert, length-without, getD-insert-above}
-use Rattle.uniform.specs.Uniform.{apart, gapFault, uniformFault, toleranceOf, defaultFault, axesUniformFault}
-use Rattle.uniform.specs.declared.Tolerance.the-variants.{Default}
+use Rattle.grids.specs.Uniform.{apart, gapFault, uniformFault, toleranceOf, defaultFault}
+use Rattle.spacing.specs.Uniform.{axesUniformFault}
+use Rattle.grids.specs.declared.Tolerance.the-variants.{Default}
 use Rattle.counts.specs.Counts.{notFirstFault}
 use Rattle.fronts.specs.Fronts.{linearFront, linearUniformFront}
 use Rattle.blend.specs.Blend.{blended, sliced, linear, computed}

@@ -27,13 +27,13 @@ use Rattle.values.proofs.Rows.{value-good, values-finite}
 use Rattle.table.proofs.Layouts.{getD-tabulate, place-below, indices-inside}
 use Rattle.table.proofs.Removals.{length-without, getD-without, getD-without-below, length-slice, insert-inside, getD-insert, getD-insert-below, getD-insert-above, tabulate-insert, slice-law}
 use Rattle.table.proofs.Grids.{length-axis}
-use Rattle.axis.specs.Utils.{stepIndex}
+use Rattle.picks.specs.Utils.{stepIndex}
 use Rattle.order.specs.Lookups.{stepFault}
-use Rattle.axis.specs.Picks.{nearestIndex}
+use Rattle.picks.specs.Picks.{nearestIndex}
 use Rattle.ninterp.specs.Tables.{indices, picked, nearestRule, stepRule, nearestAnswer, stepAnswer}
 use Rattle.fronts.specs.Fronts.{nearestFront, stepFront}
 use Rattle.slices.specs.Slices.{shapeWithout, pointFault, nearestSliceFault, stepSliceFault, ruleSlice, lowered}
-use Rattle.axis.proofs.Picks.{step-fits, nearest-fits}
+use Rattle.picks.proofs.Picks.{step-fits, nearest-fits}
 use Rattle.ninterp.proofs.Picks.{list-inside}
 use Rattle.slices.proofs.Sliced.{Sliceable, nearest-sliceable, step-sliceable, step-axis-lent, point-finite, point-range}
 use Rattle.slices.proofs.Lowered as low

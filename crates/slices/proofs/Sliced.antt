@@ -25,7 +25,7 @@ use Rattle.table.proofs.Grids.{frame-shape, frame-values, grid-of}
 use Rattle.values.proofs.Rows.{values-finite}
 use Rattle.shapes.proofs.Frames.{shape-four}
 use Rattle.fronts.specs.Fronts.{nearestFront, stepFront, linearFront, linearUniformFront}
-use Rattle.uniform.specs.Uniform.{axesUniformFault}
+use Rattle.spacing.specs.Uniform.{axesUniformFault}
 use Rattle.slices.specs.Slices.{shapeWithout, pointFault, sliceAnswer}
 use Rattle.slices.specs.declared.SliceAnswer.{SliceAnswer}
 

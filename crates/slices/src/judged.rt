@@ -9,7 +9,7 @@ ghost use lib.Ieee.Scale.{finite};
 ghost use Rattle.shapes.specs.Shape.{countsOf, size};
 ghost use Rattle.table.specs.Layout.{without, sliceValues, axisOf};
 ghost use Rattle.table.specs.Table.{Grid};
-ghost use Rattle.axis.specs.Picks.{pickIndex};
+ghost use Rattle.picks.specs.Picks.{pickIndex};
 ghost use Rattle.slices.specs.Slices.{pointFault, sliceAnswer};
 ghost use Rattle.answer.specs.Answer.{filledInto};
 ghost use Rattle.runs.specs.Runs.{resultsFault};
@@ -20,8 +20,8 @@ use crate::remaining;
 use crate::written;
 use answer::Answer;
 use axis::locate;
-use axis::pick;
 use blend::AxisLocation;
+use picks::pick;
 use shapes::Shape;
 
 // The slice at a pick's index on one axis: 0 Lower, 1 Upper, anything else Nearest.

@@ -1,4 +1,3 @@
 pub mod Wholes
-pub mod Primitives
 pub mod Unique
 pub mod Bares

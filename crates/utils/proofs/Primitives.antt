@@ -24,11 +24,12 @@ use Rattle.utils.specs.declared.AxisAnswer.{AxisAnswer}
 use Rattle.judge.proofs.Rows.{axis-of}
 use Rattle.numbers.proofs.Rows.{reading-finite}
 use Rattle.counts.proofs.Rows.{direction-passed}
-use Rattle.axis.specs.Utils.{axisLocation, stepIndex}
-use Rattle.axis.specs.Picks.{pickFound}
+use Rattle.axis.specs.Utils.{axisLocation}
+use Rattle.picks.specs.Utils.{stepIndex}
+use Rattle.picks.specs.Picks.{pickFound}
 use Rattle.axis.specs.Locations.{locationFound}
 use Rattle.axis.proofs.Located.{location-found}
-use Rattle.axis.proofs.Picks.{step-found}
+use Rattle.picks.proofs.Picks.{step-found}
 
 -- ---- an answer with what it gives
 module _ (r a : Answer) (e : r ≡ a) where

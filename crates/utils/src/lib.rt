@@ -1,12 +1,12 @@
 // Single-axis primitives for locating a reading on one axis: four of the seven of the Rust's strategy/utils.rs under their names,
-// total, with the checks in front. The other three are in the crate `uniform`.
+// total, with the checks in front. The other three are in the crates `uniform` and `grids`.
 ghost use mathlib.Core.Path.{_≡_};
 ghost use mathlib.Core.Bool.{true};
 ghost use Prim.Native.Nat.{_+_, _<_, _≤_};
 ghost use lib.ListN.{length};
 ghost use lib.Ieee.Scale.{finite};
 ghost use Rattle.judge.specs.Check.{Axis};
-ghost use Rattle.axis.specs.Utils.{lowerIndex};
+ghost use Rattle.picks.specs.Utils.{lowerIndex};
 ghost use Rattle.utils.specs.Calls.{locationFraction, axisReadingFault, directedFault, lowerFault, exactFault, locateLowerIndex, exactIndex, locateAxis, locateStepIndex};
 use answer::Answer;
 use answer::IndexAnswer;
@@ -132,7 +132,7 @@ pub fn locate_step_index(direction: u8, grid: &[f64], point: f64) -> IndexAnswer
     if answer.number != 0 {
         return IndexAnswer { answer, index: 0 };
     }
-    let index = axis::pick::pick_index(direction, grid, point);
+    let index = picks::pick::pick_index(direction, grid, point);
     IndexAnswer { answer, index }
 }
 

@@ -1,9 +1,9 @@
 // A block of records to a block of lines: the table is judged once for all of them.
 ghost use mathlib.Core.Path.{_≡_};
-ghost use Prim.Native.Nat.{ℕ, _+_, _≤_};
+ghost use Prim.Native.Nat.{_+_, _≤_};
 ghost use lib.ListN.{length};
 ghost use Rattle.shapes.specs.Shape.{countsOf};
-ghost use Rattle.uniform.specs.Uniform.{axesUniformFault};
+ghost use Rattle.spacing.specs.Uniform.{axesUniformFault};
 ghost use Rattle.lines.specs.Line.{lineOf, longest};
 ghost use Rattle.lines.specs.Put.{Wrote};
 ghost use Rattle.lines.specs.Stream.{Block};
@@ -91,7 +91,7 @@ pub fn answer_block(
         };
     }
     let table = records::table_fault(shape, nodes, values);
-    let uniform = uniform::axes_uniform_fault(shape, nodes);
+    let uniform = spacing::axes_uniform_fault(shape, nodes);
     let size = 1 + 8 * shape.axes;
     answer_records(
         shape,

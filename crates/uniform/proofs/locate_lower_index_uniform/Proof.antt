@@ -1,4 +1,3 @@
-use mathlib.Core.Path.{_≡_, refl, sym, ap, ap₂, _∙_}
 use Rattle.answer.proofs.Orders.{index-refused, index-given}
 use Rattle.uniform.specs.Calls.{locateLowerIndexUniform}
 use borrow.Author.Needs.{needs}

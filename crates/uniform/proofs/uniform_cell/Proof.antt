@@ -1,9 +1,8 @@
-use mathlib.Core.Path.{_≡_, refl, sym, ap, ap₂, _∙_}
+use mathlib.Core.Path.{sym}
 use mathlib.Core.Path.{subst}
 use lib.Dec.{T}
-use lib.Ieee.{ofBits, neg}
+use lib.Ieee.{ofBits}
 use Rattle.uniform.proofs.Wholes.{above-minus-one, cell-none, cell-below, cell-far, cell-whole, cell-last}
-use borrow.Author.Needs.{needs}
 use Rattle.uniform.proofs.uniform_cell.Statement.{statement}
 use Rattle.uniform.proofs.uniform_cell.Tie as tie
 

@@ -1,4 +1,3 @@
-use mathlib.Core.Path.{_≡_, refl, sym, ap, ap₂, _∙_}
 use Rattle.uniform.specs.Uniform.{uniformIndex}
 use borrow.Author.Needs.{needs}
 use Rattle.uniform.proofs.uniform_index.Statement.{statement}

@@ -1,4 +1,4 @@
-use mathlib.Core.Path.{_≡_, refl, sym, ap, ap₂, _∙_}
+use mathlib.Core.Path.{_≡_}
 use mathlib.Core.Logic.{⊎-elim}
 use mathlib.Core.Bool.{true}
 use mathlib.Core.List.{List}
@@ -9,16 +9,17 @@ use lib.ListN.{length}
 use lib.Ieee.{Float}
 use lib.Ieee.Scale.{finite}
 use borrow.Author.Needs.{needs}
-use Rattle.axis.proofs.Axes.{Bracket, bracket-start, bracket-up, bracket-down, lower-fits, lowest, highest, met-above, met-first, met-never}
+use Rattle.picks.proofs.Cells.{cell-inside}
+use Rattle.picks.proofs.Axes.{Bracket, bracket-start, bracket-up, bracket-down, lowest, highest, met-above, met-first, met-never}
 use Rattle.binary64.proofs.Order.{le-of-lt}
 use Rattle.judge.specs.Check.{Axis}
-use Rattle.axis.specs.Utils.{lowerIndex}
+use Rattle.picks.specs.Utils.{lowerIndex}
 use Rattle.utils.proofs.lower_index.Statement.{statement}
 use Rattle.utils.proofs.lower_index.Tie as tie
 
 -- the index with the bound that it keeps
 fit : (xs : List Float) (p : Float) (ax : Axis xs) (fp : finite p ≡ true) (r : ℕ) → r ≡ lowerIndex xs p → (r ≡ lowerIndex xs p) × (r + 1 < length xs)
-fit xs p ax fp r e = let f : lowerIndex xs p + 1 < length xs = lower-fits xs p ax fp in (e, omega arith)
+fit xs p ax fp r e = let f : lowerIndex xs p + 1 < length xs = cell-inside xs p (ax .enough) in (e, omega arith)
 
 abbrev Inv-loop : tie.InvT-loop
 Inv-loop grid point n low₀ high₀ low high = Bracket grid point low high

@@ -2,8 +2,6 @@ use Rattle.axis.proofs.Exacts.{exact-past, exact-lower, exact-last, exa
 use borrow.Author.Needs.{needs}
 use Rattle.axis.proofs.locate.exact_node.Statement.{statement}
 use Rattle.axis.proofs.locate.exact_node.Tie as tie
-use Rattle.axis.proofs.locate.exact_node.Reads as reads
-use Rattle.axis.proofs.locate.exact_node.Lts as lts
 
 -- src/locate.rt:21:9
 returns : tie.Need-returns

@@ -4,10 +4,6 @@ use Rattle.axis.proofs.Located.{location-none, location-some}
 use borrow.Author.Needs.{needs}
 use Rattle.axis.proofs.locate.location_by.Statement.{statement}
 use Rattle.axis.proofs.locate.location_by.Tie as tie
-use Rattle.axis.proofs.locate.location_by.Reads as reads
-use Rattle.axis.proofs.locate.location_by.Lts as lts
-use Rattle.axis.proofs.locate.uniform_location.Reads as uniform-location-reads
-use Rattle.axis.proofs.locate.axis_location.Reads as axis-location-reads
 
 uniform-location-requires : tie.Need-uniform-location-requires
 uniform-location-requires c κs = search needs

@@ -1,4 +1,4 @@
-use mathlib.Core.Path.{_≡_, ap}
+use mathlib.Core.Path.{ap}
 use Prim.Native.Nat.{ℕ, _+_, _<_}
 use native.Mathlib.Omega.{arith}
 use lib.ListN.{length}
@@ -9,9 +9,6 @@ use Rattle.axis.proofs.Located.{uniform-index-fits}
 use borrow.Author.Needs.{needs}
 use Rattle.axis.proofs.locate.uniform_location.Statement.{statement}
 use Rattle.axis.proofs.locate.uniform_location.Tie as tie
-use Rattle.axis.proofs.locate.uniform_location.Reads as reads
-use Rattle.axis.proofs.locate.uniform_location.Lts as lts
-use Rattle.uniform.proofs.uniform_index.Reads as uniform-index-reads
 
 -- src/locate.rt:57:16
 shared-slice-read-step : tie.Need-shared-slice-read-step

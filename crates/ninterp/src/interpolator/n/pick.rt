@@ -11,7 +11,7 @@ ghost use Rattle.table.specs.Table.{Grid};
 ghost use Rattle.answer.specs.Answer.{answered};
 ghost use Rattle.ninterp.specs.Tables.{indices, picked, Judged, pickRule};
 use answer::Answer;
-use axis::pick;
+use picks::pick;
 use shapes::Shape;
 
 // The flat place of the index list.

@@ -1,14 +1,12 @@
-use mathlib.Core.Path.{_≡_, refl, sym, ap, _∙_, subst}
+use mathlib.Core.Path.{sym}
 use native.Mathlib.Omega.{arith}
-use Prim.Native.Nat.{ℕ, _≤_, _<_}
-use lib.ListN.{length, getD}
+use lib.ListN.{length}
 use denote.Ref.{now}
 use Rattle.answer.proofs.Orders.{passes}
-use Rattle.shapes.specs.Shape.{countsOf, size}
-use Rattle.table.specs.Layout.{without, sliceValues, axisOf}
+use Rattle.shapes.specs.Shape.{countsOf}
 use Rattle.table.proofs.Removals.{length-slice}
-use Rattle.axis.specs.Picks.{pickIndex}
-use Rattle.slices.specs.Slices.{pointFault}
+use Rattle.picks.specs.Picks.{pickIndex}
+use Rattle.table.specs.Layout.{axisOf}
 use Rattle.slices.proofs.Sliced.{slice-refused, slice-made, out-kept, out-written, point-finite, point-room}
 use borrow.Author.Needs.{needs}
 use Rattle.slices.proofs.judged.pick_judged.Statement.{statement}

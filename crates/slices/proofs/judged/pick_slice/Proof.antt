@@ -1,5 +1,5 @@
-use mathlib.Core.Path.{_≡_, refl, sym, ap, _∙_, subst}
-use Prim.Native.Nat.{ℕ, suc, _+_, _-_, _*_, _/_, _%_, _≤_, _<_}
+use mathlib.Core.Path.{_≡_, refl, ap, _∙_}
+use Prim.Native.Nat.{ℕ, _+_, _-_, _≤_, _<_}
 use native.Mathlib.Omega.{arith}
 use lib.ListN.{length, take, drop, getD}
 use denote.Ref.{now}
@@ -7,8 +7,8 @@ use mathlib.Core.List.{List}
 use Rattle.shapes.proofs.Totals.{length-ids}
 use lib.Ieee.{Float}
 use Rattle.judge.specs.Check.{Axis}
-use Rattle.axis.specs.Picks.{pickIndex}
-use Rattle.axis.proofs.Picks.{pick-found, pick-fits}
+use Rattle.picks.specs.Picks.{pickIndex}
+use Rattle.picks.proofs.Picks.{pick-found, pick-fits}
 use Rattle.slices.proofs.Slices.{few-at, some-at, axis-ends, axis-lies, inner-some, inner-few, part-axis, part-index, fill-room, fill-reads, fill-result}
 use borrow.Author.Needs.{needs}
 use Rattle.slices.proofs.judged.pick_slice.Statement.{statement}

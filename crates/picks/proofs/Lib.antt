@@ -1,0 +1,10 @@
+pub mod Counts
+pub mod Cells
+pub mod Axes
+pub mod Steps
+pub mod Nearests
+pub mod Rusts
+pub mod Laws
+pub mod Nodes
+pub mod Picks
+pub mod Unique

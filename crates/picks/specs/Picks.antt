@@ -1,0 +1,24 @@
+-- The node of an axis that Nearest or Step takes. They share their code: a pick of 0 is Lower, of 1 Upper, of anything else Nearest.
+use mathlib.Core.Bool.{cond}
+use mathlib.Core.List.{List}
+use Prim.Native.Nat.{ℕ, _+_}
+use lib.Dec.{ltb}
+use lib.ListN.{length}
+use lib.Ieee.{Float, binary64, lt, sub}
+use Rattle.judge.specs.Check.{node}
+use Rattle.picks.specs.Utils.{lowerIndex, stepIndex}
+use Rattle.picks.specs.Rust.{rustStep}
+
+-- "the lower node if (p - lower) is less than (upper - p) as rounded, else the upper"
+abbrev pub nearer : List Float → ℕ → Float → ℕ
+nearer nodes lower p = cond (lt (sub binary64 p (node nodes lower)) (sub binary64 (node nodes (lower + 1)) p)) lower (lower + 1)
+
+unfoldable pub nearestIndex : List Float → Float → ℕ
+nearestIndex nodes p = nearer nodes (lowerIndex nodes p) p
+
+unfoldable pub pickIndex : ℕ → List Float → Float → ℕ
+pickIndex pick nodes p = cond (ltb pick 2) (stepIndex pick nodes p) (nearestIndex nodes p)
+
+-- what the code gives, of any list at all: `rustStep` for Step, and 0 where there is no cell. On a good axis it is `pickIndex` (`pick-found`)
+unfoldable pub pickFound : ℕ → List Float → Float → ℕ
+pickFound pick nodes p = cond (ltb (length nodes) 2) 0 (cond (ltb pick 2) (rustStep pick nodes p) (nearestIndex nodes p))

@@ -19,7 +19,8 @@ use Rattle.uniform.specs.Uniform.{uniformIndex, uniformCell}
 use Rattle.picks.specs.Utils.{howMany, lowerIndex}
 use Rattle.picks.proofs.Cells.{cell-inside}
 use Rattle.picks.proofs.Axes.{cell-high}
-use Rattle.picks.proofs.Laws.{Held, from-lower, before-node, at-lower}
+use Rattle.binary64.proofs.Held.{Held}
+use Rattle.picks.proofs.Laws.{from-lower, before-node, at-lower}
 use Rattle.blend.specs.declared.AxisLocation.the-variants.{Exact}
 use Rattle.axis.specs.Utils.{exactNode, fraction, axisLocation}
 use Rattle.axis.specs.declared.locate.MaybeIndex.the-variants.{Some}

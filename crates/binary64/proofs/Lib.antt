@@ -2,4 +2,5 @@ pub mod Order
 pub mod Difference
 pub mod Quotient
 pub mod Finite
+pub mod Held
 pub mod Unique

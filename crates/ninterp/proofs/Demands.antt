@@ -31,7 +31,7 @@ use Rattle.table.proofs.Grids.{frame-axes, grid-of}
 use Rattle.order.specs.Lookups.{lookupFault, stepFault}
 use Rattle.ninterp.specs.Tables.{indices, picked, nearestRule, stepRule, nearestAnswer, stepAnswer}
 use Rattle.picks.specs.Rust.{rustStep}
-use Rattle.picks.proofs.Laws.{Held}
+use Rattle.binary64.proofs.Held.{Held}
 use Rattle.picks.proofs.Nodes.{step-rust, nearest-on-node, step-on-node}
 
 -- ---- an accepted table, and finite readings in range

@@ -19,10 +19,6 @@ use Rattle.picks.proofs.Cells.{cell-inside}
 use Rattle.picks.proofs.Axes.{rises-all, climbs, AtMost, Below, below-count, lower-at, cell-low, cell-high, lowest}
 use Rattle.picks.proofs.Steps.{inside-is, at-most, under-lower, under-upper, over-lower, over-upper}
 
--- every node is a number that binary64 holds
-abbrev pub Held : List Float → Type 0
-Held xs = (i : ℕ) → T (fits binary64 (node xs i))
-
 module _ (xs : List Float) (p : Float) (ax : Axis xs) (fp : finite p ≡ true) where
   abbrev first : Float
   first = node xs 0

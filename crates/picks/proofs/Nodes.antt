@@ -16,7 +16,8 @@ use Rattle.picks.specs.Picks.{nearer, nearestIndex}
 use Rattle.picks.specs.Rust.{lowerBy, upperBy, rustStep}
 use Rattle.picks.proofs.Axes.{rises-all}
 use Rattle.picks.proofs.Steps.{lower-step-last, on-upper, on-lower, upper-step-first, past-first}
-use Rattle.picks.proofs.Laws.{Held, node-lower, node-upper, at-lower}
+use Rattle.binary64.proofs.Held.{Held}
+use Rattle.picks.proofs.Laws.{node-lower, node-upper, at-lower}
 
 -- ---- the step index is the Rust's expression
 module _ (xs : List Float) (p : Float) (ax : Axis xs) (fp : finite p ≡ true) where

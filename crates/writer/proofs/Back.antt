@@ -10,6 +10,7 @@ use lib.Seq.{take-at, drop-at}
 use lib.Ieee.{Float, nan, binary64, ofBits, toBits, fits}
 use lib.Ieee.Bits.{ofBits-toBits, toBits-lt, ofBits-fits}
 use lib.Ieee.Fits.{nan-fits}
+use Rattle.binary64.proofs.Held.{Held}
 use Rattle.words.specs.Words.{ofBytes, toBytes, wordAt, floatAt}
 use Rattle.words.proofs.Bytes.{length-bytes, bytes-back}
 use Rattle.image.specs.Image.{floatsAt}
@@ -52,9 +53,7 @@ fields-back (f ∷ fs) p q at e h =
       subst (λ (k : List ℕ). Fields fs k (at + f .0)) (sym (rest-of p w (fieldBytes fs) q at (f .0) e l)) (fields-back fs (p ++ w) q (at + f .0) (rest-at p w (fieldBytes fs) q at (f .0) e l) (h .1)),
     )
 
--- ---- floats: what a slice of f64 holds, and nothing else
-abbrev pub Held : List Float → Type 0
-Held xs = (i : ℕ) → T (fits binary64 (getD xs i nan))
+-- ---- floats
 
 -- "Nodes and values are f64 bits.": the sign of a zero and a subnormal's bits among them
 float-back : (x : Float) (p q : List ℕ) (at : ℕ) → length p ≡ at → T (fits binary64 x) → floatAt (p ++ (toBytes 8 (toBits binary64 x) ++ q)) at ≡ x

@@ -21,7 +21,8 @@ use Rattle.writer.specs.Made.{axisAt, valuesAt, imageLength, countIn, of
 use Rattle.writer.specs.Write.{plain}
 use Rattle.writer.proofs.Headers.{count-in, next-at, length-small, at-before, values-before, count-in-few}
 use Rattle.writer.proofs.Images.{length-header, length-floats}
-use Rattle.writer.proofs.Back.{Fit, Fields, fields-back, Held, floats-back, floats-add}
+use Rattle.binary64.proofs.Held.{Held}
+use Rattle.writer.proofs.Back.{Fit, Fields, fields-back, floats-back, floats-add}
 
 pub count-some-of : (s : Shape) (a : ℕ) → countIn s a ≡ getD (countsOf s) a 0
 unfolding countIn

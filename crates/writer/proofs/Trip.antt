@@ -35,7 +35,8 @@ use Rattle.writer.specs.Write.{writeFault, writeAnswer, plain, written}
 use Rattle.writer.proofs.Headers.{first-at, next-at, axis-after, at-before, values-after, values-end, values-before, length-small, count-in}
 use Rattle.writer.proofs.Images.{length-image}
 use Rattle.writer.proofs.Writes.{written-shape, written-nodes, written-values, written-axes, written-stored}
-use Rattle.writer.proofs.Back.{Held, floats-held, held-append}
+use Rattle.binary64.proofs.Held.{Held}
+use Rattle.writer.proofs.Back.{floats-held, held-append}
 use Rattle.writer.proofs.Made as made
 
 passed : (a : Answer) → fine ≡ a → good a ≡ true

@@ -1,6 +1,6 @@
 -- Laws of orders of checks: what `or`, `when`, `given` and `firstOf` come to, once it is known which fault is there.
 use mathlib.Core.Path.{_≡_, refl, sym, ap, ap₂, _∙_, subst}
-use mathlib.Core.Bool.{Bool, true, false, not, cond}
+use mathlib.Core.Bool.{Bool, true, false, cond}
 use Prim.Native.Nat.{ℕ, zero, suc, _+_, _-_, _≤_, _<_}
 use mathlib.Core.Logic.{_⊎_, inl, inr}
 use native.Mathlib.Nat.{eq-or-lt-of-le}
@@ -9,7 +9,7 @@ use native.Mathlib.Omega.{arith}
 use borrow.Author.Tests.{eq-eqb, ne-eqb}
 use lib.Dec.{T, eqb}
 use lib.Ieee.{Float}
-use Rattle.answer.specs.Answer.{plusZero, refused, answered, fine, good, when, _or_, firstOf, given, indexAnswer}
+use Rattle.answer.specs.Answer.{refused, answered, fine, good, when, _or_, firstOf, given, indexAnswer}
 use Rattle.answer.specs.declared.Answer.{Answer}
 use Rattle.answer.specs.declared.IndexAnswer.{IndexAnswer}
 

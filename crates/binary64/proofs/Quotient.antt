@@ -1,11 +1,11 @@
 -- The quotient a / b of two finite numbers with 0 ≤ a ≤ b and 0 < b is finite and lies between 0 and 1, both included. Assumes nothing.
-use mathlib.Core.Path.{_≡_, refl, sym, ap, ap₂, _∙_, subst}
-use mathlib.Core.Bool.{Bool, true, false, not, _&&_, _||_, cond}
-use Prim.Native.Nat.{ℕ, zero, suc, _+_, _*_, _<_, _≤_}
+use mathlib.Core.Path.{_≡_, refl, sym, ap, _∙_, subst}
+use mathlib.Core.Bool.{Bool, true, false, cond}
+use Prim.Native.Nat.{ℕ, zero, suc, _*_, _<_, _≤_}
 use native.Mathlib.Nat.{mul-pos, zero-mul}
 use native.Mathlib.Omega.{arith}
 use lib.IntN.{ℤ, pos}
-use lib.Dec.{T, ltb, eqb, ltb→lt, lt→ltb, leb}
+use lib.Dec.{T, ltb, eqb, ltb→lt, lt→ltb}
 use borrow.Author.Tests.{ne-eqb, leb-true, ltb-true}
 use lib.Ieee.{Float, nan, inf, fin, Format, binary64, up, down, round, div, lt, le, eq, unlike}
 use lib.Ieee.Fits.{down-pos, up-pos}

@@ -6,9 +6,8 @@ use mathlib.Core.List.{List}
 use Prim.Native.Nat.{ℕ, zero, suc, _+_, _-_, _≤_, _<_, min, zero-le}
 use native.Mathlib.Nat.{eq-or-lt-of-le}
 use native.Mathlib.Omega.{arith}
-use lib.Dec.{T}
 use lib.ListN.{length}
-use lib.Ieee.{Float, binary64, lt, le, eq, fits}
+use lib.Ieee.{Float, lt, le, eq}
 use lib.Ieee.Scale.{finite}
 use Rattle.answer.proofs.Orders.{clash}
 use Rattle.binary64.proofs.Order as order

@@ -1,6 +1,6 @@
 // Numbers as little-endian bytes, for every place and width: bytes that are not there are not looked at.
 ghost use mathlib.Core.Path.{_≡_};
-ghost use Prim.Native.Nat.{ℕ, _+_, _-_, _*_, _^_, _<_, _≤_, min};
+ghost use Prim.Native.Nat.{_+_, _-_, _*_, _^_, _<_, _≤_, min};
 ghost use lib.ListN.{length, getD};
 ghost use Rattle.words.specs.Words.{wordAt, floatAt};
 

@@ -1,6 +1,6 @@
 use mathlib.Core.Path.{refl}
 use lib.Ieee.{ofBits}
-use Rattle.answer.specs.Answer.{refused, answered}
+use Rattle.answer.specs.Answer.{refused}
 use Rattle.answer.proofs.refuse.Statement.{statement}
 use Rattle.answer.proofs.refuse.Tie as tie
 use Rattle.answer.proofs.refuse.Reads as reads

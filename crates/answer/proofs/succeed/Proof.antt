@@ -1,6 +1,5 @@
 use mathlib.Core.Path.{refl}
-use lib.Ieee.{ofBits}
-use Rattle.answer.specs.Answer.{refused, answered}
+use Rattle.answer.specs.Answer.{answered}
 use Rattle.answer.proofs.succeed.Statement.{statement}
 use Rattle.answer.proofs.succeed.Tie as tie
 use Rattle.answer.proofs.succeed.Reads as reads

@@ -1,7 +1,7 @@
 -- Only a finite number less itself is a zero.
 use mathlib.Core.Path.{_≡_, refl}
 use mathlib.Core.Logic.{inl, inr}
-use mathlib.Core.Bool.{Bool, true, false}
+use mathlib.Core.Bool.{true, false}
 use lib.Ieee.{Float, nan, inf, fin, binary64, sub, eq, ofBits}
 use lib.Ieee.Scale.{finite}
 use Rattle.binary64.proofs.Order.{eq-refl}

@@ -1,4 +1,4 @@
-use mathlib.Core.Path.{_≡_, sym, ap, _∙_}
+use mathlib.Core.Path.{_∙_}
 use Rattle.counts.proofs.Rows.{count-low, count-high, count-fine}
 use borrow.Author.Needs.{needs}
 use Rattle.counts.proofs.count_fault.Statement.{statement}

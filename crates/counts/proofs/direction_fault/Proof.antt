@@ -1,4 +1,4 @@
-use mathlib.Core.Path.{_≡_, sym, ap, _∙_}
+use mathlib.Core.Path.{_∙_}
 use Rattle.counts.proofs.Rows.{direction-other, direction-fine}
 use borrow.Author.Needs.{needs}
 use Rattle.counts.proofs.direction_fault.Statement.{statement}

@@ -1,4 +1,4 @@
-use mathlib.Core.Path.{_≡_, refl, sym, ap, _∙_, subst}
+use mathlib.Core.Path.{_∙_}
 use Rattle.counts.proofs.Rows.{length-same, length-differs}
 use borrow.Author.Needs.{needs}
 use Rattle.counts.proofs.length_fault.Statement.{statement}

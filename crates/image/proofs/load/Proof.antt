@@ -4,12 +4,9 @@ use Rattle.answer.proofs.Orders.{passes}
 use Rattle.image.specs.Image.{nodesIn, valuesIn}
 use Rattle.image.specs.Load.{loadFault}
 use Rattle.image.proofs.Loads.{load-refused, load-made, out-kept, out-filled, load-shape, nodes-room, values-room, nodes-fit, values-fit}
-use mathlib.Core.Path.{_≡_, refl, sym, ap, ap₂, _∙_, subst}
-use mathlib.Core.List.{List, [], _∷_, _++_}
-use Prim.Native.Nat.{ℕ, _+_, _-_, _*_, _^_, _≤_, _<_, min}
-use native.Mathlib.Omega.{arith}
-use lib.ListN.{length, take, drop, getD}
-use lib.Ieee.{Float, nan}
+use mathlib.Core.Path.{_≡_}
+use Prim.Native.Nat.{_-_}
+use lib.ListN.{length}
 use denote.Ref.{now}
 use borrow.Author.Needs.{needs}
 use Rattle.image.proofs.load.Statement.{statement}

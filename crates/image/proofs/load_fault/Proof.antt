@@ -4,14 +4,10 @@ use Rattle.answer.specs.declared.Answer.{Answer}
 use Rattle.answer.proofs.Orders.{passes, or-stops, or-goes-on}
 use Rattle.shapes.specs.Frame.{shapeFault}
 use Rattle.image.specs.Image.{shapeOf}
-use Rattle.image.specs.Load.{headFault, areasFault, roomsFault, contentsFault, loadFault}
+use Rattle.image.specs.Load.{headFault, areasFault, loadFault}
 use Rattle.image.proofs.Heads.{head-shape}
-use mathlib.Core.Path.{_≡_, refl, sym, ap, ap₂, _∙_, subst}
-use mathlib.Core.List.{List, [], _∷_, _++_}
-use Prim.Native.Nat.{ℕ, _+_, _-_, _*_, _^_, _≤_, _<_, min}
-use native.Mathlib.Omega.{arith}
-use lib.ListN.{length, take, drop, getD}
-use lib.Ieee.{Float, nan}
+use mathlib.Core.Path.{_≡_}
+use Prim.Native.Nat.{_-_}
 use denote.Ref.{now}
 use borrow.Author.Needs.{needs}
 use Rattle.image.proofs.load_fault.Statement.{statement}

@@ -1,4 +1,4 @@
-use mathlib.Core.Path.{_≡_, sym, ap, _∙_}
+use mathlib.Core.Path.{sym, _∙_}
 use Rattle.answer.proofs.Orders.{passes, fails, or-good, or-bad}
 use Rattle.judge.specs.Check.{axisFault}
 use borrow.Author.Needs.{needs}

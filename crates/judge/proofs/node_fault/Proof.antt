@@ -1,4 +1,4 @@
-use mathlib.Core.Path.{_≡_, sym, _∙_}
+use mathlib.Core.Path.{_∙_}
 use Rattle.judge.proofs.Rows.{node-wild, node-first, node-rises}
 use borrow.Author.Needs.{needs}
 use Rattle.judge.proofs.node_fault.Statement.{statement}

@@ -1,4 +1,4 @@
-use mathlib.Core.Path.{_≡_, sym, ap, _∙_}
+use mathlib.Core.Path.{sym, _∙_}
 use Rattle.judge.proofs.Rows.{rise-level, rise-far, rise-fine}
 use borrow.Author.Needs.{needs}
 use Rattle.judge.proofs.rise_fault.Statement.{statement}

@@ -1,6 +1,5 @@
-use mathlib.Core.Path.{_≡_, refl, sym, ap, _∙_, subst}
+use mathlib.Core.Path.{_≡_, sym, ap, _∙_}
 use Rattle.lists.proofs.Rows.{range-under, range-over, range-inside}
-use mathlib.Core.Bool.{Bool, true, false}
 use lib.ListN.{getD, length}
 use lib.Ieee.{Float, nan, lt}
 use Prim.Native.Nat.{ℕ, _-_}

@@ -1,12 +1,10 @@
 use lib.ListN.{length-drop}
 use lib.Seq.{length-take-le}
 use Rattle.lines.proofs.Feeds.{filled}
-use mathlib.Core.Path.{_≡_, refl, sym, ap, ap₂, _∙_, subst}
-use mathlib.Core.List.{List, [], _∷_, _++_}
-use Prim.Native.Nat.{ℕ, _+_, _-_, _*_, _^_, _≤_, _<_, min}
+use mathlib.Core.Path.{_≡_}
+use Prim.Native.Nat.{_-_}
 use native.Mathlib.Omega.{arith}
-use lib.ListN.{length, take, drop, getD}
-use lib.Ieee.{Float, nan}
+use lib.ListN.{length, take, drop}
 use denote.Ref.{now}
 use borrow.Author.Needs.{needs}
 use Rattle.lookup.proofs.read_rest.Statement.{statement}

@@ -1,4 +1,4 @@
-use mathlib.Core.Path.{_≡_, sym, _∙_}
+use mathlib.Core.Path.{sym, _∙_}
 use Rattle.numbers.proofs.Rows.{finite-fine, finite-wild}
 use borrow.Author.Needs.{needs}
 use Rattle.numbers.proofs.finite_fault.Statement.{statement}

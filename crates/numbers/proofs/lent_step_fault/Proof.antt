@@ -1,4 +1,4 @@
-use mathlib.Core.Path.{_≡_, sym, _∙_}
+use mathlib.Core.Path.{sym, _∙_}
 use lib.Ieee.{ofBits}
 use Rattle.numbers.proofs.Rows.{step-wild, step-down, step-fine}
 use borrow.Author.Needs.{needs}

@@ -1,4 +1,4 @@
-use mathlib.Core.Path.{_≡_, sym, ap, _∙_}
+use mathlib.Core.Path.{sym, _∙_}
 use Rattle.numbers.proofs.Rows.{reading-fine, reading-wild}
 use borrow.Author.Needs.{needs}
 use Rattle.numbers.proofs.reading_fault.Statement.{statement}

@@ -1,4 +1,4 @@
-use mathlib.Core.Path.{_≡_, sym, ap, _∙_}
+use mathlib.Core.Path.{sym, _∙_}
 use Rattle.numbers.proofs.Rows.{result-fine, result-wild}
 use borrow.Author.Needs.{needs}
 use Rattle.numbers.proofs.result_fault.Statement.{statement}

@@ -1,4 +1,4 @@
-use mathlib.Core.Path.{_≡_, sym, ap, _∙_}
+use mathlib.Core.Path.{sym, _∙_}
 use lib.Ieee.{ofBits}
 use Rattle.numbers.proofs.Rows.{tolerance-wild, tolerance-below, tolerance-fine}
 use borrow.Author.Needs.{needs}

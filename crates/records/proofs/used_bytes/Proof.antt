@@ -1,13 +1,9 @@
 use native.Mathlib.Nat.{zero-mul}
 use Rattle.ninterp.specs.Records.{recordSize}
 use Rattle.records.proofs.Turning.{one-of}
-use mathlib.Core.Path.{_≡_, refl, sym, ap, ap₂, _∙_, subst}
-use mathlib.Core.List.{List, [], _∷_, _++_}
-use Prim.Native.Nat.{ℕ, _+_, _-_, _*_, _^_, _≤_, _<_, min}
+use mathlib.Core.Path.{sym, ap, _∙_}
+use Prim.Native.Nat.{ℕ, _-_, _*_, _≤_}
 use native.Mathlib.Omega.{arith}
-use lib.ListN.{length, take, drop, getD}
-use lib.Ieee.{Float, nan}
-use denote.Ref.{now}
 use borrow.Author.Needs.{needs}
 use Rattle.records.proofs.used_bytes.Statement.{statement}
 use Rattle.records.proofs.used_bytes.Tie as tie

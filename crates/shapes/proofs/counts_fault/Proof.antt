@@ -1,8 +1,7 @@
-use mathlib.Core.Path.{_≡_, refl, sym, ap, _∙_, subst}
-use Prim.Native.Nat.{ℕ, _+_, _-_, _*_, _≤_, _<_, min}
+use mathlib.Core.Path.{_≡_, sym, _∙_}
+use Prim.Native.Nat.{_-_, _≤_}
 use native.Mathlib.Omega.{arith}
-use lib.ListN.{length, take, drop, getD}
-use denote.Ref.{now}
+use lib.ListN.{getD}
 use borrow.Author.Needs.{needs}
 use Rattle.answer.specs.Answer.{firstOf}
 use Rattle.answer.proofs.Orders.{passes, fails, first-begin, first-step, first-stop, first-end}

@@ -1,4 +1,4 @@
-use mathlib.Core.Path.{_≡_, refl, sym, ap, _∙_, subst}
+use mathlib.Core.Path.{ap, _∙_}
 use Prim.Native.Nat.{ℕ}
 use Rattle.answer.proofs.Orders.{passes, or-stops, or-goes-on}
 use Rattle.shapes.proofs.Frames.{shape-four, shape-few}

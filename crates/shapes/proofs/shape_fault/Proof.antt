@@ -1,4 +1,4 @@
-use mathlib.Core.Path.{_≡_, refl, sym, ap, _∙_, subst}
+use mathlib.Core.Path.{_∙_}
 use Rattle.shapes.proofs.Frames.{axes-low, axes-high, counts-stop, counts-few, product-high, product-fine}
 use borrow.Author.Needs.{needs}
 use Rattle.shapes.proofs.shape_fault.Statement.{statement}

@@ -1,12 +1,6 @@
 use Rattle.answer.proofs.Orders.{passes}
 use Rattle.shapes.proofs.Frames.{shape-four, shape-few, refused-sizes, given-sizes}
-use mathlib.Core.Path.{_≡_, refl, sym, ap, ap₂, _∙_, subst}
-use mathlib.Core.List.{List, [], _∷_, _++_}
-use Prim.Native.Nat.{ℕ, _+_, _-_, _*_, _^_, _≤_, _<_, min}
-use native.Mathlib.Omega.{arith}
-use lib.ListN.{length, take, drop, getD}
-use lib.Ieee.{Float, nan}
-use denote.Ref.{now}
+use Prim.Native.Nat.{_-_}
 use borrow.Author.Needs.{needs}
 use Rattle.shapes.proofs.sizes.Statement.{statement}
 use Rattle.shapes.proofs.sizes.Tie as tie

@@ -1,4 +1,3 @@
-use mathlib.Core.Path.{_≡_, refl, sym, ap, ap₂, _∙_}
 use native.Mathlib.Omega.{arith}
 use Rattle.answer.proofs.Orders.{or-stops, or-goes-on, passes}
 use Rattle.judge.proofs.Rows.{axis-of}

@@ -1,4 +1,3 @@
-use mathlib.Core.Path.{_≡_, refl, sym, ap, ap₂, _∙_}
 use Rattle.utils.proofs.Primitives.{exact-refused, exact-given}
 use Rattle.utils.specs.Calls.{exactIndex}
 use borrow.Author.Needs.{needs}

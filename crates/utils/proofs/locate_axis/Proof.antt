@@ -1,4 +1,4 @@
-use mathlib.Core.Path.{_≡_, refl, sym, ap, ap₂, _∙_}
+use mathlib.Core.Path.{ap, _∙_}
 use Rattle.answer.proofs.Orders.{passes, or-stops, or-goes-on}
 use Rattle.utils.proofs.Primitives.{axis-refused, axis-given, read-location}
 use Rattle.numbers.specs.Numbers.{resultFault}

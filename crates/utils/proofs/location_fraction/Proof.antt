@@ -1,4 +1,4 @@
-use mathlib.Core.Path.{_≡_, refl, sym, ap, ap₂, _∙_}
+use mathlib.Core.Path.{sym, ap}
 use lib.Ieee.{ofBits}
 use Rattle.utils.specs.Calls.{locationFraction}
 use borrow.Author.Needs.{needs}

@@ -1,4 +1,4 @@
-use mathlib.Core.Path.{_≡_, refl, sym, ap, ap₂, _∙_}
+use mathlib.Core.Path.{_∙_}
 use Rattle.utils.proofs.Primitives.{lower-in, lower-out}
 use borrow.Author.Needs.{needs}
 use Rattle.utils.proofs.lower_fault.Statement.{statement}

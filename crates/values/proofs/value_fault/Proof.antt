@@ -1,4 +1,4 @@
-use mathlib.Core.Path.{_≡_, refl, sym, ap, _∙_, subst}
+use mathlib.Core.Path.{sym, _∙_}
 use Rattle.values.proofs.Rows.{value-fine, value-wild}
 use borrow.Author.Needs.{needs}
 use Rattle.values.proofs.value_fault.Statement.{statement}

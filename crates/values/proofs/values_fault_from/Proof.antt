@@ -1,11 +1,10 @@
-use mathlib.Core.Path.{_≡_, refl, sym, ap, _∙_, subst}
-use Prim.Native.Nat.{ℕ, _+_, _-_, _*_, _≤_, _<_, min}
+use mathlib.Core.Path.{_≡_, refl, sym, _∙_}
+use Prim.Native.Nat.{_-_, _≤_}
 use native.Mathlib.Omega.{arith}
-use lib.ListN.{length, take, drop, getD}
-use denote.Ref.{now}
+use lib.ListN.{length}
 use borrow.Author.Needs.{needs}
 use Rattle.answer.specs.Answer.{firstOf}
-use Rattle.answer.proofs.Orders.{passes, fails, first-begin, first-step, first-stop, first-end}
+use Rattle.answer.proofs.Orders.{passes, fails, first-step, first-stop, first-end}
 use Rattle.values.specs.Values.{valueFault}
 use Rattle.values.proofs.values_fault_from.Statement.{statement}
 use Rattle.values.proofs.values_fault_from.Tie as tie

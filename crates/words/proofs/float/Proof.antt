@@ -1,7 +1,7 @@
 use native.Mathlib.Omega.{arith}
 use borrow.Author.Tests.{leb-true}
 use lib.Ieee.{binary64, ofBits}
-use mathlib.Core.Path.{_≡_, ap, _∙_}
+use mathlib.Core.Path.{ap, _∙_}
 use Rattle.words.specs.Words.{floatAt}
 use borrow.Author.Needs.{needs}
 use Rattle.words.proofs.float.Statement.{statement}

@@ -2,13 +2,9 @@ use Rattle.shapes.specs.Shape.{countsOf, size, total}
 use Rattle.shapes.proofs.Frames.{shape-size}
 use Rattle.image.proofs.Floats.{holds-nodes, holds-values, total-small}
 use Rattle.writer.specs.Made.{imageLength, valuesAt}
-use mathlib.Core.Path.{_≡_, refl, sym, ap, ap₂, _∙_, subst}
-use mathlib.Core.List.{List, [], _∷_, _++_}
-use Prim.Native.Nat.{ℕ, _+_, _-_, _*_, _^_, _≤_, _<_, min}
+use mathlib.Core.Path.{_≡_}
+use Prim.Native.Nat.{_-_, _≤_}
 use native.Mathlib.Omega.{arith}
-use lib.ListN.{length, take, drop, getD}
-use lib.Ieee.{Float, nan}
-use denote.Ref.{now}
 use borrow.Author.Needs.{needs}
 use Rattle.writer.proofs.image_length.Statement.{statement}
 use Rattle.writer.proofs.image_length.Tie as tie

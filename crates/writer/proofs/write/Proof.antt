@@ -1,18 +1,14 @@
 use Rattle.shapes.proofs.Totals.{length-ids}
 use mathlib.Core.Bool.{true}
 use Rattle.answer.specs.Answer.{good}
-use Rattle.answer.specs.declared.Answer.{Answer}
 use Rattle.answer.proofs.Orders.{passes}
 use Rattle.image.proofs.Loads.{out-kept, out-filled}
 use Rattle.writer.specs.Made.{imageOf}
 use Rattle.writer.specs.Write.{writeFault}
 use Rattle.writer.proofs.Writes.{write-refused, write-made, written-shape, written-nodes, written-values, written-room, written-fits}
-use mathlib.Core.Path.{_≡_, refl, sym, ap, ap₂, _∙_, subst}
-use mathlib.Core.List.{List, [], _∷_, _++_}
-use Prim.Native.Nat.{ℕ, _+_, _-_, _*_, _^_, _≤_, _<_, min}
-use native.Mathlib.Omega.{arith}
-use lib.ListN.{length, take, drop, getD}
-use lib.Ieee.{Float, nan}
+use mathlib.Core.Path.{_≡_}
+use Prim.Native.Nat.{_-_}
+use lib.ListN.{length}
 use denote.Ref.{now}
 use borrow.Author.Needs.{needs}
 use Rattle.writer.proofs.write.Statement.{statement}

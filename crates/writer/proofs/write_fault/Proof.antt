@@ -2,17 +2,14 @@ use mathlib.Core.Bool.{true}
 use Rattle.answer.specs.Answer.{good, _or_}
 use Rattle.answer.specs.declared.Answer.{Answer}
 use Rattle.answer.proofs.Orders.{passes, or-stops, or-goes-on, first-passed}
-use Rattle.shapes.specs.Shape.{countsOf, size, total}
+use Rattle.shapes.specs.Shape.{countsOf}
 use Rattle.shapes.specs.Frame.{shapeFault, frameFault}
-use Rattle.counts.specs.Counts.{lengthFault, roomFault}
+use Rattle.counts.specs.Counts.{roomFault}
 use Rattle.table.specs.Table.{axesFault}
 use Rattle.writer.specs.Write.{writeFault}
-use mathlib.Core.Path.{_≡_, refl, sym, ap, ap₂, _∙_, subst}
-use mathlib.Core.List.{List, [], _∷_, _++_}
-use Prim.Native.Nat.{ℕ, _+_, _-_, _*_, _^_, _≤_, _<_, min}
-use native.Mathlib.Omega.{arith}
-use lib.ListN.{length, take, drop, getD}
-use lib.Ieee.{Float, nan}
+use mathlib.Core.Path.{_≡_, ap, _∙_}
+use Prim.Native.Nat.{ℕ, _-_}
+use lib.ListN.{length}
 use denote.Ref.{now}
 use borrow.Author.Needs.{needs}
 use Rattle.writer.proofs.write_fault.Statement.{statement}

@@ -1,4 +1,4 @@
-use mathlib.Core.Path.{_≡_, _∙_}
+use mathlib.Core.Path.{_∙_}
 use denote.Ref.{now}
 use Rattle.ninterp.proofs.KindOrder.{found-linear, found-pick}
 use borrow.Author.Needs.{needs}

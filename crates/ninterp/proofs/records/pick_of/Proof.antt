@@ -1,4 +1,3 @@
-use native.Mathlib.Omega.{arith}
 use Rattle.ninterp.proofs.KindOrder.{kind-nearest, kind-step}
 use borrow.Author.Needs.{needs}
 use Rattle.ninterp.proofs.records.pick_of.Statement.{statement}

@@ -1,7 +1,6 @@
 use lib.Seq.{length-take-le, getD-take}
 use Rattle.answer.specs.declared.Answer.{Answer}
 use Rattle.answer.proofs.Orders.{fine-number}
-use mathlib.Core.Bool.{Bool}
 use Prim.Native.Nat.{_/_}
 use Rattle.judge.specs.Check.{Axis}
 use Rattle.shapes.specs.Shape.{countsOf, size, total, noShape}
@@ -9,7 +8,7 @@ use Rattle.table.specs.Layout.{without, axisOf}
 use Rattle.shapes.proofs.Totals.{length-ids}
 use Rattle.runs.specs.Runs.{resultsFault}
 use Rattle.blend.specs.declared.AxisLocation.{AxisLocation}
-use Rattle.blend.specs.declared.AxisLocation.the-variants.{Exact, Between}
+use Rattle.blend.specs.declared.AxisLocation.the-variants.{Exact}
 use Rattle.axis.specs.Locations.{locationIndex, locationBy, upperOf}
 use Rattle.answer.specs.Answer.{filledInto}
 use Rattle.slices.specs.LinearSlices.{alongFirst, linearValues}
@@ -19,11 +18,11 @@ use Rattle.axis.proofs.Located.{location-fits, location-found}
 use Rattle.ninterp.proofs.Corners.{lower-upper}
 use Rattle.slices.proofs.Alongs.{length-along, without-first, along-exact, along-between, runs-within, size-first, stored-finite}
 use mathlib.Core.Path.{_≡_, refl, sym, ap, ap₂, _∙_, subst}
-use mathlib.Core.List.{List, [], _∷_, _++_}
-use Prim.Native.Nat.{ℕ, _+_, _-_, _*_, _^_, _≤_, _<_, min}
+use mathlib.Core.List.{List, _++_}
+use Prim.Native.Nat.{ℕ, _+_, _-_, _*_, _≤_, _<_}
 use native.Mathlib.Omega.{arith}
 use lib.ListN.{length, take, drop, getD}
-use lib.Ieee.{Float, nan}
+use lib.Ieee.{Float}
 use denote.Ref.{now}
 use borrow.Author.Needs.{needs}
 use Rattle.slices.proofs.judged.along_first.Statement.{statement}

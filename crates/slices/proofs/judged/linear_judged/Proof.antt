@@ -5,12 +5,11 @@ use Rattle.axis.specs.Locations.{locationBy}
 use Rattle.answer.specs.Answer.{filledInto}
 use Rattle.slices.specs.LinearSlices.{linearValues, linearRest}
 use Rattle.slices.proofs.Sliced.{slice-refused, slice-made, out-kept, front-passed, front-refused, point-finite, point-room}
-use mathlib.Core.Path.{_≡_, refl, sym, ap, ap₂, _∙_, subst}
-use mathlib.Core.List.{List, [], _∷_, _++_}
-use Prim.Native.Nat.{ℕ, _+_, _-_, _*_, _^_, _≤_, _<_, min}
-use native.Mathlib.Omega.{arith}
-use lib.ListN.{length, take, drop, getD}
-use lib.Ieee.{Float, nan}
+use mathlib.Core.Path.{ap, _∙_}
+use mathlib.Core.List.{List}
+use Prim.Native.Nat.{_-_}
+use lib.ListN.{length}
+use lib.Ieee.{Float}
 use denote.Ref.{now}
 use borrow.Author.Needs.{needs}
 use Rattle.slices.proofs.judged.linear_judged.Statement.{statement}

@@ -1,4 +1,3 @@
-use mathlib.Core.Path.{_≡_, refl, sym, ap, _∙_, subst}
 use Rattle.slices.proofs.Slices.{count-left, count-gone}
 use native.Mathlib.Omega.{arith}
 use borrow.Author.Needs.{needs}

@@ -1,12 +1,10 @@
-use mathlib.Core.Path.{_≡_, refl, sym, ap, _∙_, subst}
-use Prim.Native.Nat.{ℕ, suc, _+_, _-_, _*_, _/_, _%_, _≤_, _<_}
+use mathlib.Core.Path.{_≡_, ap, _∙_}
+use Prim.Native.Nat.{ℕ, _-_, _≤_}
 use native.Mathlib.Omega.{arith}
-use lib.ListN.{length, take, drop, getD}
+use lib.ListN.{length}
 use denote.Ref.{now}
 use mathlib.Core.List.{List}
 use Rattle.answer.proofs.Orders.{or-stops, or-goes-on}
-use Rattle.shapes.specs.Shape.{countsOf, size}
-use Rattle.table.specs.Layout.{without}
 use Rattle.lists.specs.Lists.{rangeFault}
 use Rattle.shapes.proofs.Totals.{length-ids}
 use Rattle.slices.specs.Slices.{pointFault}

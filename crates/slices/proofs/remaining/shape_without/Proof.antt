@@ -1,6 +1,6 @@
-use mathlib.Core.Path.{_≡_, refl, sym, ap, _∙_, subst}
-use Prim.Native.Nat.{ℕ, suc, _+_, _-_, _*_, _/_, _%_, _≤_, _<_}
-use mathlib.Core.List.{List, [], _∷_}
+use mathlib.Core.Path.{_≡_}
+use Prim.Native.Nat.{ℕ, _-_}
+use mathlib.Core.List.{[], _∷_}
 use Rattle.shapes.specs.declared.Shape.{Shape}
 use Rattle.slices.specs.Slices.{shapeWithout}
 use borrow.Author.Needs.{needs}

@@ -1,5 +1,5 @@
-use mathlib.Core.Path.{_≡_, refl, sym, ap, _∙_, subst}
-use Prim.Native.Nat.{ℕ, suc, _+_, _-_, _*_, _/_, _%_, _≤_, _<_}
+use mathlib.Core.Path.{_≡_, ap, _∙_}
+use Prim.Native.Nat.{ℕ, suc, _+_, _-_, _*_, _≤_, _<_}
 use native.Mathlib.Omega.{arith}
 use lib.ListN.{length, take, drop, getD}
 use borrow.Author.Needs.{needs}
@@ -7,7 +7,6 @@ use native.Mathlib.Nat.{lt-of-le-of-lt}
 use lib.Dec.{lit<}
 use Rattle.shapes.specs.Shape.{size}
 use Rattle.shapes.proofs.Totals.{size-back, size-none, size-bound}
-use native.Mathlib.Numerals.{add-one}
 use Rattle.slices.proofs.remaining.stride.Statement.{statement}
 use Rattle.slices.proofs.remaining.stride.Tie as tie
 

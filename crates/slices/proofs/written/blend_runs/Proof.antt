@@ -4,12 +4,12 @@ use Rattle.runs.specs.Runs.{blends, resultsFault, blendedInto}
 use Rattle.shapes.specs.Shape.{noShape}
 use Rattle.slices.proofs.Sliced.{out-kept, out-written}
 use Rattle.slices.proofs.Alongs.{into-blends, length-blends}
-use mathlib.Core.Path.{_≡_, refl, sym, ap, ap₂, _∙_, subst}
-use mathlib.Core.List.{List, [], _∷_, _++_}
-use Prim.Native.Nat.{ℕ, _+_, _-_, _*_, _^_, _≤_, _<_, min}
+use mathlib.Core.Path.{_≡_, sym, ap₂, _∙_}
+use mathlib.Core.List.{List}
+use Prim.Native.Nat.{ℕ, _+_, _-_, _*_}
 use native.Mathlib.Omega.{arith}
-use lib.ListN.{length, take, drop, getD}
-use lib.Ieee.{Float, nan}
+use lib.ListN.{length, take, drop}
+use lib.Ieee.{Float}
 use denote.Ref.{now}
 use borrow.Author.Needs.{needs}
 use Rattle.slices.proofs.written.blend_runs.Statement.{statement}

@@ -2,13 +2,10 @@ use lib.ListN.{length-set}
 use lib.Seq.{sets}
 use Rattle.words.specs.Words.{toBytes}
 use Rattle.writer.proofs.Puts.{put-start, put-step, put-end}
-use mathlib.Core.Path.{_≡_, refl, sym, ap, ap₂, _∙_, subst}
-use mathlib.Core.List.{List, [], _∷_, _++_}
-use Prim.Native.Nat.{ℕ, _+_, _-_, _*_, _^_, _≤_, _<_, min}
+use mathlib.Core.Path.{_≡_, refl, sym, _∙_}
+use Prim.Native.Nat.{_+_, _-_, _≤_}
 use native.Mathlib.Omega.{arith}
-use lib.ListN.{length, take, drop, getD}
-use lib.Ieee.{Float, nan}
-use denote.Ref.{now}
+use lib.ListN.{length}
 use borrow.Author.Needs.{needs}
 use Rattle.writer.proofs.bytes.put_word.Statement.{statement}
 use Rattle.writer.proofs.bytes.put_word.Tie as tie

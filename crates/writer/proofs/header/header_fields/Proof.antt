@@ -2,13 +2,9 @@ use Rattle.shapes.specs.Shape.{countsOf, size}
 use Rattle.shapes.proofs.Frames.{shape-size}
 use Rattle.image.proofs.Floats.{holds-values}
 use Rattle.writer.proofs.Headers.{fields-made}
-use mathlib.Core.Path.{_≡_, refl, sym, ap, ap₂, _∙_, subst}
-use mathlib.Core.List.{List, [], _∷_, _++_}
-use Prim.Native.Nat.{ℕ, _+_, _-_, _*_, _^_, _≤_, _<_, min}
+use mathlib.Core.Path.{_≡_, refl}
+use Prim.Native.Nat.{_-_, _≤_}
 use native.Mathlib.Omega.{arith}
-use lib.ListN.{length, take, drop, getD}
-use lib.Ieee.{Float, nan}
-use denote.Ref.{now}
 use borrow.Author.Needs.{needs}
 use Rattle.writer.proofs.header.header_fields.Statement.{statement}
 use Rattle.writer.proofs.header.header_fields.Tie as tie

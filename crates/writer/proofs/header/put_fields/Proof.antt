@@ -2,12 +2,10 @@ use lib.Seq.{sets}
 use Rattle.writer.specs.Made.{fieldBytes}
 use Rattle.writer.specs.Fields.{sum, pairs}
 use Rattle.writer.proofs.Puts.{sum-more, fields-step, fields-end}
-use mathlib.Core.Path.{_≡_, refl, sym, ap, ap₂, _∙_, subst}
-use mathlib.Core.List.{List, [], _∷_, _++_}
-use Prim.Native.Nat.{ℕ, _+_, _-_, _*_, _^_, _≤_, _<_, min}
+use mathlib.Core.Path.{_≡_, refl, sym, _∙_}
+use Prim.Native.Nat.{_+_, _-_, _≤_}
 use native.Mathlib.Omega.{arith}
-use lib.ListN.{length, take, drop, getD}
-use lib.Ieee.{Float, nan}
+use lib.ListN.{length, drop, getD}
 use denote.Ref.{now}
 use borrow.Author.Needs.{needs}
 use Rattle.writer.proofs.header.put_fields.Statement.{statement}

@@ -1,11 +1,8 @@
 use lib.Seq.{sets}
 use Rattle.writer.specs.Made.{fieldBytes}
-use mathlib.Core.Path.{_≡_, refl, sym, ap, ap₂, _∙_, subst}
-use mathlib.Core.List.{List, [], _∷_, _++_}
-use Prim.Native.Nat.{ℕ, _+_, _-_, _*_, _^_, _≤_, _<_, min}
-use native.Mathlib.Omega.{arith}
-use lib.ListN.{length, take, drop, getD}
-use lib.Ieee.{Float, nan}
+use mathlib.Core.Path.{sym, ap, _∙_}
+use mathlib.Core.List.{List}
+use Prim.Native.Nat.{ℕ, _-_}
 use denote.Ref.{now}
 use borrow.Author.Needs.{needs}
 use Rattle.writer.proofs.header.put_header.Statement.{statement}

@@ -1,7 +1,5 @@
-use mathlib.Core.Path.{_≡_}
-use Prim.Native.Nat.{ℕ, _+_, _-_, _≤_, _<_}
+use Prim.Native.Nat.{_-_}
 use native.Mathlib.Omega.{arith}
-use lib.ListN.{length}
 use denote.Ref.{now}
 use Rattle.lines.proofs.Blocks.{Going, go-start}
 use Rattle.ninterp.specs.Records.{recordRule}

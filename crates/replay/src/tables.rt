@@ -44,7 +44,7 @@ pub(crate) fn none() -> Table
 // The table that a header names; nothing needs fit.
 pub(crate) fn of_header(call: Header) -> Table {
     let shape = Shape {
-        axes: list::wide(call.a),
+        axes: call.a as usize,
         counts: list::quarters_of(call.second),
     };
     Table {
@@ -65,42 +65,20 @@ pub(crate) fn read(table: Table, nodes: &mut [f64], values: &mut [f64]) -> bool
     }
 }
 
-fn of_value(answer: Answer) -> Reply {
-    if answer.number != 0 {
-        return Reply::Refused(answer);
-    }
-    Reply::Value(answer.value)
-}
-
-fn nearest(shape: Shape, nodes: &[f64], values: &[f64], point: &[f64]) -> Reply {
-    of_value(nearest::interpolate(shape, nodes, values, point))
-}
-
-fn step(call: Header, shape: Shape, nodes: &[f64], values: &[f64], point: &[f64]) -> Reply {
+fn step(call: Header, shape: Shape, nodes: &[f64], values: &[f64], point: &[f64]) -> Answer {
     let bytes = list::bytes_of(call.second);
-    let count = list::wide(call.b);
-    if count > 8 {
-        return Reply::Bad;
-    }
-    of_value(step::interpolate(shape, nodes, values, point, &bytes[..count]))
+    let count = table::least(call.b as usize, 8);
+    step::interpolate(shape, nodes, values, point, &bytes[..count])
 }
 
-fn linear(shape: Shape, nodes: &[f64], values: &[f64], point: &[f64]) -> Reply {
-    of_value(linear::interpolate(shape, nodes, values, point))
-}
-
-fn linear_uniform(shape: Shape, nodes: &[f64], values: &[f64], point: &[f64]) -> Reply {
-    of_value(linear_uniform::interpolate(shape, nodes, values, point))
-}
-
-fn look_up(call: Header, shape: Shape, nodes: &[f64], values: &[f64], point: &[f64]) -> Reply {
+// By the rule that a header names, 9 to 12.
+fn look_up(call: Header, shape: Shape, nodes: &[f64], values: &[f64], point: &[f64]) -> Answer {
     let op = call.op;
     match op {
-        9 => nearest(shape, nodes, values, point),
+        9 => nearest::interpolate(shape, nodes, values, point),
         10 => step(call, shape, nodes, values, point),
-        11 => linear(shape, nodes, values, point),
-        12 => linear_uniform(shape, nodes, values, point),
-        _ => Reply::Bad,
+        11 => linear::interpolate(shape, nodes, values, point),
+        _ => linear_uniform::interpolate(shape, nodes, values, point),
     }
 }
 
@@ -112,7 +90,7 @@ fn look_up_fronts(
     values: &[f64],
     readings: &[f64],
     count: usize,
-) -> Reply
+) -> Answer
     requires { ⌜ Room table (now nodes) (now values) ⌝ }
     requires { ⌜ count ≤ length (now readings) ⌝ }
 {
@@ -123,18 +101,31 @@ fn look_up_fronts(
 }
 
 // Reads the readings that follow a header, and looks up.
+fn read_and_look_up(
+    call: Header,
+    table: Table,
+    nodes: &[f64],
+    values: &[f64],
+    readings: &mut [f64],
+) -> Reply
+    requires { ⌜ Room table (now nodes) (now values) ⌝ }
+{
+    let count = call.a as usize;
+    if count > readings.len() {
+        return Reply::Bad;
+    }
+    if !list::read_floats(count, readings) {
+        return Reply::Bad;
+    }
+    Reply::Answered(look_up_fronts(call, table, nodes, values, readings, count))
+}
+
 pub(crate) fn answer(call: Header, table: Table, nodes: &[f64], values: &[f64]) -> Reply
     requires { ⌜ Room table (now nodes) (now values) ⌝ }
 {
-    let mut space = [0.0f64; MOST_READINGS];
-    let readings: &mut [f64] = &mut space;
-    let count = list::wide(call.a);
-    if count > MOST_READINGS {
+    if call.b > list::MOST_DIRECTIONS {
         return Reply::Bad;
     }
-    if list::read_floats(count, readings) {
-        look_up_fronts(call, table, nodes, values, readings, count)
-    } else {
-        Reply::Bad
-    }
+    let mut readings = [0.0f64; MOST_READINGS];
+    read_and_look_up(call, table, nodes, values, &mut readings)
 }

@@ -4,6 +4,9 @@ use borrow.Author.Needs.{needs}
 use Rattle.replay.proofs.cut.make_of_fronts.Statement.{statement}
 use Rattle.replay.proofs.cut.make_of_fronts.Tie as tie
 
+upper-half-requires : tie.Need-upper-half-requires
+upper-half-requires c κs = search needs
+
 slice-aggregate-make : tie.Need-slice-aggregate-make
 slice-aggregate-make c = sym (length-take-le _ _ (search needs))
 
@@ -22,4 +25,4 @@ returns c = search needs
 pub make-of-fronts-spec : {M : Type 1} → statement M
 make-of-fronts-spec =
     tie.close
-    (tie.spec slice-aggregate-make slice-aggregate-make-2 make-requires same-length returns)
+    (tie.spec upper-half-requires slice-aggregate-make slice-aggregate-make-2 make-requires same-length returns)

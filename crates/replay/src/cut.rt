@@ -81,20 +81,21 @@ fn make(
     }
 }
 
-// Makes the slice of the front of the nodes and of the values.
-fn make_of_fronts(
-    call: Header,
-    table: Table,
-    nodes: &[f64],
-    values: &[f64],
-    sliced: &mut [f64],
-) -> SliceAnswer
-    requires { ⌜ Room table (now nodes) (now values) ⌝ }
+// Makes the slice of the table's nodes and values.
+fn make_of_fronts(call: Header, table: Table, floats: &[f64], sliced: &mut [f64]) -> SliceAnswer
+    requires { ⌜ Room table (now floats) ⌝ }
 {
     let axis = list::upper_half(call.third);
-    let n = table.nodes;
-    let m = table.values;
-    make(call, table.shape, &nodes[..n], &values[..m], axis, sliced)
+    let from = 128 + table.nodes;
+    let to = from + table.values;
+    make(
+        call,
+        table.shape,
+        &floats[128..from],
+        &floats[from..to],
+        axis,
+        sliced,
+    )
 }
 
 fn say_values(values: &[f64], count: usize, out: &mut [u8], kept: Kept) -> Kept
@@ -125,18 +126,17 @@ fn say_made(made: SliceAnswer, sliced: &[f64], out: &mut [u8], held: usize) -> K
 fn say_slice(
     call: Header,
     table: Table,
-    nodes: &[f64],
-    values: &[f64],
+    floats: &[f64],
     sliced: &mut [f64],
     out: &mut [u8],
     kept: Kept,
 ) -> Kept
-    requires { ⌜ Room table (now nodes) (now values) ⌝ }
+    requires { ⌜ Room table (now floats) ⌝ }
     requires { ⌜ Counts (kept .held) (now out) ⌝ }
     ensures { λ r. ⌜ Counts (r .held) (now (out .exit)) ⌝ }
 {
     mark_all(sliced);
-    let made = make_of_fronts(call, table, nodes, values, sliced);
+    let made = make_of_fronts(call, table, floats, sliced);
     say_made(made, sliced, out, kept.held)
 }
 
@@ -144,13 +144,12 @@ fn say_slice(
 fn say_in_room(
     call: Header,
     table: Table,
-    nodes: &[f64],
-    values: &[f64],
+    floats: &[f64],
     sliced: &mut [f64],
     out: &mut [u8],
     kept: Kept,
 ) -> Kept
-    requires { ⌜ Room table (now nodes) (now values) ⌝ }
+    requires { ⌜ Room table (now floats) ⌝ }
     requires { ⌜ Counts (kept .held) (now out) ⌝ }
     ensures { λ r. ⌜ Counts (r .held) (now (out .exit)) ⌝ }
 {
@@ -158,19 +157,12 @@ fn say_in_room(
     if room > sliced.len() {
         return line::say(Reply::Bad, out, kept);
     }
-    say_slice(call, table, nodes, values, &mut sliced[..room], out, kept)
+    say_slice(call, table, floats, &mut sliced[..room], out, kept)
 }
 
 // Makes the slice that a header asks for, and holds its lines for output.
-pub(crate) fn say(
-    call: Header,
-    table: Table,
-    nodes: &[f64],
-    values: &[f64],
-    out: &mut [u8],
-    kept: Kept,
-) -> Kept
-    requires { ⌜ Room table (now nodes) (now values) ⌝ }
+pub(crate) fn say(call: Header, table: Table, floats: &[f64], out: &mut [u8], kept: Kept) -> Kept
+    requires { ⌜ Room table (now floats) ⌝ }
     requires { ⌜ Counts (kept .held) (now out) ⌝ }
     ensures { λ r. ⌜ Counts (r .held) (now (out .exit)) ⌝ }
 {
@@ -178,5 +170,5 @@ pub(crate) fn say(
         return line::say(Reply::Bad, out, kept);
     }
     let mut space = [0.0f64; tables::MOST_VALUES];
-    say_in_room(call, table, nodes, values, &mut space, out, kept)
+    say_in_room(call, table, floats, &mut space, out, kept)
 }

@@ -149,6 +149,16 @@ fn put_slice(made: SliceAnswer, line: &mut [u8]) -> usize
     put_shape(made.shape, line, at)
 }
 
+fn put_rest(said: Reply, line: &mut [u8]) -> usize
+    ensures { λ r. ⌜ Counts r (now (line .exit)) ⌝ }
+{
+    match said {
+        Reply::Bits(x) => put_bits(x, line, 0),
+        Reply::Kept(count) => put_named(b"kept ", count, line),
+        _ => put(b"bad list", line, 0),
+    }
+}
+
 fn put_reply(said: Reply, line: &mut [u8]) -> usize
     ensures { λ r. ⌜ Counts r (now (line .exit)) ⌝ }
 {
@@ -157,9 +167,7 @@ fn put_reply(said: Reply, line: &mut [u8]) -> usize
         Reply::Answered(answer) => put_answer(answer, line),
         Reply::Found(index) => put_index(index, line),
         Reply::Located(location) => put_location(location, line),
-        Reply::Bits(x) => put_bits(x, line, 0),
-        Reply::Kept(count) => put_named(b"kept ", count, line),
-        Reply::Bad => put(b"bad list", line, 0),
+        _ => put_rest(said, line),
     }
 }
 

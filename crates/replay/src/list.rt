@@ -1,5 +1,5 @@
 // The list: records with a header of 32 bytes, little-endian.
-ghost use Prim.Native.Nat.{_+_, _*_, _≤_};
+ghost use Prim.Native.Nat.{_+_, _*_, _≤_, _<_};
 ghost use lib.ListN.{length};
 use libc::STDIN_FILENO;
 
@@ -43,11 +43,15 @@ fn header_of(bytes: &[u8], got: usize) -> Header
     }
 }
 
-pub(crate) fn lower_half(word: u64) -> usize {
+pub(crate) fn lower_half(word: u64) -> usize
+    ensures { λ r. ⌜ r < 4294967296 ⌝ }
+{
     (word % 0x1_0000_0000) as usize
 }
 
-pub(crate) fn upper_half(word: u64) -> usize {
+pub(crate) fn upper_half(word: u64) -> usize
+    ensures { λ r. ⌜ r < 4294967296 ⌝ }
+{
     (word / 0x1_0000_0000) as usize
 }
 

@@ -22,19 +22,20 @@ struct Lent {
     whole: bool,
 }
 
-fn lend_axis(call: Header, axis: &mut [f64], table: Table) -> Lent
-    ensures { λ r. ⌜ r .count ≤ length (now (axis .exit)) ⌝ }
+fn lend_axis(call: Header, floats: &mut [f64], table: Table) -> Lent
+    requires { ⌜ 128 ≤ length (now floats) ⌝ }
+    ensures { λ r. ⌜ r .count ≤ 128 ⌝ }
     ensures { λ r. ⌜ (r .table .nodes ≡ table .nodes) × (r .table .values ≡ table .values) ⌝ }
 {
     let count = call.a as usize;
-    if count > axis.len() {
+    if count > calls::MOST_NODES {
         return Lent {
             count: 0,
             table,
             whole: false,
         };
     }
-    let whole = list::read_floats(count, axis);
+    let whole = list::read_floats(count, floats);
     Lent {
         count,
         table,
@@ -54,18 +55,17 @@ fn lend_none(count: usize) -> Lent
     }
 }
 
-fn lend_table(call: Header, count: usize, nodes: &mut [f64], values: &mut [f64]) -> Lent
+fn lend_table(call: Header, count: usize, floats: &mut [f64]) -> Lent
+    requires { ⌜ 128 ≤ length (now floats) ⌝ }
     ensures { λ r. ⌜ r .count ≡ count ⌝ }
-    ensures { λ r. ⌜ Room (r .table) (now (nodes .exit)) (now (values .exit)) ⌝ }
+    ensures { λ r. ⌜ Room (r .table) (now (floats .exit)) ⌝ }
 {
     let table = tables::of_header(call);
-    if table.nodes > nodes.len() {
+    let size = table.nodes + table.values;
+    if size > floats.len() - calls::MOST_NODES {
         return lend_none(count);
     }
-    if table.values > values.len() {
-        return lend_none(count);
-    }
-    let whole = tables::read(table, nodes, values);
+    let whole = list::read_floats(size, &mut floats[128..]);
     Lent {
         count,
         table,
@@ -74,35 +74,35 @@ fn lend_table(call: Header, count: usize, nodes: &mut [f64], values: &mut [f64])
 }
 
 // Reads what a record lends, where it lends.
-fn lend(call: Header, axis: &mut [f64], nodes: &mut [f64], values: &mut [f64], lent: Lent) -> Lent
-    requires { ⌜ lent .count ≤ length (now axis) ⌝ }
-    requires { ⌜ Room (lent .table) (now nodes) (now values) ⌝ }
-    ensures { λ r. ⌜ r .count ≤ length (now (axis .exit)) ⌝ }
-    ensures { λ r. ⌜ Room (r .table) (now (nodes .exit)) (now (values .exit)) ⌝ }
+fn lend(call: Header, floats: &mut [f64], lent: Lent) -> Lent
+    requires { ⌜ lent .count ≤ 128 ⌝ }
+    requires { ⌜ Room (lent .table) (now floats) ⌝ }
+    ensures { λ r. ⌜ r .count ≤ 128 ⌝ }
+    ensures { λ r. ⌜ Room (r .table) (now (floats .exit)) ⌝ }
 {
     let op = call.op;
     match op {
-        0 => lend_axis(call, axis, lent.table),
-        8 => lend_table(call, lent.count, nodes, values),
+        0 => lend_axis(call, floats, lent.table),
+        8 => lend_table(call, lent.count, floats),
         _ => lent,
     }
 }
 
-fn answer(call: Header, axis: &[f64], count: usize) -> Reply
-    requires { ⌜ count ≤ length (now axis) ⌝ }
+fn answer(call: Header, floats: &[f64], count: usize) -> Reply
+    requires { ⌜ count ≤ length (now floats) ⌝ }
 {
-    calls::answer(&axis[..count], call)
+    calls::answer(&floats[..count], call)
 }
 
 // What a call answers, by the axis or by the table.
-fn reply(call: Header, lent: Lent, axis: &[f64], nodes: &[f64], values: &[f64]) -> Reply
-    requires { ⌜ lent .count ≤ length (now axis) ⌝ }
-    requires { ⌜ Room (lent .table) (now nodes) (now values) ⌝ }
+fn reply(call: Header, lent: Lent, floats: &[f64]) -> Reply
+    requires { ⌜ lent .count ≤ 128 ⌝ }
+    requires { ⌜ Room (lent .table) (now floats) ⌝ }
 {
     let op = call.op;
     match op {
-        9 | 10 | 11 | 12 => tables::answer(call, lent.table, nodes, values),
-        _ => answer(call, axis, lent.count),
+        9 | 10 | 11 | 12 => tables::answer(call, lent.table, floats),
+        _ => answer(call, floats, lent.count),
     }
 }
 
@@ -118,34 +118,29 @@ fn tell_lent(whole: bool, out: &mut [u8], kept: Kept) -> Kept
 }
 
 // Holds what a record has to say; a slice is made here.
-fn tell(
-    call: Header,
-    lent: Lent,
-    axis: &[f64],
-    nodes: &[f64],
-    values: &[f64],
-    out: &mut [u8],
-    kept: Kept,
-) -> Kept
-    requires { ⌜ lent .count ≤ length (now axis) ⌝ }
-    requires { ⌜ Room (lent .table) (now nodes) (now values) ⌝ }
+fn tell(call: Header, lent: Lent, floats: &[f64], out: &mut [u8], kept: Kept) -> Kept
+    requires { ⌜ lent .count ≤ 128 ⌝ }
+    requires { ⌜ Room (lent .table) (now floats) ⌝ }
     requires { ⌜ Counts (kept .held) (now out) ⌝ }
     ensures { λ r. ⌜ Counts (r .held) (now (out .exit)) ⌝ }
 {
     let op = call.op;
     match op {
         0 | 8 => tell_lent(lent.whole, out, kept),
-        13 | 14 | 15 | 16 => cut::say(call, lent.table, nodes, values, out, kept),
+        13 | 14 | 15 | 16 => cut::say(call, lent.table, floats, out, kept),
         256 => Kept {
             held: kept.held,
             go: false,
         },
-        _ => line::say(reply(call, lent, axis, nodes, values), out, kept),
+        _ => line::say(reply(call, lent, floats), out, kept),
     }
 }
 
-// Answers the list, with room for an axis, a table's nodes and values, and lines.
-fn answer_all(axis: &mut [f64], nodes: &mut [f64], values: &mut [f64], out: &mut [u8]) {
+// Answers the list, with room for what it lends and for lines: an axis lies in the first 128 places, the nodes and the values of a table
+// after them.
+fn answer_all(floats: &mut [f64], out: &mut [u8])
+    requires { ⌜ 128 ≤ length (now floats) ⌝ }
+{
     let mut lent = Lent {
         count: 0,
         table: tables::none(),
@@ -156,17 +151,15 @@ fn answer_all(axis: &mut [f64], nodes: &mut [f64], values: &mut [f64], out: &mut
     let mut turns = u64::MAX;
     while turns > 0 && kept.go {
         let call = list::read_header();
-        lent = lend(call, axis, nodes, values, lent);
-        kept = tell(call, lent, axis, nodes, values, out, kept);
+        lent = lend(call, floats, lent);
+        kept = tell(call, lent, floats, out, kept);
         turns -= 1;
     }
     line::write(out, kept.held);
 }
 
 fn main() {
-    let mut axis = [0.0f64; calls::MOST_NODES];
-    let mut nodes = [0.0f64; tables::MOST_NODES];
-    let mut values = [0.0f64; tables::MOST_VALUES];
+    let mut floats = [0.0f64; 4800];
     let mut out = [0u8; 4096];
-    answer_all(&mut axis, &mut nodes, &mut values, &mut out);
+    answer_all(&mut floats, &mut out);
 }

@@ -1,6 +1,6 @@
 // The table of the list, and the lookups in it.
 ghost use mathlib.Core.Path.{_≡_};
-ghost use Prim.Native.Nat.{_≤_};
+ghost use Prim.Native.Nat.{_≤_, _<_};
 ghost use lib.ListN.{length};
 ghost use Rattle.replay.specs.Room.{Room};
 use crate::line::Reply;
@@ -12,8 +12,6 @@ use ninterp::interpolator::n::linear_uniform;
 use ninterp::interpolator::n::nearest;
 use ninterp::interpolator::n::step;
 use table::Shape;
-
-pub(crate) const MOST_NODES: usize = 512;
 
 pub(crate) const MOST_VALUES: usize = 4160;
 
@@ -42,7 +40,9 @@ pub(crate) fn none() -> Table
 }
 
 // The table that a header names; nothing needs fit.
-pub(crate) fn of_header(call: Header) -> Table {
+pub(crate) fn of_header(call: Header) -> Table
+    ensures { λ r. ⌜ (r .nodes < 4294967296) × (r .values < 4294967296) ⌝ }
+{
     let shape = Shape {
         axes: call.a as usize,
         counts: list::quarters_of(call.second),
@@ -51,17 +51,6 @@ pub(crate) fn of_header(call: Header) -> Table {
         shape,
         nodes: list::lower_half(call.third),
         values: list::upper_half(call.third),
-    }
-}
-
-// Reads a table's nodes and values, and tells whether the list has them all.
-pub(crate) fn read(table: Table, nodes: &mut [f64], values: &mut [f64]) -> bool
-    requires { ⌜ Room table (now nodes) (now values) ⌝ }
-{
-    if list::read_floats(table.nodes, nodes) {
-        list::read_floats(table.values, values)
-    } else {
-        false
     }
 }
 
@@ -82,33 +71,31 @@ fn look_up(call: Header, shape: Shape, nodes: &[f64], values: &[f64], point: &[f
     }
 }
 
-// Looks up in the front of the nodes, of the values and of the readings.
+// Looks up in the nodes and the values of the table, at the front of the readings.
 fn look_up_fronts(
     call: Header,
     table: Table,
-    nodes: &[f64],
-    values: &[f64],
+    floats: &[f64],
     readings: &[f64],
     count: usize,
 ) -> Answer
-    requires { ⌜ Room table (now nodes) (now values) ⌝ }
+    requires { ⌜ Room table (now floats) ⌝ }
     requires { ⌜ count ≤ length (now readings) ⌝ }
 {
-    let shape = table.shape;
-    let n = table.nodes;
-    let m = table.values;
-    look_up(call, shape, &nodes[..n], &values[..m], &readings[..count])
+    let from = 128 + table.nodes;
+    let to = from + table.values;
+    look_up(
+        call,
+        table.shape,
+        &floats[128..from],
+        &floats[from..to],
+        &readings[..count],
+    )
 }
 
 // Reads the readings that follow a header, and looks up.
-fn read_and_look_up(
-    call: Header,
-    table: Table,
-    nodes: &[f64],
-    values: &[f64],
-    readings: &mut [f64],
-) -> Reply
-    requires { ⌜ Room table (now nodes) (now values) ⌝ }
+fn read_and_look_up(call: Header, table: Table, floats: &[f64], readings: &mut [f64]) -> Reply
+    requires { ⌜ Room table (now floats) ⌝ }
 {
     let count = call.a as usize;
     if count > readings.len() {
@@ -117,15 +104,15 @@ fn read_and_look_up(
     if !list::read_floats(count, readings) {
         return Reply::Bad;
     }
-    Reply::Answered(look_up_fronts(call, table, nodes, values, readings, count))
+    Reply::Answered(look_up_fronts(call, table, floats, readings, count))
 }
 
-pub(crate) fn answer(call: Header, table: Table, nodes: &[f64], values: &[f64]) -> Reply
-    requires { ⌜ Room table (now nodes) (now values) ⌝ }
+pub(crate) fn answer(call: Header, table: Table, floats: &[f64]) -> Reply
+    requires { ⌜ Room table (now floats) ⌝ }
 {
     if call.b > list::MOST_DIRECTIONS {
         return Reply::Bad;
     }
     let mut readings = [0.0f64; MOST_READINGS];
-    read_and_look_up(call, table, nodes, values, &mut readings)
+    read_and_look_up(call, table, floats, &mut readings)
 }

@@ -8,10 +8,10 @@ use Rattle.replay.proofs.answer_all.Statement.{statement}
 use Rattle.replay.proofs.answer_all.Tie as tie
 
 abbrev Inv-loop : tie.InvT-loop
-Inv-loop axis₀ nodes₀ values₀ out₀ lent₀ kept₀ turns₀ axis nodes values out lent kept turns = (length axis ≡ length axis₀) × (length nodes ≡ length nodes₀) × (length values ≡ length values₀) × (length out ≡ length out₀) × (lent .count ≤ length axis) × Room (lent .table) nodes values × Counts (kept .held) out
+Inv-loop floats₀ out₀ lent₀ kept₀ turns₀ floats out lent kept turns = (length floats ≡ length floats₀) × (length out ≡ length out₀) × (lent .count ≤ 128) × Room (lent .table) floats × Counts (kept .held) out
 
 abbrev μ-loop : tie.MeasureT-loop
-μ-loop axis₀ nodes₀ values₀ out₀ lent₀ kept₀ turns₀ axis nodes values out lent kept turns = turns
+μ-loop floats₀ out₀ lent₀ kept₀ turns₀ floats out lent kept turns = turns
 
 none-requires : tie.Need-none-requires Inv-loop μ-loop
 none-requires c κs = search needs
@@ -46,12 +46,6 @@ same-length c = search needs
 same-length-2 : tie.Need-same-length-2 Inv-loop μ-loop
 same-length-2 c = search needs
 
-same-length-3 : tie.Need-same-length-3 Inv-loop μ-loop
-same-length-3 c = search needs
-
-same-length-4 : tie.Need-same-length-4 Inv-loop μ-loop
-same-length-4 c = search needs
-
 returns : tie.Need-returns Inv-loop μ-loop
 returns c = search needs
 
@@ -72,6 +66,4 @@ answer-all-spec =
     write-requires
     same-length
     same-length-2
-    same-length-3
-    same-length-4
     returns)

@@ -35,22 +35,6 @@ fn of_location(found: AxisAnswer) -> Reply {
     Reply::Located(location)
 }
 
-fn locate_lower_index(nodes: &[f64], call: Header) -> Reply {
-    of_index(utils::locate_lower_index(nodes, call.reading))
-}
-
-fn exact_index(nodes: &[f64], call: Header) -> Reply {
-    of_exact(utils::exact_index(nodes, call.second as usize, call.reading))
-}
-
-fn locate_axis(nodes: &[f64], call: Header) -> Reply {
-    of_location(utils::locate_axis(nodes, call.reading))
-}
-
-fn locate_step_index(nodes: &[f64], call: Header) -> Reply {
-    of_index(utils::locate_step_index(call.a, nodes, call.reading))
-}
-
 fn locate_lower_index_uniform(call: Header) -> Reply {
     let first = binary64::float_of_bits(call.second);
     let step = binary64::float_of_bits(call.third);
@@ -77,10 +61,10 @@ fn validate_uniform_grid_epsilon(nodes: &[f64], call: Header) -> Reply {
 pub(crate) fn answer(nodes: &[f64], call: Header) -> Reply {
     let op = call.op;
     match op {
-        1 => locate_lower_index(nodes, call),
-        2 => exact_index(nodes, call),
-        3 => locate_axis(nodes, call),
-        4 => locate_step_index(nodes, call),
+        1 => of_index(utils::locate_lower_index(nodes, call.reading)),
+        2 => of_exact(utils::exact_index(nodes, call.second as usize, call.reading)),
+        3 => of_location(utils::locate_axis(nodes, call.reading)),
+        4 => of_index(utils::locate_step_index(call.a, nodes, call.reading)),
         5 => locate_lower_index_uniform(call),
         6 => validate_uniform_grid(nodes, call),
         7 => validate_uniform_grid_epsilon(nodes, call),

@@ -166,9 +166,6 @@ pub(crate) fn say(call: Header, table: Table, floats: &[f64], out: &mut [u8], ke
     requires { ⌜ Counts (kept .held) (now out) ⌝ }
     ensures { λ r. ⌜ Counts (r .held) (now (out .exit)) ⌝ }
 {
-    if call.b > list::MOST_DIRECTIONS {
-        return line::say(Reply::Bad, out, kept);
-    }
     let mut space = [0.0f64; tables::MOST_VALUES];
     say_in_room(call, table, floats, &mut space, out, kept)
 }

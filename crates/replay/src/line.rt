@@ -7,7 +7,6 @@ use axis::locate::MaybeIndex;
 use blend::AxisLocation;
 use libc::STDOUT_FILENO;
 use slices::SliceAnswer;
-use table::Shape;
 
 // The reply to a record, or one line of it.
 pub enum Reply {
@@ -129,16 +128,17 @@ fn put_answer(answer: Answer, line: &mut [u8]) -> usize
     put_bits(answer.value, line, at)
 }
 
-fn put_shape(shape: Shape, line: &mut [u8], at: usize) -> usize
-    requires { ⌜ at ≤ length (now line) ⌝ }
+fn put_counts(counts: [usize; 4], line: &mut [u8], at: usize) -> usize
+    requires { ⌜ Counts at (now line) ⌝ }
     ensures { λ r. ⌜ Counts r (now (line .exit)) ⌝ }
 {
-    let counts = shape.counts;
-    let at = put_count(shape.axes, line, at);
-    let at = put_count(counts[0], line, at);
-    let at = put_count(counts[1], line, at);
-    let at = put_count(counts[2], line, at);
-    put_count(counts[3], line, at)
+    let mut end = at;
+    let mut i: usize = 0;
+    while i < 4 {
+        end = put_count(counts[i], line, end);
+        i += 1;
+    }
+    end
 }
 
 fn put_slice(made: SliceAnswer, line: &mut [u8]) -> usize
@@ -146,7 +146,10 @@ fn put_slice(made: SliceAnswer, line: &mut [u8]) -> usize
 {
     let at = put_check(made.answer, line);
     let at = put(b" shape", line, at);
-    put_shape(made.shape, line, at)
+    let shape = made.shape;
+    let counts = shape.counts;
+    let at = put_count(shape.axes, line, at);
+    put_counts(counts, line, at)
 }
 
 fn put_rest(said: Reply, line: &mut [u8]) -> usize

@@ -6,11 +6,8 @@ use libc::STDIN_FILENO;
 // How many floats are read at once.
 const BLOCK: usize = 128;
 
-// No call has more directions.
-pub(crate) const MOST_DIRECTIONS: u8 = 8;
-
 // A record's header; its op says which fields it has, and what the words hold. The op is a byte of the list, or 256 where the list ends
-// before the header and 257 where it ends within.
+// before the header and 257 where it ends within, or the header has more than eight directions.
 pub struct Header {
     pub op: usize,
     pub a: u8,
@@ -20,11 +17,14 @@ pub struct Header {
     pub third: u64,
 }
 
-fn op_of(first: u8, got: usize) -> usize {
+fn op_of(first: u8, directions: u8, got: usize) -> usize {
     if got == 0 {
         return 256;
     }
     if got < 32 {
+        return 257;
+    }
+    if directions > 8 {
         return 257;
     }
     first as usize
@@ -34,7 +34,7 @@ fn header_of(bytes: &[u8], got: usize) -> Header
     requires { ⌜ 32 ≤ length (now bytes) ⌝ }
 {
     Header {
-        op: op_of(bytes[0], got),
+        op: op_of(bytes[0], bytes[2], got),
         a: bytes[1],
         b: bytes[2],
         reading: words::float(bytes, 8),

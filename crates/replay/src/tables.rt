@@ -110,9 +110,6 @@ fn read_and_look_up(call: Header, table: Table, floats: &[f64], readings: &mut [
 pub(crate) fn answer(call: Header, table: Table, floats: &[f64]) -> Reply
     requires { ⌜ Room table (now floats) ⌝ }
 {
-    if call.b > list::MOST_DIRECTIONS {
-        return Reply::Bad;
-    }
     let mut readings = [0.0f64; MOST_READINGS];
     read_and_look_up(call, table, floats, &mut readings)
 }

@@ -3,6 +3,7 @@ ghost use Prim.Native.Nat.{_≤_};
 ghost use lib.ListN.{length};
 ghost use Rattle.io.specs.Counts.{Counts};
 ghost use Rattle.replay.specs.Room.{Room};
+use crate::calls;
 use crate::line;
 use crate::line::Kept;
 use crate::line::Reply;
@@ -86,12 +87,12 @@ fn make_of_fronts(call: Header, table: Table, floats: &[f64], sliced: &mut [f64]
     requires { ⌜ Room table (now floats) ⌝ }
 {
     let axis = list::upper_half(call.third);
-    let from = 128 + table.nodes;
+    let from = calls::MOST_NODES + table.nodes;
     let to = from + table.values;
     make(
         call,
         table.shape,
-        &floats[128..from],
+        &floats[calls::MOST_NODES..from],
         &floats[from..to],
         axis,
         sliced,

@@ -65,7 +65,7 @@ fn lend_table(call: Header, count: usize, floats: &mut [f64]) -> Lent
     if size > floats.len() - calls::MOST_NODES {
         return lend_none(count);
     }
-    let whole = list::read_floats(size, &mut floats[128..]);
+    let whole = list::read_floats(size, &mut floats[calls::MOST_NODES..]);
     Lent {
         count,
         table,
@@ -136,8 +136,8 @@ fn tell(call: Header, lent: Lent, floats: &[f64], out: &mut [u8], kept: Kept) ->
     }
 }
 
-// Answers the list, with room for what it lends and for lines: an axis lies in the first 128 places, the nodes and the values of a table
-// after them.
+// Answers the list, with room for what it lends and for lines: an axis lies in the first MOST_NODES places, the nodes and the values of a
+// table after them.
 fn answer_all(floats: &mut [f64], out: &mut [u8])
     requires { ⌜ 128 ≤ length (now floats) ⌝ }
 {
@@ -159,7 +159,7 @@ fn answer_all(floats: &mut [f64], out: &mut [u8])
 }
 
 fn main() {
-    let mut floats = [0.0f64; 4800];
+    let mut floats = [0.0f64; calls::MOST_NODES + tables::MOST_NODES + tables::MOST_VALUES];
     let mut out = [0u8; 4096];
     answer_all(&mut floats, &mut out);
 }

@@ -3,6 +3,7 @@ ghost use mathlib.Core.Path.{_≡_};
 ghost use Prim.Native.Nat.{_≤_, _<_};
 ghost use lib.ListN.{length};
 ghost use Rattle.replay.specs.Room.{Room};
+use crate::calls;
 use crate::line::Reply;
 use crate::list;
 use crate::list::Header;
@@ -12,6 +13,8 @@ use ninterp::interpolator::n::linear_uniform;
 use ninterp::interpolator::n::nearest;
 use ninterp::interpolator::n::step;
 use table::Shape;
+
+pub(crate) const MOST_NODES: usize = 512;
 
 pub(crate) const MOST_VALUES: usize = 4160;
 
@@ -82,12 +85,12 @@ fn look_up_fronts(
     requires { ⌜ Room table (now floats) ⌝ }
     requires { ⌜ count ≤ length (now readings) ⌝ }
 {
-    let from = 128 + table.nodes;
+    let from = calls::MOST_NODES + table.nodes;
     let to = from + table.values;
     look_up(
         call,
         table.shape,
-        &floats[128..from],
+        &floats[calls::MOST_NODES..from],
         &floats[from..to],
         &readings[..count],
     )

@@ -3,10 +3,10 @@ ghost use Prim.Native.Nat.{_≤_};
 ghost use lib.ListN.{length};
 ghost use Rattle.io.specs.Counts.{Counts};
 ghost use Rattle.replay.specs.Room.{Room};
+use crate::calls;
 use crate::line;
 use crate::line::Kept;
 use crate::line::Reply;
-use crate::line::Sliced;
 use crate::list;
 use crate::list::Header;
 use crate::tables;
@@ -42,20 +42,6 @@ fn changed(sliced: &[f64]) -> usize
     0
 }
 
-fn of_slice(made: SliceAnswer) -> Reply {
-    let answer = made.answer;
-    let shape = made.shape;
-    let counts = shape.counts;
-    Reply::Slice(Sliced {
-        answer,
-        axes: shape.axes,
-        a: counts[0],
-        b: counts[1],
-        c: counts[2],
-        d: counts[3],
-    })
-}
-
 fn step(
     call: Header,
     shape: Shape,
@@ -63,116 +49,124 @@ fn step(
     values: &[f64],
     axis: usize,
     sliced: &mut [f64],
-) -> Reply {
+) -> SliceAnswer {
     let bytes = list::bytes_of(call.second);
-    let count = list::wide(call.b);
-    if count > 8 {
-        return Reply::Bad;
-    }
-    let directions = &bytes[..count];
-    of_slice(slices::step(shape, nodes, values, directions, axis, call.reading, sliced))
+    let count = counts::least(call.b as usize, 8);
+    slices::step(
+        shape,
+        nodes,
+        values,
+        &bytes[..count],
+        axis,
+        call.reading,
+        sliced,
+    )
 }
 
-fn make(call: Header, shape: Shape, nodes: &[f64], values: &[f64], sliced: &mut [f64]) -> Reply {
-    let axis = list::upper_half(call.third);
+// By the rule that a header names, 13 to 16.
+fn make(
+    call: Header,
+    shape: Shape,
+    nodes: &[f64],
+    values: &[f64],
+    axis: usize,
+    sliced: &mut [f64],
+) -> SliceAnswer {
     let at = call.reading;
     let op = call.op;
     match op {
-        13 => of_slice(slices::nearest(shape, nodes, values, axis, at, sliced)),
+        13 => slices::nearest(shape, nodes, values, axis, at, sliced),
         14 => step(call, shape, nodes, values, axis, sliced),
-        15 => of_slice(slices::linear(shape, nodes, values, axis, at, sliced)),
-        16 => of_slice(slices::linear_uniform(shape, nodes, values, axis, at, sliced)),
-        _ => Reply::Bad,
+        15 => slices::linear(shape, nodes, values, axis, at, sliced),
+        _ => slices::linear_uniform(shape, nodes, values, axis, at, sliced),
     }
 }
 
-// Makes the slice of the front of the nodes and of the values.
-fn make_of_fronts(
-    call: Header,
-    table: Table,
-    nodes: &[f64],
-    values: &[f64],
-    sliced: &mut [f64],
-) -> Reply
-    requires { ⌜ Room table (now nodes) (now values) ⌝ }
+// Makes the slice of the table's nodes and values.
+fn make_of_fronts(call: Header, table: Table, floats: &[f64], sliced: &mut [f64]) -> SliceAnswer
+    requires { ⌜ Room table (now floats) ⌝ }
 {
-    let shape = table.shape;
-    let n = table.nodes;
-    let m = table.values;
-    make(call, shape, &nodes[..n], &values[..m], sliced)
+    let axis = list::upper_half(call.third);
+    let from = calls::MOST_NODES + table.nodes;
+    let to = from + table.values;
+    make(
+        call,
+        table.shape,
+        &floats[calls::MOST_NODES..from],
+        &floats[from..to],
+        axis,
+        sliced,
+    )
 }
 
-fn say_values(values: &[f64], count: usize, out: &mut [u8], held: usize) -> Kept
-    requires { ⌜ (count ≤ length (now values)) × Counts held (now out) ⌝ }
+fn say_values(values: &[f64], count: usize, out: &mut [u8], kept: Kept) -> Kept
+    requires { ⌜ (count ≤ length (now values)) × Counts (kept .held) (now out) ⌝ }
     ensures { λ r. ⌜ Counts (r .held) (now (out .exit)) ⌝ }
 {
-    let mut held = held;
+    let mut kept = kept;
     let mut i: usize = 0;
     while i < count {
-        let kept = line::say(Reply::Bits(values[i]), out, held);
-        if !kept.go {
-            return kept;
-        }
-        held = kept.held;
+        kept = line::say(Reply::Bits(values[i]), out, kept);
         i += 1;
     }
-    Kept { held, go: true }
+    kept
 }
 
 // Holds the answer, the values up to the last changed place, and how many places come after it.
-fn say_made(said: Reply, sliced: &[f64], out: &mut [u8], held: usize) -> Kept
+fn say_made(made: SliceAnswer, sliced: &[f64], out: &mut [u8], held: usize) -> Kept
     requires { ⌜ Counts held (now out) ⌝ }
     ensures { λ r. ⌜ Counts (r .held) (now (out .exit)) ⌝ }
 {
     let count = changed(sliced);
-    let kept = line::say(said, out, held);
-    if !kept.go {
-        return kept;
-    }
-    let kept = say_values(sliced, count, out, kept.held);
-    if !kept.go {
-        return kept;
-    }
-    line::say(Reply::Kept(sliced.len() - count), out, kept.held)
+    let kept = line::say_slice(made, out, held);
+    let kept = say_values(sliced, count, out, kept);
+    line::say(Reply::Kept(sliced.len() - count), out, kept)
 }
 
 // Makes the slice in an output whose places are marked first.
 fn say_slice(
     call: Header,
     table: Table,
-    nodes: &[f64],
-    values: &[f64],
+    floats: &[f64],
     sliced: &mut [f64],
     out: &mut [u8],
-    held: usize,
+    kept: Kept,
 ) -> Kept
-    requires { ⌜ Room table (now nodes) (now values) ⌝ }
-    requires { ⌜ Counts held (now out) ⌝ }
+    requires { ⌜ Room table (now floats) ⌝ }
+    requires { ⌜ Counts (kept .held) (now out) ⌝ }
     ensures { λ r. ⌜ Counts (r .held) (now (out .exit)) ⌝ }
 {
     mark_all(sliced);
-    let said = make_of_fronts(call, table, nodes, values, sliced);
-    say_made(said, sliced, out, held)
+    let made = make_of_fronts(call, table, floats, sliced);
+    say_made(made, sliced, out, kept.held)
+}
+
+// Makes the slice in the room that a header gives it.
+fn say_in_room(
+    call: Header,
+    table: Table,
+    floats: &[f64],
+    sliced: &mut [f64],
+    out: &mut [u8],
+    kept: Kept,
+) -> Kept
+    requires { ⌜ Room table (now floats) ⌝ }
+    requires { ⌜ Counts (kept .held) (now out) ⌝ }
+    ensures { λ r. ⌜ Counts (r .held) (now (out .exit)) ⌝ }
+{
+    let room = list::lower_half(call.third);
+    if room > sliced.len() {
+        return line::say(Reply::Bad, out, kept);
+    }
+    say_slice(call, table, floats, &mut sliced[..room], out, kept)
 }
 
 // Makes the slice that a header asks for, and holds its lines for output.
-pub(crate) fn say(
-    call: Header,
-    table: Table,
-    nodes: &[f64],
-    values: &[f64],
-    out: &mut [u8],
-    held: usize,
-) -> Kept
-    requires { ⌜ Room table (now nodes) (now values) ⌝ }
-    requires { ⌜ Counts held (now out) ⌝ }
+pub(crate) fn say(call: Header, table: Table, floats: &[f64], out: &mut [u8], kept: Kept) -> Kept
+    requires { ⌜ Room table (now floats) ⌝ }
+    requires { ⌜ Counts (kept .held) (now out) ⌝ }
     ensures { λ r. ⌜ Counts (r .held) (now (out .exit)) ⌝ }
 {
     let mut space = [0.0f64; tables::MOST_VALUES];
-    let sliced: &mut [f64] = &mut space;
-    let room = list::lower_half(call.third);
-    if room > tables::MOST_VALUES {
-        return line::say(Reply::Bad, out, held);
-    }
-    say_slice(call, table, nodes, values, &mut sliced[..room], out, held)
+    say_in_room(call, table, floats, &mut space, out, kept)
 }

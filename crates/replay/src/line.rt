@@ -2,37 +2,22 @@
 ghost use Prim.Native.Nat.{_≤_};
 ghost use lib.ListN.{length};
 ghost use Rattle.io.specs.Counts.{Counts};
-use crate::list::Header;
 use answer::Answer;
+use axis::locate::MaybeIndex;
+use blend::AxisLocation;
 use libc::STDOUT_FILENO;
+use slices::SliceAnswer;
 
-// A slice's answer with the shape that it gives, its counts one by one.
-pub struct Sliced {
-    pub answer: Answer,
-    pub axes: usize,
-    pub a: usize,
-    pub b: usize,
-    pub c: usize,
-    pub d: usize,
-}
-
-// The reply to a record, or one line of it. Silent, ToSlice and End have no line.
+// The reply to a record, or one line of it.
 pub enum Reply {
-    Silent,
-    // A slice, still to be made.
-    ToSlice(Header),
-    Slice(Sliced),
+    // What a check answers, and a lookup.
+    Checked(Answer),
+    Answered(Answer),
+    Found(MaybeIndex),
+    Located(AxisLocation),
     Bits(f64),
     Kept(usize),
-    Index(usize),
-    None,
-    Exact(usize),
-    Between { lower: usize, frac: f64 },
-    Done,
-    Value(f64),
-    Refused(Answer),
     Bad,
-    End,
 }
 
 // How many bytes are held for output, and whether to go on.
@@ -41,23 +26,12 @@ pub struct Kept {
     pub go: bool,
 }
 
-// The reply to a record that only lends, by whether the list has all of it.
-pub(crate) fn of_read(whole: bool) -> Reply {
-    if whole { Reply::Silent } else { Reply::Bad }
-}
-
-fn least(a: usize, b: usize) -> usize
-    ensures { λ r. ⌜ (r ≤ a) × (r ≤ b) ⌝ }
-{
-    if a < b { a } else { b }
-}
-
 // Puts as many bytes as there is room for, and gives the place past them.
 fn put(bytes: &[u8], line: &mut [u8], at: usize) -> usize
     requires { ⌜ at ≤ length (now line) ⌝ }
     ensures { λ r. ⌜ Counts r (now (line .exit)) ⌝ }
 {
-    let count = least(bytes.len(), line.len() - at);
+    let count = counts::least(bytes.len(), line.len() - at);
     let mut i: usize = 0;
     while i < count {
         line[at + i] = bytes[i];
@@ -91,13 +65,6 @@ fn put_named(name: &[u8], index: usize, line: &mut [u8]) -> usize
     put_decimal(index as u64, line, at)
 }
 
-fn put_value(value: f64, line: &mut [u8]) -> usize
-    ensures { λ r. ⌜ Counts r (now (line .exit)) ⌝ }
-{
-    let at = put(b"ok ", line, 0);
-    put_bits(value, line, at)
-}
-
 fn put_between(lower: usize, frac: f64, line: &mut [u8]) -> usize
     ensures { λ r. ⌜ Counts r (now (line .exit)) ⌝ }
 {
@@ -106,14 +73,22 @@ fn put_between(lower: usize, frac: f64, line: &mut [u8]) -> usize
     put_bits(frac, line, at)
 }
 
-fn put_refusal(no: Answer, line: &mut [u8]) -> usize
+fn put_location(location: AxisLocation, line: &mut [u8]) -> usize
     ensures { λ r. ⌜ Counts r (now (line .exit)) ⌝ }
 {
-    let at = put_named(b"no ", no.number as usize, line);
-    let at = put(b" ", line, at);
-    let at = put_decimal(no.axis as u64, line, at);
-    let at = put(b" ", line, at);
-    put_decimal(no.place as u64, line, at)
+    match location {
+        AxisLocation::Exact(index) => put_named(b"ok exact ", index, line),
+        AxisLocation::Between { lower, frac } => put_between(lower, frac, line),
+    }
+}
+
+fn put_index(index: MaybeIndex, line: &mut [u8]) -> usize
+    ensures { λ r. ⌜ Counts r (now (line .exit)) ⌝ }
+{
+    match index {
+        MaybeIndex::Some(index) => put_named(b"ok ", index, line),
+        MaybeIndex::None => put(b"ok none", line, 0),
+    }
 }
 
 fn put_count(count: usize, line: &mut [u8], at: usize) -> usize
@@ -124,7 +99,15 @@ fn put_count(count: usize, line: &mut [u8], at: usize) -> usize
     put_decimal(count as u64, line, at)
 }
 
-fn put_outcome(answer: Answer, line: &mut [u8]) -> usize
+fn put_refusal(no: Answer, line: &mut [u8]) -> usize
+    ensures { λ r. ⌜ Counts r (now (line .exit)) ⌝ }
+{
+    let at = put_named(b"no ", no.number as usize, line);
+    let at = put_count(no.axis, line, at);
+    put_count(no.place, line, at)
+}
+
+fn put_check(answer: Answer, line: &mut [u8]) -> usize
     ensures { λ r. ⌜ Counts r (now (line .exit)) ⌝ }
 {
     if answer.number == 0 {
@@ -134,34 +117,60 @@ fn put_outcome(answer: Answer, line: &mut [u8]) -> usize
     }
 }
 
-fn put_slice(made: Sliced, line: &mut [u8]) -> usize
+fn put_answer(answer: Answer, line: &mut [u8]) -> usize
     ensures { λ r. ⌜ Counts r (now (line .exit)) ⌝ }
 {
-    let at = put_outcome(made.answer, line);
+    let at = put_check(answer, line);
+    if answer.number != 0 {
+        return at;
+    }
+    let at = put(b" ", line, at);
+    put_bits(answer.value, line, at)
+}
+
+fn put_counts(counts: [usize; 4], line: &mut [u8], at: usize) -> usize
+    requires { ⌜ Counts at (now line) ⌝ }
+    ensures { λ r. ⌜ Counts r (now (line .exit)) ⌝ }
+{
+    let mut end = at;
+    let mut i: usize = 0;
+    while i < 4 {
+        end = put_count(counts[i], line, end);
+        i += 1;
+    }
+    end
+}
+
+fn put_slice(made: SliceAnswer, line: &mut [u8]) -> usize
+    ensures { λ r. ⌜ Counts r (now (line .exit)) ⌝ }
+{
+    let at = put_check(made.answer, line);
     let at = put(b" shape", line, at);
-    let at = put_count(made.axes, line, at);
-    let at = put_count(made.a, line, at);
-    let at = put_count(made.b, line, at);
-    let at = put_count(made.c, line, at);
-    put_count(made.d, line, at)
+    let shape = made.shape;
+    let counts = shape.counts;
+    let at = put_count(shape.axes, line, at);
+    put_counts(counts, line, at)
+}
+
+fn put_rest(said: Reply, line: &mut [u8]) -> usize
+    ensures { λ r. ⌜ Counts r (now (line .exit)) ⌝ }
+{
+    match said {
+        Reply::Bits(x) => put_bits(x, line, 0),
+        Reply::Kept(count) => put_named(b"kept ", count, line),
+        _ => put(b"bad list", line, 0),
+    }
 }
 
 fn put_reply(said: Reply, line: &mut [u8]) -> usize
     ensures { λ r. ⌜ Counts r (now (line .exit)) ⌝ }
 {
     match said {
-        Reply::Silent | Reply::ToSlice(_) | Reply::End => 0,
-        Reply::Slice(made) => put_slice(made, line),
-        Reply::Bits(x) => put_bits(x, line, 0),
-        Reply::Kept(count) => put_named(b"kept ", count, line),
-        Reply::Index(index) => put_named(b"ok ", index, line),
-        Reply::None => put(b"ok none", line, 0),
-        Reply::Exact(index) => put_named(b"ok exact ", index, line),
-        Reply::Between { lower, frac } => put_between(lower, frac, line),
-        Reply::Done => put(b"ok", line, 0),
-        Reply::Value(value) => put_value(value, line),
-        Reply::Refused(no) => put_refusal(no, line),
-        Reply::Bad => put(b"bad list", line, 0),
+        Reply::Checked(answer) => put_check(answer, line),
+        Reply::Answered(answer) => put_answer(answer, line),
+        Reply::Found(index) => put_index(index, line),
+        Reply::Located(location) => put_location(location, line),
+        _ => put_rest(said, line),
     }
 }
 
@@ -195,32 +204,57 @@ fn hold(line: &[u8], out: &mut [u8], held: usize) -> Kept
     }
 }
 
+// Ends a line, and holds it.
+fn end(line: &mut [u8], at: usize, out: &mut [u8], held: usize) -> Kept
+    requires { ⌜ at ≤ length (now line) ⌝ }
+    requires { ⌜ Counts held (now out) ⌝ }
+    ensures { λ r. ⌜ Counts (r .held) (now (out .exit)) ⌝ }
+{
+    let end = put(b"\n", line, at);
+    hold(&line[..end], out, held)
+}
+
 fn add(said: Reply, out: &mut [u8], held: usize) -> Kept
     requires { ⌜ Counts held (now out) ⌝ }
     ensures { λ r. ⌜ Counts (r .held) (now (out .exit)) ⌝ }
 {
-    // The longest line, a slice that is refused, has 167 bytes.
-    let mut line = [0u8; 192];
-    let at = put_reply(said, &mut line);
-    let end = put(b"\n", &mut line, at);
-    hold(&line[..end], out, held)
+    let mut space = [0u8; 64];
+    let line: &mut [u8] = &mut space;
+    let at = put_reply(said, line);
+    end(line, at, out, held)
 }
 
-// Holds the line of a reply, where it has one.
-pub(crate) fn say(said: Reply, out: &mut [u8], held: usize) -> Kept
+// Holds the first line of a slice.
+pub(crate) fn say_slice(made: SliceAnswer, out: &mut [u8], held: usize) -> Kept
     requires { ⌜ Counts held (now out) ⌝ }
     ensures { λ r. ⌜ Counts (r .held) (now (out .exit)) ⌝ }
 {
+    // The longest line, of a slice that is refused, has 167 bytes.
+    let mut space = [0u8; 192];
+    let line: &mut [u8] = &mut space;
+    let at = put_slice(made, line);
+    end(line, at, out, held)
+}
+
+// A bad list is not read on.
+fn goes_on(said: Reply, go: bool) -> bool {
     match said {
-        Reply::Silent | Reply::ToSlice(_) => Kept { held, go: true },
-        Reply::End => Kept { held, go: false },
-        Reply::Bad => {
-            let kept = add(said, out, held);
-            Kept {
-                held: kept.held,
-                go: false,
-            }
-        }
-        _ => add(said, out, held),
+        Reply::Bad => false,
+        _ => go,
+    }
+}
+
+// Holds the line of a reply, where no line before it stopped.
+pub(crate) fn say(said: Reply, out: &mut [u8], kept: Kept) -> Kept
+    requires { ⌜ Counts (kept .held) (now out) ⌝ }
+    ensures { λ r. ⌜ Counts (r .held) (now (out .exit)) ⌝ }
+{
+    if !kept.go {
+        return kept;
+    }
+    let next = add(said, out, kept.held);
+    Kept {
+        held: next.held,
+        go: goes_on(said, next.go),
     }
 }

@@ -1,14 +1,15 @@
 // The list: records with a header of 32 bytes, little-endian.
-ghost use Prim.Native.Nat.{_+_, _*_, _≤_};
+ghost use Prim.Native.Nat.{_+_, _*_, _≤_, _<_};
 ghost use lib.ListN.{length};
 use libc::STDIN_FILENO;
 
 // How many floats are read at once.
 const BLOCK: usize = 128;
 
-// A record's header; its op says which fields it has, and what the words hold.
+// A record's header; its op says which fields it has, and what the words hold. The op is a byte of the list, or 256 where the list ends
+// before the header and 257 where it ends within, or the header has more than eight directions.
 pub struct Header {
-    pub op: u8,
+    pub op: usize,
     pub a: u8,
     pub b: u8,
     pub reading: f64,
@@ -16,52 +17,41 @@ pub struct Header {
     pub third: u64,
 }
 
-pub enum Head {
-    Whole(Header),
-    Cut,
-    End,
-}
-
-pub(crate) fn wide(small: u8) -> usize {
-    small as usize
-}
-
-fn word_at(bytes: &[u8], at: usize) -> u64
-    requires { ⌜ at + 8 ≤ length (now bytes) ⌝ }
-{
-    let mut word: u64 = 0;
-    let mut i: usize = 8;
-    while i > 0 {
-        i -= 1;
-        word = word << 8 | wide(bytes[at + i]) as u64;
+fn op_of(first: u8, directions: u8, got: usize) -> usize {
+    if got == 0 {
+        return 256;
     }
-    word
+    if got < 32 {
+        return 257;
+    }
+    if directions > 8 {
+        return 257;
+    }
+    first as usize
 }
 
-fn float_at(bytes: &[u8], at: usize) -> f64
-    requires { ⌜ at + 8 ≤ length (now bytes) ⌝ }
-{
-    binary64::float_of_bits(word_at(bytes, at))
-}
-
-fn header_of(bytes: &[u8]) -> Header
+fn header_of(bytes: &[u8], got: usize) -> Header
     requires { ⌜ 32 ≤ length (now bytes) ⌝ }
 {
     Header {
-        op: bytes[0],
+        op: op_of(bytes[0], bytes[2], got),
         a: bytes[1],
         b: bytes[2],
-        reading: float_at(bytes, 8),
-        second: word_at(bytes, 16),
-        third: word_at(bytes, 24),
+        reading: words::float(bytes, 8),
+        second: words::word(bytes, 16, 8),
+        third: words::word(bytes, 24, 8),
     }
 }
 
-pub(crate) fn lower_half(word: u64) -> usize {
+pub(crate) fn lower_half(word: u64) -> usize
+    ensures { λ r. ⌜ r < 4294967296 ⌝ }
+{
     (word % 0x1_0000_0000) as usize
 }
 
-pub(crate) fn upper_half(word: u64) -> usize {
+pub(crate) fn upper_half(word: u64) -> usize
+    ensures { λ r. ⌜ r < 4294967296 ⌝ }
+{
     (word / 0x1_0000_0000) as usize
 }
 
@@ -89,16 +79,10 @@ pub(crate) fn quarters_of(word: u64) -> [usize; 4] {
     ]
 }
 
-pub(crate) fn read_header() -> Head {
+pub(crate) fn read_header() -> Header {
     let mut bytes = [0u8; 32];
     let got = io::read_full(STDIN_FILENO, &mut bytes);
-    if got == 0 {
-        return Head::End;
-    }
-    if got < 32 {
-        return Head::Cut;
-    }
-    Head::Whole(header_of(&bytes))
+    header_of(&bytes, got)
 }
 
 fn floats_of(bytes: &[u8], count: usize, into: &mut [f64], at: usize)
@@ -106,7 +90,7 @@ fn floats_of(bytes: &[u8], count: usize, into: &mut [f64], at: usize)
 {
     let mut i: usize = 0;
     while i < count {
-        into[at + i] = float_at(bytes, 8 * i);
+        into[at + i] = words::float(bytes, 8 * i);
         i += 1;
     }
 }

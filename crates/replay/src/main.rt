@@ -12,160 +12,154 @@ ghost use Rattle.io.specs.Counts.{Counts};
 ghost use Rattle.replay.specs.Room.{Room};
 use line::Kept;
 use line::Reply;
-use list::Head;
 use list::Header;
 use tables::Table;
 
-// After a record: how many nodes the axis has, the table, and what to say.
-struct Taken {
+// What the list has lent: how many nodes the axis has, the table, and whether the list had all of it.
+struct Lent {
     count: usize,
     table: Table,
-    said: Reply,
+    whole: bool,
 }
 
-fn take_axis(call: Header, axis: &mut [f64], table: Table) -> Taken
-    ensures { λ r. ⌜ r .count ≤ length (now (axis .exit)) ⌝ }
+fn lend_axis(call: Header, floats: &mut [f64], table: Table) -> Lent
+    requires { ⌜ 128 ≤ length (now floats) ⌝ }
+    ensures { λ r. ⌜ r .count ≤ 128 ⌝ }
     ensures { λ r. ⌜ (r .table .nodes ≡ table .nodes) × (r .table .values ≡ table .values) ⌝ }
 {
-    let count = list::wide(call.a);
-    if count > axis.len() {
-        return Taken {
+    let count = call.a as usize;
+    if count > calls::MOST_NODES {
+        return Lent {
             count: 0,
             table,
-            said: Reply::Bad,
+            whole: false,
         };
     }
-    let said = line::of_read(list::read_floats(count, axis));
-    Taken { count, table, said }
+    let whole = list::read_floats(count, floats);
+    Lent {
+        count,
+        table,
+        whole,
+    }
 }
 
-fn take_table(call: Header, count: usize, nodes: &mut [f64], values: &mut [f64]) -> Taken
+// No table, where the one that a header names does not fit.
+fn lend_none(count: usize) -> Lent
     ensures { λ r. ⌜ r .count ≡ count ⌝ }
-    ensures { λ r. ⌜ Room (r .table) (now (nodes .exit)) (now (values .exit)) ⌝ }
+    ensures { λ r. ⌜ (r .table .nodes ≡ 0) × (r .table .values ≡ 0) ⌝ }
+{
+    Lent {
+        count,
+        table: tables::none(),
+        whole: false,
+    }
+}
+
+fn lend_table(call: Header, count: usize, floats: &mut [f64]) -> Lent
+    requires { ⌜ 128 ≤ length (now floats) ⌝ }
+    ensures { λ r. ⌜ r .count ≡ count ⌝ }
+    ensures { λ r. ⌜ Room (r .table) (now (floats .exit)) ⌝ }
 {
     let table = tables::of_header(call);
-    if table.nodes > nodes.len() {
-        return Taken {
-            count,
-            table: tables::none(),
-            said: Reply::Bad,
-        };
+    let size = table.nodes + table.values;
+    if size > floats.len() - calls::MOST_NODES {
+        return lend_none(count);
     }
-    if table.values > values.len() {
-        return Taken {
-            count,
-            table: tables::none(),
-            said: Reply::Bad,
-        };
+    let whole = list::read_floats(size, &mut floats[calls::MOST_NODES..]);
+    Lent {
+        count,
+        table,
+        whole,
     }
-    let said = line::of_read(tables::read(table, nodes, values));
-    Taken { count, table, said }
 }
 
-fn answer(call: Header, axis: &[f64], count: usize) -> Reply
-    requires { ⌜ count ≤ length (now axis) ⌝ }
-{
-    calls::answer(&axis[..count], call)
-}
-
-// Takes a record whose header is read.
-fn take(
-    call: Header,
-    axis: &mut [f64],
-    nodes: &mut [f64],
-    values: &mut [f64],
-    count: usize,
-    table: Table,
-) -> Taken
-    requires { ⌜ count ≤ length (now axis) ⌝ }
-    requires { ⌜ Room table (now nodes) (now values) ⌝ }
-    ensures { λ r. ⌜ r .count ≤ length (now (axis .exit)) ⌝ }
-    ensures { λ r. ⌜ Room (r .table) (now (nodes .exit)) (now (values .exit)) ⌝ }
+// Reads what a record lends, where it lends.
+fn lend(call: Header, floats: &mut [f64], lent: Lent) -> Lent
+    requires { ⌜ lent .count ≤ 128 ⌝ }
+    requires { ⌜ Room (lent .table) (now floats) ⌝ }
+    ensures { λ r. ⌜ r .count ≤ 128 ⌝ }
+    ensures { λ r. ⌜ Room (r .table) (now (floats .exit)) ⌝ }
 {
     let op = call.op;
     match op {
-        0 => take_axis(call, axis, table),
-        8 => take_table(call, count, nodes, values),
-        9 | 10 | 11 | 12 => {
-            let said = tables::answer(call, table, nodes, values);
-            Taken { count, table, said }
-        }
-        13 | 14 | 15 | 16 => Taken {
-            count,
-            table,
-            said: Reply::ToSlice(call),
-        },
-        _ => {
-            let said = answer(call, axis, count);
-            Taken { count, table, said }
-        }
+        0 => lend_axis(call, floats, lent.table),
+        8 => lend_table(call, lent.count, floats),
+        _ => lent,
     }
 }
 
-// Reads a record and takes it.
-fn step(
-    axis: &mut [f64],
-    nodes: &mut [f64],
-    values: &mut [f64],
-    count: usize,
-    table: Table,
-) -> Taken
-    requires { ⌜ count ≤ length (now axis) ⌝ }
-    requires { ⌜ Room table (now nodes) (now values) ⌝ }
-    ensures { λ r. ⌜ r .count ≤ length (now (axis .exit)) ⌝ }
-    ensures { λ r. ⌜ Room (r .table) (now (nodes .exit)) (now (values .exit)) ⌝ }
+fn answer(call: Header, floats: &[f64], count: usize) -> Reply
+    requires { ⌜ count ≤ length (now floats) ⌝ }
 {
-    match list::read_header() {
-        Head::Whole(call) => take(call, axis, nodes, values, count, table),
-        Head::Cut => Taken {
-            count,
-            table,
-            said: Reply::Bad,
-        },
-        Head::End => Taken {
-            count,
-            table,
-            said: Reply::End,
-        },
+    calls::answer(&floats[..count], call)
+}
+
+// What a call answers, by the axis or by the table.
+fn reply(call: Header, lent: Lent, floats: &[f64]) -> Reply
+    requires { ⌜ lent .count ≤ 128 ⌝ }
+    requires { ⌜ Room (lent .table) (now floats) ⌝ }
+{
+    let op = call.op;
+    match op {
+        9 | 10 | 11 | 12 => tables::answer(call, lent.table, floats),
+        _ => answer(call, floats, lent.count),
     }
+}
+
+// A record that lends has no line, unless the list ends within it.
+fn tell_lent(whole: bool, out: &mut [u8], kept: Kept) -> Kept
+    requires { ⌜ Counts (kept .held) (now out) ⌝ }
+    ensures { λ r. ⌜ Counts (r .held) (now (out .exit)) ⌝ }
+{
+    if whole {
+        return kept;
+    }
+    line::say(Reply::Bad, out, kept)
 }
 
 // Holds what a record has to say; a slice is made here.
-fn tell(taken: Taken, nodes: &[f64], values: &[f64], out: &mut [u8], held: usize) -> Kept
-    requires { ⌜ Room (taken .table) (now nodes) (now values) ⌝ }
-    requires { ⌜ Counts held (now out) ⌝ }
+fn tell(call: Header, lent: Lent, floats: &[f64], out: &mut [u8], kept: Kept) -> Kept
+    requires { ⌜ lent .count ≤ 128 ⌝ }
+    requires { ⌜ Room (lent .table) (now floats) ⌝ }
+    requires { ⌜ Counts (kept .held) (now out) ⌝ }
     ensures { λ r. ⌜ Counts (r .held) (now (out .exit)) ⌝ }
 {
-    let said = taken.said;
-    match said {
-        Reply::ToSlice(call) => cut::say(call, taken.table, nodes, values, out, held),
-        _ => line::say(said, out, held),
+    let op = call.op;
+    match op {
+        0 | 8 => tell_lent(lent.whole, out, kept),
+        13 | 14 | 15 | 16 => cut::say(call, lent.table, floats, out, kept),
+        256 => Kept {
+            held: kept.held,
+            go: false,
+        },
+        _ => line::say(reply(call, lent, floats), out, kept),
     }
 }
 
-fn main() {
-    let mut axis_room = [0.0f64; calls::MOST_NODES];
-    let mut node_room = [0.0f64; tables::MOST_NODES];
-    let mut value_room = [0.0f64; tables::MOST_VALUES];
-    let mut text = [0u8; 4096];
-    let axis: &mut [f64] = &mut axis_room;
-    let nodes: &mut [f64] = &mut node_room;
-    let values: &mut [f64] = &mut value_room;
-    let out: &mut [u8] = &mut text;
-    let mut count: usize = 0;
-    let mut table = tables::none();
-    let mut held: usize = 0;
-    let mut go = true;
+// Answers the list, with room for what it lends and for lines: an axis lies in the first MOST_NODES places, the nodes and the values of a
+// table after them.
+fn answer_all(floats: &mut [f64], out: &mut [u8])
+    requires { ⌜ 128 ≤ length (now floats) ⌝ }
+{
+    let mut lent = Lent {
+        count: 0,
+        table: tables::none(),
+        whole: true,
+    };
+    let mut kept = Kept { held: 0, go: true };
     // A proved loop has to end: more turns than any list has records.
     let mut turns = u64::MAX;
-    while turns > 0 && go {
-        let taken = step(axis, nodes, values, count, table);
-        let kept = tell(taken, nodes, values, out, held);
-        count = taken.count;
-        table = taken.table;
-        held = kept.held;
-        go = kept.go;
+    while turns > 0 && kept.go {
+        let call = list::read_header();
+        lent = lend(call, floats, lent);
+        kept = tell(call, lent, floats, out, kept);
         turns -= 1;
     }
-    line::write(out, held);
+    line::write(out, kept.held);
+}
+
+fn main() {
+    let mut floats = [0.0f64; calls::MOST_NODES + tables::MOST_NODES + tables::MOST_VALUES];
+    let mut out = [0u8; 4096];
+    answer_all(&mut floats, &mut out);
 }

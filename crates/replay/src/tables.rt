@@ -1,8 +1,9 @@
 // The table of the list, and the lookups in it.
 ghost use mathlib.Core.Path.{_≡_};
-ghost use Prim.Native.Nat.{_≤_};
+ghost use Prim.Native.Nat.{_≤_, _<_};
 ghost use lib.ListN.{length};
 ghost use Rattle.replay.specs.Room.{Room};
+use crate::calls;
 use crate::line::Reply;
 use crate::list;
 use crate::list::Header;
@@ -42,9 +43,11 @@ pub(crate) fn none() -> Table
 }
 
 // The table that a header names; nothing needs fit.
-pub(crate) fn of_header(call: Header) -> Table {
+pub(crate) fn of_header(call: Header) -> Table
+    ensures { λ r. ⌜ (r .nodes < 4294967296) × (r .values < 4294967296) ⌝ }
+{
     let shape = Shape {
-        axes: list::wide(call.a),
+        axes: call.a as usize,
         counts: list::quarters_of(call.second),
     };
     Table {
@@ -54,87 +57,62 @@ pub(crate) fn of_header(call: Header) -> Table {
     }
 }
 
-// Reads a table's nodes and values, and tells whether the list has them all.
-pub(crate) fn read(table: Table, nodes: &mut [f64], values: &mut [f64]) -> bool
-    requires { ⌜ Room table (now nodes) (now values) ⌝ }
-{
-    if list::read_floats(table.nodes, nodes) {
-        list::read_floats(table.values, values)
-    } else {
-        false
-    }
-}
-
-fn of_value(answer: Answer) -> Reply {
-    if answer.number != 0 {
-        return Reply::Refused(answer);
-    }
-    Reply::Value(answer.value)
-}
-
-fn nearest(shape: Shape, nodes: &[f64], values: &[f64], point: &[f64]) -> Reply {
-    of_value(nearest::interpolate(shape, nodes, values, point))
-}
-
-fn step(call: Header, shape: Shape, nodes: &[f64], values: &[f64], point: &[f64]) -> Reply {
+fn step(call: Header, shape: Shape, nodes: &[f64], values: &[f64], point: &[f64]) -> Answer {
     let bytes = list::bytes_of(call.second);
-    let count = list::wide(call.b);
-    if count > 8 {
-        return Reply::Bad;
-    }
-    of_value(step::interpolate(shape, nodes, values, point, &bytes[..count]))
+    let count = counts::least(call.b as usize, 8);
+    step::interpolate(shape, nodes, values, point, &bytes[..count])
 }
 
-fn linear(shape: Shape, nodes: &[f64], values: &[f64], point: &[f64]) -> Reply {
-    of_value(linear::interpolate(shape, nodes, values, point))
-}
-
-fn linear_uniform(shape: Shape, nodes: &[f64], values: &[f64], point: &[f64]) -> Reply {
-    of_value(linear_uniform::interpolate(shape, nodes, values, point))
-}
-
-fn look_up(call: Header, shape: Shape, nodes: &[f64], values: &[f64], point: &[f64]) -> Reply {
+// By the rule that a header names, 9 to 12.
+fn look_up(call: Header, shape: Shape, nodes: &[f64], values: &[f64], point: &[f64]) -> Answer {
     let op = call.op;
     match op {
-        9 => nearest(shape, nodes, values, point),
+        9 => nearest::interpolate(shape, nodes, values, point),
         10 => step(call, shape, nodes, values, point),
-        11 => linear(shape, nodes, values, point),
-        12 => linear_uniform(shape, nodes, values, point),
-        _ => Reply::Bad,
+        11 => linear::interpolate(shape, nodes, values, point),
+        _ => linear_uniform::interpolate(shape, nodes, values, point),
     }
 }
 
-// Looks up in the front of the nodes, of the values and of the readings.
+// Looks up in the nodes and the values of the table, at the front of the readings.
 fn look_up_fronts(
     call: Header,
     table: Table,
-    nodes: &[f64],
-    values: &[f64],
+    floats: &[f64],
     readings: &[f64],
     count: usize,
-) -> Reply
-    requires { ⌜ Room table (now nodes) (now values) ⌝ }
+) -> Answer
+    requires { ⌜ Room table (now floats) ⌝ }
     requires { ⌜ count ≤ length (now readings) ⌝ }
 {
-    let shape = table.shape;
-    let n = table.nodes;
-    let m = table.values;
-    look_up(call, shape, &nodes[..n], &values[..m], &readings[..count])
+    let from = calls::MOST_NODES + table.nodes;
+    let to = from + table.values;
+    look_up(
+        call,
+        table.shape,
+        &floats[calls::MOST_NODES..from],
+        &floats[from..to],
+        &readings[..count],
+    )
 }
 
 // Reads the readings that follow a header, and looks up.
-pub(crate) fn answer(call: Header, table: Table, nodes: &[f64], values: &[f64]) -> Reply
-    requires { ⌜ Room table (now nodes) (now values) ⌝ }
+fn read_and_look_up(call: Header, table: Table, floats: &[f64], readings: &mut [f64]) -> Reply
+    requires { ⌜ Room table (now floats) ⌝ }
 {
-    let mut space = [0.0f64; MOST_READINGS];
-    let readings: &mut [f64] = &mut space;
-    let count = list::wide(call.a);
-    if count > MOST_READINGS {
+    let count = call.a as usize;
+    if count > readings.len() {
         return Reply::Bad;
     }
-    if list::read_floats(count, readings) {
-        look_up_fronts(call, table, nodes, values, readings, count)
-    } else {
-        Reply::Bad
+    if !list::read_floats(count, readings) {
+        return Reply::Bad;
     }
+    Reply::Answered(look_up_fronts(call, table, floats, readings, count))
+}
+
+pub(crate) fn answer(call: Header, table: Table, floats: &[f64]) -> Reply
+    requires { ⌜ Room table (now floats) ⌝ }
+{
+    let mut readings = [0.0f64; MOST_READINGS];
+    read_and_look_up(call, table, floats, &mut readings)
 }

@@ -14,11 +14,11 @@ abbrev μ-loop : tie.MeasureT-loop
 loop-holds : tie.Need-loop-holds Inv-loop μ-loop
 loop-holds c = search needs
 
-mul-float-at : tie.Need-mul-float-at Inv-loop μ-loop
-mul-float-at c = search needs
+mul-float : tie.Need-mul-float Inv-loop μ-loop
+mul-float c = search needs
 
-float-at-requires : tie.Need-float-at-requires Inv-loop μ-loop
-float-at-requires c κs = search needs
+float-requires : tie.Need-float-requires Inv-loop μ-loop
+float-requires c κs = search needs
 
 add-into : tie.Need-add-into Inv-loop μ-loop
 add-into c = search needs
@@ -51,8 +51,8 @@ floats-of-spec =
     Inv-loop
     μ-loop
     loop-holds
-    mul-float-at
-    float-at-requires
+    mul-float
+    float-requires
     add-into
     mul-into
     slice-write-into

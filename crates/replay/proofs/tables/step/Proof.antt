@@ -7,11 +7,11 @@ use Rattle.replay.proofs.tables.step.Tie as tie
 bytes-of-requires : tie.Need-bytes-of-requires
 bytes-of-requires c κs = search needs
 
-wide-requires : tie.Need-wide-requires
-wide-requires c κs = search needs
+cast-least : tie.Need-cast-least
+cast-least c = search needs
 
-returns : tie.Need-returns
-returns c = search needs
+least-requires : tie.Need-least-requires
+least-requires c κs = search needs
 
 array-share-prefix-bytes : tie.Need-array-share-prefix-bytes
 array-share-prefix-bytes c = search needs
@@ -22,21 +22,17 @@ slice-aggregate-interpolate c = sym (length-take-le _ _ (search needs))
 interpolate-requires : tie.Need-interpolate-requires
 interpolate-requires c κs = search needs
 
-of-value-requires : tie.Need-of-value-requires
-of-value-requires c κs = search needs
-
-returns-2 : tie.Need-returns-2
-returns-2 c = search needs
+returns : tie.Need-returns
+returns c = search needs
 
 pub step-spec : {M : Type 1} → statement M
 step-spec =
     tie.close
     (tie.spec
     bytes-of-requires
-    wide-requires
-    returns
+    cast-least
+    least-requires
     array-share-prefix-bytes
     slice-aggregate-interpolate
     interpolate-requires
-    of-value-requires
-    returns-2)
+    returns)

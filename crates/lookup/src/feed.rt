@@ -39,7 +39,7 @@ fn step(
 {
     let have = fill(buf, held);
     let full = have == buf.len();
-    let turn = records::take_turn(shape, nodes, values, buf, have, left, out);
+    let turn = turns::take_turn(shape, nodes, values, buf, have, left, out);
     let n = turn.written;
     let rest = turn.held;
     let ok = io::write_all(1, &out[..n]);

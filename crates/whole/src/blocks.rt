@@ -47,7 +47,7 @@ fn step(
     ensures { λ r. ⌜ (r .at ≤ length (now (records .entry))) × (r .held ≤ length (now (buf .exit))) ⌝ }
 {
     let have = fill(records, at, buf, held);
-    let turn = records::take_turn(shape, nodes, values, buf, have, left, out);
+    let turn = turns::take_turn(shape, nodes, values, buf, have, left, out);
     let n = turn.written;
     io::write_all(STDOUT_FILENO, &out[..n]);
     let taken = have - held;

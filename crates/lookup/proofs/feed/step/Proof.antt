@@ -1,5 +1,5 @@
 use lib.Seq.{length-take-le}
-use Rattle.records.proofs.Turning.{turn-turning, stepped}
+use Rattle.turns.proofs.Turning.{turn-turning, stepped}
 use mathlib.Core.Path.{sym}
 use Prim.Native.Nat.{_≤_}
 use lib.ListN.{length}

@@ -4,7 +4,7 @@ use native.Mathlib.Omega.{arith}
 use lib.ListN.{length}
 use lib.Seq.{length-take-le}
 use borrow.Author.Needs.{needs}
-use Rattle.records.proofs.Turning.{turn-turning}
+use Rattle.turns.proofs.Turning.{turn-turning}
 use Rattle.whole.proofs.blocks.step.Statement.{statement}
 use Rattle.whole.proofs.blocks.step.Tie as tie
 

@@ -17,7 +17,7 @@ use Rattle.image.proofs.Laws.{load-means}
 use Rattle.ninterp.specs.Records.{recordRule}
 use Rattle.input.specs.Input.{imageSize, imageIn}
 use Rattle.input.proofs.Ends.{head-enough, size-stated}
-use Rattle.records.specs.Run.{runOf}
+use Rattle.turns.specs.Run.{runOf}
 
 -- an image that loads is as long as it states, so what follows it is records
 module _ (img more : List ℕ) (g : good (loadFault img 256 4096) ≡ true) where

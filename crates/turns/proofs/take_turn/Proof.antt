@@ -1,15 +1,15 @@
 use lib.Seq.{length-take-le}
 use Rattle.lines.proofs.Blocks.{answered}
 use Rattle.ninterp.specs.Records.{recordSize, recordRule}
-use Rattle.records.proofs.Turning.{there-fits, turn-of}
+use Rattle.turns.proofs.Turning.{there-fits, turn-of}
 use mathlib.Core.Path.{sym}
 use Prim.Native.Nat.{_*_, _≤_}
 use native.Mathlib.Omega.{arith}
 use lib.ListN.{length}
 use denote.Ref.{now}
 use borrow.Author.Needs.{needs}
-use Rattle.records.proofs.take_turn.Statement.{statement}
-use Rattle.records.proofs.take_turn.Tie as tie
+use Rattle.turns.proofs.take_turn.Statement.{statement}
+use Rattle.turns.proofs.take_turn.Tie as tie
 
 abbrev start : tie.After-least → tie.Start
 start l = l .before .before .before .before .before

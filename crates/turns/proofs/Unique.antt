@@ -4,8 +4,8 @@ use mathlib.Core.List.{List}
 use Prim.Native.Nat.{ℕ}
 use denote.Ref.{now}
 use Rattle.answer.proofs.Outcome.{one-outcome}
-use Rattle.records.specs.declared.Turn.{Turn}
-use Rattle.records.proofs.take_turn.Reads as take-turn
+use Rattle.turns.specs.declared.Turn.{Turn}
+use Rattle.turns.proofs.take_turn.Reads as take-turn
 
 pub take-turn-written : (κs : _) (a : _) (r s : Turn) (x y : _) → take-turn.Post κs a r x → take-turn.Post κs a s y → r .written ≡ s .written
 take-turn-written κs a r s x y p q = one-outcome (r .written) (s .written) _ (p .written) (q .written)

@@ -1,14 +1,14 @@
 use native.Mathlib.Nat.{zero-mul}
 use Rattle.ninterp.specs.Records.{recordSize}
-use Rattle.records.proofs.Turning.{one-of}
+use Rattle.turns.proofs.Turning.{one-of}
 use mathlib.Core.Path.{sym, ap, _∙_}
 use Prim.Native.Nat.{ℕ, _-_, _*_, _≤_}
 use native.Mathlib.Omega.{arith}
 use borrow.Author.Needs.{needs}
-use Rattle.records.proofs.used_bytes.Statement.{statement}
-use Rattle.records.proofs.used_bytes.Tie as tie
-use Rattle.records.proofs.used_bytes.Reads as reads
-use Rattle.records.proofs.used_bytes.Lts as lts
+use Rattle.turns.proofs.used_bytes.Statement.{statement}
+use Rattle.turns.proofs.used_bytes.Tie as tie
+use Rattle.turns.proofs.used_bytes.Reads as reads
+use Rattle.turns.proofs.used_bytes.Lts as lts
 
 one : (d : tie.Else1) → recordSize (d .before .args .shape) ≤ d .before .args .have
 one d = let s = d .before in one-of (s .args .count) (recordSize (s .args .shape)) (s .args .have) (d .if1 .left) (s .pre)

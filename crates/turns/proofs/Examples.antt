@@ -33,8 +33,8 @@ use Rattle.picks.specs.Picks.{nearestIndex}
 use Rattle.ninterp.specs.Tables.{indices, picked, nearestAnswer}
 use Rattle.ninterp.specs.Linears.{locations, interpolated, linearAnswer}
 use Rattle.ninterp.specs.Records.{kindAnswer, recordReadings, recordAnswer, recordRule}
-use Rattle.records.specs.Run.{runOf}
-use Rattle.records.proofs.Laws.{run-loaded}
+use Rattle.turns.specs.Run.{runOf}
+use Rattle.turns.proofs.Laws.{run-loaded}
 
 -- kind 0 at 0.5, kind 2 at 1.0, kind 0 at 3.0
 abbrev three : List ℕ

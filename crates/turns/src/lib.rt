@@ -2,7 +2,7 @@
 ghost use mathlib.Core.Path.{_≡_};
 ghost use Prim.Native.Nat.{_*_, _≤_};
 ghost use Rattle.ninterp.specs.Records.{recordSize, recordRule};
-ghost use Rattle.records.specs.Turns.{TurnOf};
+ghost use Rattle.turns.specs.Turns.{TurnOf};
 use shapes::Shape;
 
 // How many bytes were printed, how many are held at the buffer's front, and how many records may still come.

@@ -1,6 +1,6 @@
--- What a test that is joined of two says of each.
+-- What a test that is joined of two says of each, and what holds of either side of one.
 use mathlib.Core.Path.{_≡_, refl, sym}
-use mathlib.Core.Bool.{Bool, true, false, not, _&&_, _||_}
+use mathlib.Core.Bool.{Bool, true, false, not, _&&_, _||_, cond}
 use Rattle.answer.proofs.Orders.{clash}
 
 pub and-false : (p q : Bool) → q ≡ false → p && q ≡ false
@@ -30,3 +30,8 @@ neither-left false q e = refl
 pub neither-right : (p q : Bool) → p || q ≡ false → q ≡ false
 neither-right true q e = clash true refl e
 neither-right false q e = e
+
+-- what holds of both sides holds whichever is taken
+pub either : {A : Type 0} (P : A → Type 0) (b : Bool) (x y : A) → P x → P y → P (cond b x y)
+either P true x y p q = p
+either P false x y p q = q

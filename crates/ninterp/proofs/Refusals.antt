@@ -1,10 +1,12 @@
--- Demand 1: a refused lookup has value +0.0; and a lookup that succeeds answers 0, 0, 0 and its value. Assumes nothing.
+-- Demand 1: a refused lookup has value +0.0; and a lookup that succeeds answers 0, 0, 0 and its value. So does a record. Assumes nothing.
 use mathlib.Core.Path.{_≡_, sym, ap, _∙_}
 use mathlib.Core.Bool.{true, false}
 use mathlib.Core.List.{List}
-use Prim.Native.Nat.{ℕ}
+use Prim.Native.Nat.{ℕ, suc}
+use lib.Dec.{eqb, ltb}
+use lib.ListN.{length, getD}
 use lib.Ieee.{Float}
-use Rattle.answer.specs.Answer.{plusZero, answered, good, _or_}
+use Rattle.answer.specs.Answer.{plusZero, refused, answered, fine, good, _or_}
 use Rattle.answer.specs.declared.Answer.{Answer}
 use Rattle.answer.proofs.Orders as orders
 use Rattle.numbers.specs.Numbers.{resultFault}
@@ -22,7 +24,9 @@ use Rattle.shapes.proofs.Bares.{bare-frame}
 use Rattle.table.proofs.Bares.{bare-axes, bare-ranges}
 use Rattle.values.proofs.Bares.{bare-values}
 use Rattle.lists.proofs.Bares.{bare-directions, bare-readings}
-use Rattle.answer.proofs.Bares.{Bare, bare-or, row, after, succeeds}
+use Rattle.answer.proofs.Bares.{Bare, bare-refused, bare-or, row, after, succeeds}
+use Rattle.answer.proofs.Tests.{either}
+use Rattle.ninterp.specs.Records.{allOf, kindAnswer, recordSize, recordReadings, recordAnswer}
 
 pub nearest-refusal : (s : Shape) (nodes values readings : List Float) → good (nearestAnswer s nodes values readings) ≡ false → nearestAnswer s nodes values readings .value ≡ plusZero
 unfolding nearestAnswer lookupFault
@@ -80,3 +84,45 @@ pub linear-uniform-success : (s : Shape) (nodes values readings : List Float) �
     → linearUniformAnswer s nodes values readings ≡ answered (interpolated uniformLocation (countsOf s) nodes values readings)
 unfolding linearUniformAnswer
 linear-uniform-success s nodes values readings = computed-succeeds (linearUniformFault s nodes values readings) (interpolated uniformLocation (countsOf s) nodes values readings)
+
+-- ---- a record
+abbrev Empty : Answer → Type 0
+Empty a = good a ≡ false → a .value ≡ plusZero
+
+abbrev Told : Answer → Type 0
+Told a = good a ≡ true → a ≡ answered (a .value)
+
+tells : (a : Answer) (v : Float) → a ≡ answered v → a ≡ answered (a .value)
+unfolding answered
+tells a v e = e ∙ ap answered (sym (ap (λ (x : Answer). x .value) e))
+
+nothing-told : (n axis place : ℕ) → Told (refused (suc n) axis place)
+unfolding fine
+nothing-told n axis place h = tells (refused (suc n) axis place) plusZero (bare-refused n axis place .clear h)
+
+module _ (s : Shape) (nodes values : List Float) where
+  kind-refusal : (kind : ℕ) (readings : List Float) → Empty (kindAnswer kind s nodes values readings)
+  unfolding kindAnswer
+  kind-refusal kind readings =
+      either Empty (eqb kind 0) _ _ (linear-refusal s nodes values readings)
+      (either Empty (eqb kind 1) _ _ (linear-uniform-refusal s nodes values readings)
+      (either Empty (eqb kind 2) _ _ (nearest-refusal s nodes values readings)
+      (either Empty (eqb kind 3) _ _ (step-refusal s nodes values readings (allOf s 0))
+      (either Empty (eqb kind 4) _ _ (step-refusal s nodes values readings (allOf s 1)) (λ bad. bare-refused 8 0 0 .empty)))))
+
+  kind-success : (kind : ℕ) (readings : List Float) → Told (kindAnswer kind s nodes values readings)
+  unfolding kindAnswer
+  kind-success kind readings =
+      either Told (eqb kind 0) _ _ (λ h. tells _ _ (linear-success s nodes values readings h))
+      (either Told (eqb kind 1) _ _ (λ h. tells _ _ (linear-uniform-success s nodes values readings h))
+      (either Told (eqb kind 2) _ _ (λ h. tells _ _ (nearest-success s nodes values readings h))
+      (either Told (eqb kind 3) _ _ (λ h. tells _ _ (step-success s nodes values readings (allOf s 0) h))
+      (either Told (eqb kind 4) _ _ (λ h. tells _ _ (step-success s nodes values readings (allOf s 1) h)) (nothing-told 8 0 0)))))
+
+  pub record-refusal : (rec : List ℕ) → good (recordAnswer s nodes values rec) ≡ false → recordAnswer s nodes values rec .value ≡ plusZero
+  unfolding recordAnswer
+  record-refusal rec = either Empty (ltb (length rec) (recordSize s)) (refused 3 0 2) _ (λ bad. bare-refused 2 0 2 .empty) (kind-refusal (getD rec 0 0) (recordReadings s rec))
+
+  pub record-success : (rec : List ℕ) → good (recordAnswer s nodes values rec) ≡ true → recordAnswer s nodes values rec ≡ answered (recordAnswer s nodes values rec .value)
+  unfolding recordAnswer
+  record-success rec = either Told (ltb (length rec) (recordSize s)) (refused 3 0 2) _ (nothing-told 2 0 2) (kind-success (getD rec 0 0) (recordReadings s rec))

@@ -39,9 +39,6 @@ use Rattle.binary64.proofs.Held.{Held}
 use Rattle.writer.proofs.Back.{floats-held, held-append}
 use Rattle.writer.proofs.Made as made
 
-passed : (a : Answer) → fine ≡ a → good a ≡ true
-passed a e = orders.passed-fine a e
-
 -- ---- the image of a judged table passes the checks of the header and of the areas
 module _ (s : Shape) (four : length (s .counts) ≡ 4) (h : good (shapeFault s) ≡ true) (nodes values : List Float) (en : length nodes ≡ total (countsOf s)) (ev : length values ≡ size (countsOf s)) where
   abbrev img : List ℕ
@@ -59,11 +56,11 @@ module _ (s : Shape) (four : length (s .counts) ≡ 4) (h : good (shapeFault s) 
   starts : good (startFault img) ≡ true
   unfolding startFault
   starts =
-      orders.both-passed (shortFault (length img)) _ (passed _ (short-right (length img) (omega (arith, long, forty))))
-      (orders.both-passed (fieldFault 0 1 (wordAt 1 img 0)) _ (passed _ (field-right 0 1 (wordAt 1 img 0) (made.heads s four h nodes values en ev .0)))
-      (orders.both-passed (axesRow (axesField img)) _ (passed _ (axes-right (axesField img) (omega (arith, axes-is, shape-some s h)) (omega (arith, axes-is, shape-four s h))))
-      (orders.both-passed (fieldFault 2 0 (wordAt 2 img 2)) _ (passed _ (field-right 2 0 (wordAt 2 img 2) (made.heads s four h nodes values en ev .1 .1 .0)))
-      (passed _ (length-right (wordAt 4 img 4) (length img) (stated ∙ sym long) (omega (arith, stated, forty)) (omega (arith, stated, length-small s h)))))))
+      orders.both-passed (shortFault (length img)) _ (orders.passed-fine _ (short-right (length img) (omega (arith, long, forty))))
+      (orders.both-passed (fieldFault 0 1 (wordAt 1 img 0)) _ (orders.passed-fine _ (field-right 0 1 (wordAt 1 img 0) (made.heads s four h nodes values en ev .0)))
+      (orders.both-passed (axesRow (axesField img)) _ (orders.passed-fine _ (axes-right (axesField img) (omega (arith, axes-is, shape-some s h)) (omega (arith, axes-is, shape-four s h))))
+      (orders.both-passed (fieldFault 2 0 (wordAt 2 img 2)) _ (orders.passed-fine _ (field-right 2 0 (wordAt 2 img 2) (made.heads s four h nodes values en ev .1 .1 .0)))
+      (orders.passed-fine _ (length-right (wordAt 4 img 4) (length img) (stated ∙ sym long) (omega (arith, stated, forty)) (omega (arith, stated, length-small s h)))))))
     where
       stated : wordAt 4 img 4 ≡ imageLength s
       stated = made.length-back s four h nodes values en ev
@@ -75,9 +72,9 @@ module _ (s : Shape) (four : length (s .counts) ≡ 4) (h : good (shapeFault s) 
       each a m true t f =
           let l = t refl in
           let c : countField img a ≡ getD (s .counts) a 0 = made.count-back s four h nodes values en ev a m ∙ made.count-some s four h nodes values en ev a ∙ getD-take (s .axes) (s .counts) a 0 l in
-          passed _ (count-fine a (countField img a) (omega (arith, c, shape-enough s h a l)) (omega (arith, c, shape-few s h a l)) ∙ count-used img a (omega (arith, axes-is, l)))
+          orders.passed-fine _ (count-fine a (countField img a) (omega (arith, c, shape-enough s h a l)) (omega (arith, c, shape-few s h a l)) ∙ count-used img a (omega (arith, axes-is, l)))
       each a m false t f =
-          passed _ (field-right (8 + 2 * a) 0 (countField img a) (made.count-back s four h nodes values en ev a m ∙ made.count-none s four h nodes values en ev a (f refl)) ∙ count-unused img a (omega (arith, axes-is, f refl)))
+          orders.passed-fine _ (field-right (8 + 2 * a) 0 (countField img a) (made.count-back s four h nodes values en ev a m ∙ made.count-none s four h nodes values en ev a (f refl)) ∙ count-unused img a (omega (arith, axes-is, f refl)))
 
   same : countsOf (shapeOf img) ≡ countsOf s
   same = made.counts-back s four h nodes values en ev
@@ -93,7 +90,7 @@ module _ (s : Shape) (four : length (s .counts) ≡ 4) (h : good (shapeFault s) 
       each : (a : ℕ) → axesField img ≤ a → a < axesField img + (4 - axesField img) → good (offsetRow img a) ≡ true
       each a l m =
           let n : a < 4 = omega (arith, axes-is, shape-four s h, m) in
-          passed _ (field-right (16 + 4 * a) 0 (offsetField img a) (made.offset-back s four h nodes values en ev a n ∙ made.offset-none s four h nodes values en ev a (omega (arith, axes-is, l))))
+          orders.passed-fine _ (field-right (16 + 4 * a) 0 (offsetField img a) (made.offset-back s four h nodes values en ev a n ∙ made.offset-none s four h nodes values en ev a (omega (arith, axes-is, l))))
 
   pub made-head : good (headFault img) ≡ true
   unfolding headFault
@@ -102,7 +99,7 @@ module _ (s : Shape) (four : length (s .counts) ≡ 4) (h : good (shapeFault s) 
       (orders.both-passed (firstOf (countRow img) 0 4) _ counts
       (orders.both-passed (productRow (shapeOf img)) _ product
       (orders.both-passed (firstOf (offsetRow img) (axesField img) (4 - axesField img)) _ offsets
-      (passed _ (field-right 36 0 (wordAt 4 img 36) (made.end-back s four h nodes values en ev))))))
+      (orders.passed-fine _ (field-right 36 0 (wordAt 4 img 36) (made.end-back s four h nodes values en ev))))))
 
   abbrev axis : ℕ → Answer
   axis a = areaFault (length img) a (offsetField img a) (countField img a)
@@ -117,14 +114,14 @@ module _ (s : Shape) (four : length (s .counts) ≡ 4) (h : good (shapeFault s) 
           let o = made.used-back s four h nodes values en ev a l in
           let c : countField img a ≡ getD (countsOf s) a 0 = made.count-back s four h nodes values en ev a (omega (arith, l, shape-four s h)) ∙ made.count-some s four h nodes values en ev a in
           let up = next-at s a (getD (countsOf s) a 0) (axisAt s a) refl refl in
-          passed _ (area-right (length img) a (offsetField img a) (countField img a) (omega (arith, o, axis-after s a .0)) (ap (λ (j : ℕ). j % 8) o ∙ axis-after s a .1) (omega (arith, o, c, up, long, at-before s (suc a), values-before s)))
+          orders.passed-fine _ (area-right (length img) a (offsetField img a) (countField img a) (omega (arith, o, axis-after s a .0)) (ap (λ (j : ℕ). j % 8) o ∙ axis-after s a .1) (omega (arith, o, c, up, long, at-before s (suc a), values-before s)))
 
       stored : good (areaFault (length img) (axesField img) (valuesField img) (size (countsOf (shapeOf img)))) ≡ true
       stored =
           let o = made.values-field s four h nodes values en ev in
           let n = ap size same in
           let v = subst (λ (k : ℕ). (40 ≤ k) × (k % 8 ≡ 0)) (values-after s h) (axis-after s 4) in
-          passed _ (area-right (length img) (axesField img) (valuesField img) (size (countsOf (shapeOf img))) (omega (arith, o, v .0)) (ap (λ (j : ℕ). j % 8) o ∙ v .1) (omega (arith, o, n, values-end s, long)))
+          orders.passed-fine _ (area-right (length img) (axesField img) (valuesField img) (size (countsOf (shapeOf img))) (omega (arith, o, v .0)) (ap (λ (j : ℕ). j % 8) o ∙ v .1) (omega (arith, o, n, values-end s, long)))
 
 -- ---- writing, then loading
 
@@ -140,7 +137,7 @@ stored-fine values g = orders.none-good (valueFault values) 0 (length values) (�
 
 rooms-passed : (s : Shape) (n v : ℕ) → total (countsOf s) ≤ n → size (countsOf s) ≤ v → good (roomsFault s n v) ≡ true
 unfolding roomsFault
-rooms-passed s n v p q = orders.both-passed _ _ (passed _ (room-enough 0 (total (countsOf s)) n p)) (passed _ (room-enough 1 (size (countsOf s)) v q))
+rooms-passed s n v p q = orders.both-passed _ _ (orders.passed-fine _ (room-enough 0 (total (countsOf s)) n p)) (orders.passed-fine _ (room-enough 1 (size (countsOf s)) v q))
 
 rooms-fine : (s : Shape) (n v : ℕ) → good (roomsFault s n v) ≡ true → roomsFault s n v ≡ fine
 unfolding roomsFault roomFault
@@ -272,10 +269,10 @@ module _ (img : List ℕ) (n v : ℕ) (g : good (loadFault img n v) ≡ true) wh
     loaded-writes =
         orders.both-passed (frameFault (shapeOf img) (length (nodesIn img)) (length (valuesIn img))) _
         (orders.both-passed (shapeFault (shapeOf img)) _ s-good
-        (orders.both-passed (lengthFault 0 (total (countsOf (shapeOf img))) (length (nodesIn img))) _ (passed _ (length-same 0 (total (countsOf (shapeOf img))) (length (nodesIn img)) (nodes-total img s-good)))
-        (passed _ (length-same 1 (size (countsOf (shapeOf img))) (length (valuesIn img)) (values-size img)))))
+        (orders.both-passed (lengthFault 0 (total (countsOf (shapeOf img))) (length (nodesIn img))) _ (orders.passed-fine _ (length-same 0 (total (countsOf (shapeOf img))) (length (nodesIn img)) (nodes-total img s-good)))
+        (orders.passed-fine _ (length-same 1 (size (countsOf (shapeOf img))) (length (valuesIn img)) (values-size img)))))
         (orders.both-passed (axesFault (countsOf (shapeOf img)) (nodesIn img)) _ (l .axes)
-        (orders.both-passed (valuesFault (valuesIn img)) _ (l .stored) (passed _ (room-enough 2 (imageLength (shapeOf img)) (length out) room))))
+        (orders.both-passed (valuesFault (valuesIn img)) _ (l .stored) (orders.passed-fine _ (room-enough 2 (imageLength (shapeOf img)) (length out) room))))
 
     abbrev again : List ℕ
     again = written (shapeOf img) (nodesIn img) (valuesIn img) out

@@ -30,7 +30,8 @@ fn glyph(d: u64) -> u8
     requires { ⌜ d < 16 ⌝ }
     ensures { λ r. ⌜ r ≡ glyphOf d ⌝ }
 {
-    if d < 10 { 48 + d as u8 } else { 87 + d as u8 }
+    let glyphs: &[u8] = b"0123456789abcdef";
+    glyphs[d as usize]
 }
 
 // The last k digits of n, written from the lowest up.

@@ -7,7 +7,7 @@ use native.Mathlib.Omega.{arith}
 use borrow.Author.Tests.{lt-ltb, le-ltb, le-leb, lt-leb, leb-true, leb-false, eq-eqb, ne-eqb}
 use lib.Dec.{leb, ltb, eqb}
 use lib.ListN.{length, take, getD, length-take}
-use lib.Ieee.{Float}
+use lib.Ieee.{Float, nan}
 use Rattle.answer.specs.Answer.{refused, answered, good, when, _or_}
 use Rattle.answer.specs.declared.Answer.{Answer}
 use Rattle.answer.proofs.Orders as orders
@@ -17,6 +17,7 @@ use Rattle.counts.proofs.Rows.{direction-fine, length-same}
 use Rattle.shapes.specs.Shape.{countsOf}
 use Rattle.shapes.specs.Frame.{frameFault}
 use Rattle.table.specs.Table.{axesFault, rangesFault}
+use Rattle.table.specs.Layout.{tabulate}
 use Rattle.values.specs.Values.{valuesFault}
 use Rattle.lists.specs.Lists.{directionsFault, readingsFault}
 use Rattle.shapes.specs.declared.Shape.{Shape}
@@ -31,6 +32,7 @@ use Rattle.ninterp.specs.Linears.{interpolated, linearAnswer, linearUnif
 use Rattle.axis.specs.Locations.{locationBy}
 use Rattle.ninterp.specs.Records.{allOf, kindAnswer, recordSize, recordReadings, recordAnswer}
 use Rattle.ninterp.specs.Kinds.{tableFault, kindFault, pickOf, fourOf, kindFound}
+use Rattle.ninterp.proofs.Located.{take-filled}
 use Rattle.ninterp.proofs.Lookups.{judged, four-at, picks-nearest, picks-step}
 
 three : (a b c rest : Answer) → ((a or b or c) or rest) ≡ (a or b or c or rest)
@@ -189,6 +191,14 @@ module _ (kind : ℕ) (s : Shape) (nodes values readings : List Float) where
 pub length-readings : (s : Shape) (rec : List ℕ) → length (recordReadings s rec) ≡ s .axes
 unfolding recordReadings
 length-readings s rec = length-tabulate (s .axes) (λ a. floatAt rec (1 + 8 * a))
+
+-- of four readings those of a table's axes
+pub read-four : (s : Shape) (rec : List ℕ) (xs : List Float) → xs ≡ tabulate 4 (λ a. floatAt rec (1 + 8 * a)) → s .axes ≤ 4 → take (s .axes) xs ≡ recordReadings s rec
+unfolding recordReadings
+read-four s rec xs e h =
+    take-filled xs (s .axes) nan (λ a. floatAt rec (1 + 8 * a))
+    (omega (arith, ap length e ∙ length-tabulate 4 (λ a. floatAt rec (1 + 8 * a))))
+    (λ k b. ap (λ (ys : List Float). getD ys k nan) e ∙ getD-tabulate 4 k (λ a. floatAt rec (1 + 8 * a)) nan (omega arith))
 
 pub read-enough : (s : Shape) (rec : List ℕ) (xs : List Float) → take (s .axes) xs ≡ recordReadings s rec → s .axes ≤ length xs
 read-enough s rec xs e =

@@ -1,13 +1,15 @@
 // The program's records: a kind byte and one reading for each axis. What a table's own checks give is found once and lent to each record.
 ghost use mathlib.Core.Path.{_≡_};
 ghost use mathlib.Core.Bool.{true};
-ghost use Prim.Native.Nat.{_≤_};
+ghost use Prim.Native.Nat.{_+_, _*_, _≤_};
 ghost use lib.Dec.{leb, eqb};
-ghost use lib.ListN.{length, take, getD};
+ghost use lib.ListN.{length, getD};
 ghost use Rattle.answer.specs.Answer.{good, when, _or_};
 ghost use Rattle.shapes.specs.Shape.{countsOf};
 ghost use Rattle.lists.specs.Lists.{readingsFault};
+ghost use Rattle.table.specs.Layout.{tabulate};
 ghost use Rattle.table.specs.Table.{rangesFault};
+ghost use Rattle.words.specs.Words.{floatAt};
 ghost use Rattle.spacing.specs.Uniform.{axesUniformFault};
 ghost use Rattle.ninterp.specs.Tables.{Judged};
 ghost use Rattle.ninterp.specs.Records.{kindAnswer, recordSize, recordReadings, recordAnswer};
@@ -88,20 +90,16 @@ fn point_answer(kind: u8, shape: Shape, nodes: &[f64], values: &[f64], point: &[
 
 // ---- a record
 
-// The readings of a record, one for each axis.
-fn readings_of(rec: &[u8], shape: Shape) -> [f64; 4]
-    requires { ⌜ shape .axes ≤ 4 ⌝ }
-    ensures { λ r. ⌜ take (shape .axes) r ≡ recordReadings shape (now (rec .entry)) ⌝ }
+// The readings of a record, and what follows them up to four. All four are read without a loop: an array that a loop fills is copied when it is returned,
+// and the copy waits for what was just stored.
+fn readings_of(rec: &[u8]) -> [f64; 4]
+    ensures { λ r. ⌜ r ≡ tabulate 4 (λ a. floatAt (now (rec .entry)) (1 + 8 * a)) ⌝ }
 {
-    let axes = shape.axes;
-    let mut found = [0.0f64; 4];
-    let mut a: usize = 0;
-    while a < axes {
-        let reading = words::float(rec, 1 + 8 * a);
-        found[a] = reading;
-        a += 1;
-    }
-    found
+    let first = words::float(rec, 1);
+    let second = words::float(rec, 9);
+    let third = words::float(rec, 17);
+    let fourth = words::float(rec, 25);
+    [first, second, third, fourth]
 }
 
 // A whole record of a table of which it is known what 1 to 7 and 8 give.
@@ -122,7 +120,7 @@ pub(crate) fn whole_answer(
         return fault;
     }
     let axes = shape.axes;
-    let readings = readings_of(rec, shape);
+    let readings = readings_of(rec);
     point_answer(kind, shape, nodes, values, &readings[..axes])
 }
 

@@ -1,8 +1,9 @@
 use mathlib.Core.Path.{_≡_, sym, ap, _∙_}
-use lib.ListN.{length}
+use lib.ListN.{length, take}
 use denote.Ref.{now}
 use Rattle.shapes.proofs.Totals.{length-ids}
-use Rattle.ninterp.proofs.KindOrder.{length-readings, read-enough, whole-refused, whole-table, whole-four, whole-found}
+use Rattle.ninterp.specs.Records.{recordReadings}
+use Rattle.ninterp.proofs.KindOrder.{length-readings, read-four, read-enough, whole-refused, whole-table, whole-four, whole-found}
 use borrow.Author.Needs.{needs}
 use Rattle.ninterp.proofs.records.whole_answer.Statement.{statement}
 use Rattle.ninterp.proofs.records.whole_answer.Tie as tie
@@ -27,22 +28,29 @@ returns c =
     whole-refused (a .shape) (four s) (now (a .nodes)) (now (a .values)) (now (a .rec)) (a .table) (a .uniform) (s .pre .0) (s .pre .1 .0) _ (f .kind-fault .ensures) (c .if1 .taken)
 
 readings-of-requires : tie.Need-readings-of-requires
-readings-of-requires c κs =
-    let f = c .before .before in
+readings-of-requires c κs = search needs
+
+-- the readings of the table's axes
+own : (g : tie.After-readings-of) → take (start (g .before .before .before) .args .shape .axes) (g .readings-of .result)
+    ≡ recordReadings (start (g .before .before .before) .args .shape) (now (start (g .before .before .before) .args .rec))
+own g =
+    let e = g .before in
+    let f = e .before .before in
     let s = start f in
     let a = s .args in
-    whole-four (a .shape) (four s) (now (a .nodes)) (now (a .values)) (now (a .rec)) (a .table) (a .uniform) (s .pre .0) (s .pre .1 .0) _ (f .kind-fault .ensures) (c .if1 .left)
+    read-four (a .shape) (now (a .rec)) (g .readings-of .result) (g .readings-of .ensures)
+    (whole-four (a .shape) (four s) (now (a .nodes)) (now (a .values)) (now (a .rec)) (a .table) (a .uniform) (s .pre .0) (s .pre .1 .0) _ (f .kind-fault .ensures) (e .if1 .left))
 
 array-share-prefix-readings : tie.Need-array-share-prefix-readings
 array-share-prefix-readings c =
     let a = start (c .before .before .before) .args in
-    read-enough (a .shape) (now (a .rec)) (c .readings-of .result) (c .readings-of .ensures)
+    read-enough (a .shape) (now (a .rec)) (c .readings-of .result) (own c)
 
 slice-aggregate-point-answer : tie.Need-slice-aggregate-point-answer
 slice-aggregate-point-answer c =
     let g = c .before in
     let a = start (g .before .before .before) .args in
-    sym (ap length (g .readings-of .ensures) ∙ length-readings (a .shape) (now (a .rec)))
+    sym (ap length (own g) ∙ length-readings (a .shape) (now (a .rec)))
 
 point-answer-requires : tie.Need-point-answer-requires
 point-answer-requires c κs =
@@ -51,7 +59,7 @@ point-answer-requires c κs =
     let f = e .before .before in
     let s = start f in
     let a = s .args in
-    (whole-table (a .shape) (four s) (now (a .nodes)) (now (a .values)) (now (a .rec)) (a .table) (a .uniform) (s .pre .0) (s .pre .1 .0) _ (f .kind-fault .ensures) (e .if1 .left), ap length (g .readings-of .ensures) ∙ length-readings (a .shape) (now (a .rec)))
+    (whole-table (a .shape) (four s) (now (a .nodes)) (now (a .values)) (now (a .rec)) (a .table) (a .uniform) (s .pre .0) (s .pre .1 .0) _ (f .kind-fault .ensures) (e .if1 .left), ap length (own g) ∙ length-readings (a .shape) (now (a .rec)))
 
 returns-2 : tie.Need-returns-2
 returns-2 c =
@@ -60,7 +68,7 @@ returns-2 c =
     let f = e .before .before in
     let s = start f in
     let a = s .args in
-    whole-found (a .shape) (four s) (now (a .nodes)) (now (a .values)) (now (a .rec)) (a .table) (a .uniform) (s .pre .0) (s .pre .1 .0) _ (f .kind-fault .ensures) (e .if1 .left) _ (g .readings-of .ensures) _ (c .point-answer .ensures)
+    whole-found (a .shape) (four s) (now (a .nodes)) (now (a .values)) (now (a .rec)) (a .table) (a .uniform) (s .pre .0) (s .pre .1 .0) _ (f .kind-fault .ensures) (e .if1 .left) _ (own g) _ (c .point-answer .ensures)
 
 pub whole-answer-spec : {M : Type 1} → statement M
 whole-answer-spec =

@@ -9,7 +9,7 @@ use Rattle.answer.specs.Answer.{refused, answered, fine, good, when, _or_, firs
 use Rattle.answer.specs.declared.Answer.{Answer}
 use Rattle.answer.specs.declared.IndexAnswer.{IndexAnswer}
 use Rattle.judge.specs.Check.{gap, riseFault, nodeFault, nodesFault, axisFault}
-use Rattle.counts.specs.Counts.{countFault, directionFault, roomFault, lengthFault, notFirstFault}
+use Rattle.counts.specs.Counts.{axesCountFault, countFault, directionFault, roomFault, lengthFault, notFirstFault}
 use Rattle.numbers.specs.Numbers.{finiteFault, lentStepFault, readingFault, resultFault}
 use Rattle.uniform.specs.Uniform.{uniformCell, uniformIndex}
 use Rattle.grids.specs.Uniform.{apart, gapFault, uniformFault, toleranceOf}
@@ -26,7 +26,7 @@ use Rattle.slices.specs.Slices.{shapeWithout, pointFault, sliceAnswer}
 use Rattle.slices.specs.LinearSlices.{alongFirst, linearValues, linearRest, linearSliceFault, linearSlice, linearSliced}
 use Rattle.shapes.specs.Shape.{size, total}
 use Rattle.table.specs.Layout.{axesOf, strides, placeBy, table, indicesAt}
-use Rattle.shapes.specs.Frame.{shapeFault, frameFault, axesRow, productRow}
+use Rattle.shapes.specs.Frame.{shapeFault, frameFault, productRow}
 use Rattle.table.specs.Table.{axesFault, rangesFault}
 use Rattle.values.specs.Values.{valueFault, valuesFault}
 use Rattle.lists.specs.Lists.{readingsFault, rangeFault}
@@ -142,5 +142,5 @@ cases =
 
 -- the claim over all of it
 pub cases-hold : map (λ c. c .tells) cases ≡ map (λ c. c .paper) cases
-unfolding cases locateLowerIndex locateAxis locateStepIndex locateLowerIndexUniform validateUniformGridEpsilon indexAnswer axisAnswer axisReadingFault directedFault uniformReadFault nearestIndex indices picked nearestAnswer howMany lowerIndex exactNode fraction axisLocation lowerStep upperStep stepIndex uniformCell uniformIndex gap apart gapFault uniformFault toleranceOf countFault riseFault nodeFault nodesFault axisFault finiteFault lentStepFault directionFault readingFault resultFault refused answered fine good when _or_ firstOf given ofInt toUnsigned lt le eq add sub mul div locations interpolated linearAnswer shapeWithout pointFault sliceAnswer filledInto alongFirst linearValues linearRest linearSliceFault linearSlice linearSliced size total axesOf strides placeBy table indicesAt shapeFault lengthFault frameFault axesFault valueFault valuesFault readingsFault rangeFault rangesFault lookupFault notFirstFault roomFault linearFront blended computed resultsFault axesRow productRow
+unfolding cases locateLowerIndex locateAxis locateStepIndex locateLowerIndexUniform validateUniformGridEpsilon indexAnswer axisAnswer axisReadingFault directedFault uniformReadFault nearestIndex indices picked nearestAnswer howMany lowerIndex exactNode fraction axisLocation lowerStep upperStep stepIndex uniformCell uniformIndex gap apart gapFault uniformFault toleranceOf countFault riseFault nodeFault nodesFault axisFault finiteFault lentStepFault directionFault readingFault resultFault refused answered fine good when _or_ firstOf given ofInt toUnsigned lt le eq add sub mul div locations interpolated linearAnswer shapeWithout pointFault sliceAnswer filledInto alongFirst linearValues linearRest linearSliceFault linearSlice linearSliced size total axesOf strides placeBy table indicesAt shapeFault lengthFault frameFault axesFault valueFault valuesFault readingsFault rangeFault rangesFault lookupFault notFirstFault roomFault linearFront blended computed resultsFault axesCountFault productRow
 cases-hold = refl

@@ -8,31 +8,60 @@ use lib.Dec.{eqb, leb, ltb}
 use Rattle.answer.specs.Answer.{refused, fine, good}
 use Rattle.answer.proofs.Orders as orders
 use Rattle.answer.proofs.Tests.{and-false, and-left, and-right, or-right, not-false, neither-left, neither-right}
-use Rattle.counts.specs.Counts.{countFault, lengthFault, directionFault, roomFault, noAxisFault, notFirstFault}
+use Rattle.counts.specs.Counts.{axesCountFault, countFault, lengthFault, directionFault, roomFault, noAxisFault, notFirstFault}
+
+-- ---- a number outside a range
+module _ (from to x : ℕ) where
+  abbrev outside : Bool
+  outside = not (leb from x && leb x to)
+
+  pub below : x < from → outside ≡ true
+  below h = ap (λ (b : Bool). not (b && leb x to)) (lt-leb from x h)
+
+  pub above : to < x → outside ≡ true
+  above h = ap not (and-false (leb from x) (leb x to) (lt-leb x to h))
+
+  pub between : from ≤ x → x ≤ to → outside ≡ false
+  between h k = ap not (ap₂ _&&_ (le-leb from x h) (le-leb x to k))
+
+  inside-low : outside ≡ false → from ≤ x
+  inside-low h = leb-true from x (and-left (leb from x) (leb x to) (not-false (leb from x && leb x to) h))
+
+  inside-high : outside ≡ false → x ≤ to
+  inside-high h = leb-true x to (and-right (leb from x) (leb x to) (not-false (leb from x && leb x to) h))
+
+-- ---- 1
+module _ (axes : ℕ) where
+  pub axes-right : 1 ≤ axes → axes ≤ 4 → fine ≡ axesCountFault axes
+  unfolding axesCountFault
+  axes-right h k = orders.row-passed (outside 1 4 axes) 0 0 0 (between 1 4 axes h k)
+
+  module _ (h : good (axesCountFault axes) ≡ true) where
+    counted : outside 1 4 axes ≡ false
+    unfolding axesCountFault
+    counted = orders.row-good (outside 1 4 axes) 0 0 0 h
+
+    pub axes-some : 1 ≤ axes
+    axes-some = inside-low 1 4 axes counted
+
+    pub axes-four : axes ≤ 4
+    axes-four = inside-high 1 4 axes counted
 
 -- ---- 2
 module _ (axis count : ℕ) where
-  pub count-low : count < 2 → refused 2 axis 0 ≡ countFault axis count
-  unfolding countFault
-  count-low h = orders.row-met (not (leb 2 count && leb count 64)) 1 axis 0 (ap (λ (b : Bool). not (b && leb count 64)) (lt-leb 2 count h))
-
-  pub count-high : 64 < count → refused 2 axis 0 ≡ countFault axis count
-  unfolding countFault
-  count-high h = orders.row-met (not (leb 2 count && leb count 64)) 1 axis 0 (ap not (and-false (leb 2 count) (leb count 64) (lt-leb count 64 h)))
-
   pub count-fine : 2 ≤ count → count ≤ 64 → fine ≡ countFault axis count
   unfolding countFault
-  count-fine h k = orders.row-passed (not (leb 2 count && leb count 64)) 1 axis 0 (ap not (ap₂ _&&_ (le-leb 2 count h) (le-leb count 64 k)))
+  count-fine h k = orders.row-passed (outside 2 64 count) 1 axis 0 (between 2 64 count h k)
 
-  counted : good (countFault axis count) ≡ true → leb 2 count && leb count 64 ≡ true
+  fits : good (countFault axis count) ≡ true → outside 2 64 count ≡ false
   unfolding countFault
-  counted h = not-false (leb 2 count && leb count 64) (orders.row-good (not (leb 2 count && leb count 64)) 1 axis 0 h)
+  fits h = orders.row-good (outside 2 64 count) 1 axis 0 h
 
   pub count-enough : good (countFault axis count) ≡ true → 2 ≤ count
-  count-enough h = leb-true 2 count (and-left (leb 2 count) (leb count 64) (counted h))
+  count-enough h = inside-low 2 64 count (fits h)
 
   pub count-few : good (countFault axis count) ≡ true → count ≤ 64
-  count-few h = leb-true count 64 (and-right (leb 2 count) (leb count 64) (counted h))
+  count-few h = inside-high 2 64 count (fits h)
 
 -- ---- 3
 module _ (place wanted lent : ℕ) where

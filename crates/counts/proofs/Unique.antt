@@ -3,6 +3,7 @@ use mathlib.Core.Path.{_≡_}
 use Prim.Native.Nat.{ℕ}
 use Rattle.answer.proofs.Outcome.{one-outcome}
 use Rattle.answer.specs.declared.Answer.{Answer}
+use Rattle.counts.proofs.axes_count_fault.Reads as axes-count-fault
 use Rattle.counts.proofs.count_fault.Reads as count-fault
 use Rattle.counts.proofs.length_fault.Reads as length-fault
 use Rattle.counts.proofs.direction_fault.Reads as direction-fault
@@ -10,6 +11,9 @@ use Rattle.counts.proofs.room_fault.Reads as room-fault
 use Rattle.counts.proofs.no_axis_fault.Reads as no-axis-fault
 use Rattle.counts.proofs.not_first_fault.Reads as not-first-fault
 use Rattle.counts.proofs.least.Reads as least
+
+pub axes-count-fault-unique : (κs : _) (a : _) (r s : Answer) (x y : _) → axes-count-fault.Post κs a r x → axes-count-fault.Post κs a s y → r ≡ s
+axes-count-fault-unique κs a r s x y p q = one-outcome r s _ p q
 
 pub count-fault-unique : (κs : _) (a : _) (r s : Answer) (x y : _) → count-fault.Post κs a r x → count-fault.Post κs a s y → r ≡ s
 count-fault-unique κs a r s x y p q = one-outcome r s _ p q

@@ -1,20 +1,37 @@
-// The rows of the table of numbers that judge whole numbers, one function each: a count, a length, a direction, room, an axis to slice.
+// The rows of the table of numbers that judge whole numbers, one function each: how many axes, a count, a length, a direction, room, an axis to slice.
 ghost use mathlib.Core.Path.{_≡_};
+ghost use mathlib.Core.Bool.{not, _&&_};
 ghost use Prim.Native.Nat.{min};
-ghost use Rattle.counts.specs.Counts.{countFault, lengthFault, directionFault, roomFault, noAxisFault, notFirstFault};
+ghost use lib.Dec.{leb};
+ghost use Rattle.answer.specs.Answer.{refused, when};
+ghost use Rattle.counts.specs.Counts.{axesCountFault, countFault, lengthFault, directionFault, roomFault, noAxisFault, notFirstFault};
 use answer::Answer;
+
+// A number that is not `from` to `to`.
+fn outside_fault(number: u32, axis: usize, from: usize, to: usize, x: usize) -> Answer
+    ensures { λ r. ⌜ r ≡ when (not (leb from x && leb x to)) (refused number axis 0) ⌝ }
+{
+    if x < from {
+        return answer::refuse(number, axis, 0);
+    }
+    if x > to {
+        return answer::refuse(number, axis, 0);
+    }
+    answer::pass()
+}
+
+// 1: axes not 1 to 4.
+pub fn axes_count_fault(axes: usize) -> Answer
+    ensures { λ r. ⌜ r ≡ axesCountFault axes ⌝ }
+{
+    outside_fault(1, 0, 1, 4, axes)
+}
 
 // 2: a count outside 2 to 64.
 pub fn count_fault(axis: usize, count: usize) -> Answer
     ensures { λ r. ⌜ r ≡ countFault axis count ⌝ }
 {
-    if count < 2 {
-        return answer::refuse(2, axis, 0);
-    }
-    if count > 64 {
-        return answer::refuse(2, axis, 0);
-    }
-    answer::pass()
+    outside_fault(2, axis, 2, 64, count)
 }
 
 // 3: a lent length that differs from what the shape says.

@@ -6,13 +6,13 @@ use Prim.Native.Nat.{ℕ}
 use lib.IntN.{pos}
 use lib.Ieee.{fin, ofBits, sub, lt}
 use Rattle.answer.specs.Answer.{refused, answered, fine, good, when, firstOf, given, _or_}
-use Rattle.counts.specs.Counts.{countFault, roomFault}
+use Rattle.counts.specs.Counts.{axesCountFault, countFault, roomFault}
 use Rattle.numbers.specs.Numbers.{finiteFault}
 use Rattle.judge.specs.Check.{riseFault, nodeFault, nodesFault}
 use Rattle.shapes.specs.Shape.{size, total}
 use Rattle.table.specs.Layout.{axesOf}
 use Rattle.table.specs.Table.{axesFault}
-use Rattle.shapes.specs.Frame.{axesRow, productRow}
+use Rattle.shapes.specs.Frame.{productRow}
 use Rattle.values.specs.Values.{valueFault, valuesFault}
 use Rattle.words.specs.Words.{ofBytes, wordAt, floatAt}
 use Rattle.image.specs.Image.{axesField, countField, offsetField, valuesField, shapeOf, floatsAt, nodesFrom, nodesIn, valuesIn}
@@ -23,12 +23,12 @@ abbrev pub img : List ℕ
 img = 1 ∷ 1 ∷ 0 ∷ 0 ∷ 72 ∷ 0 ∷ 0 ∷ 0 ∷ 2 ∷ 0 ∷ 0 ∷ 0 ∷ 0 ∷ 0 ∷ 0 ∷ 0 ∷ 40 ∷ 0 ∷ 0 ∷ 0 ∷ 0 ∷ 0 ∷ 0 ∷ 0 ∷ 0 ∷ 0 ∷ 0 ∷ 0 ∷ 0 ∷ 0 ∷ 0 ∷ 0 ∷ 56 ∷ 0 ∷ 0 ∷ 0 ∷ 0 ∷ 0 ∷ 0 ∷ 0 ∷ 0 ∷ 0 ∷ 0 ∷ 0 ∷ 0 ∷ 0 ∷ 0 ∷ 0 ∷ 0 ∷ 0 ∷ 0 ∷ 0 ∷ 0 ∷ 0 ∷ 0 ∷ 64 ∷ 0 ∷ 0 ∷ 0 ∷ 0 ∷ 0 ∷ 0 ∷ 36 ∷ 64 ∷ 0 ∷ 0 ∷ 0 ∷ 0 ∷ 0 ∷ 0 ∷ 52 ∷ 64 ∷ []
 
 pub example-loads : loadFault img 2 2 ≡ fine
-unfolding loadFault headFault startFault shortFault fieldFault axesRow lengthRow countRow productRow offsetRow areaFault areasFault roomFault roomsFault contentsFault axesField countField offsetField valuesField shapeOf floatsAt nodesFrom nodesIn valuesIn ofBytes wordAt floatAt size total axesOf axesFault valueFault valuesFault countFault finiteFault riseFault nodeFault nodesFault refused answered fine good when _or_ firstOf given ofBits sub lt
+unfolding loadFault headFault startFault shortFault fieldFault axesCountFault lengthRow countRow productRow offsetRow areaFault areasFault roomFault roomsFault contentsFault axesField countField offsetField valuesField shapeOf floatsAt nodesFrom nodesIn valuesIn ofBytes wordAt floatAt size total axesOf axesFault valueFault valuesFault countFault finiteFault riseFault nodeFault nodesFault refused answered fine good when _or_ firstOf given ofBits sub lt
 example-loads = refl
 
 -- one place of room short, of the nodes
 pub example-room : loadFault img 1 2 ≡ refused 15 0 0
-unfolding loadFault headFault startFault shortFault fieldFault axesRow lengthRow countRow productRow offsetRow areaFault areasFault roomFault roomsFault contentsFault axesField countField offsetField valuesField shapeOf floatsAt nodesFrom nodesIn valuesIn ofBytes wordAt floatAt size total axesOf axesFault valueFault valuesFault countFault finiteFault riseFault nodeFault nodesFault refused answered fine good when _or_ firstOf given ofBits sub lt
+unfolding loadFault headFault startFault shortFault fieldFault axesCountFault lengthRow countRow productRow offsetRow areaFault areasFault roomFault roomsFault contentsFault axesField countField offsetField valuesField shapeOf floatsAt nodesFrom nodesIn valuesIn ofBytes wordAt floatAt size total axesOf axesFault valueFault valuesFault countFault finiteFault riseFault nodeFault nodesFault refused answered fine good when _or_ firstOf given ofBits sub lt
 example-room = refl
 
 pub example-values : valuesIn img ≡ fin false 5 (pos 1) ∷ fin false 5 (pos 2) ∷ []

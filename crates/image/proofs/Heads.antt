@@ -7,12 +7,13 @@ use native.Mathlib.Omega.{arith}
 use borrow.Author.Tests.{leb-true, eqb-true}
 use lib.Dec.{leb, eqb}
 use lib.ListN.{length, getD}
-use Rattle.answer.specs.Answer.{refused, good, when, firstOf}
+use Rattle.answer.specs.Answer.{good, firstOf}
 use Rattle.answer.proofs.Orders as orders
-use Rattle.counts.specs.Counts.{countFault}
+use Rattle.counts.specs.Counts.{axesCountFault, countFault}
+use Rattle.counts.proofs.Rows.{axes-four}
 use Rattle.answer.proofs.Tests.{not-false, and-left, and-right}
 use Rattle.table.specs.Layout.{tabulate}
-use Rattle.shapes.specs.Frame.{shapeFault, axesRow, productRow}
+use Rattle.shapes.specs.Frame.{shapeFault, productRow}
 use Rattle.shapes.specs.declared.Shape.{Shape}
 use Rattle.table.proofs.Layouts.{getD-tabulate}
 use Rattle.words.specs.Words.{wordAt}
@@ -29,30 +30,23 @@ shape-same img n a b c d e p q r s =
     ∙ ap₂ (λ (x y : ℕ). record { axes = axesField img; counts = countField img 0 ∷ countField img 1 ∷ x ∷ y ∷ [] }) r s
 
 module _ (img : List ℕ) where
-  pub start-axes : good (startFault img) ≡ true → good (axesRow (axesField img)) ≡ true
+  pub start-axes : good (startFault img) ≡ true → good (axesCountFault (axesField img)) ≡ true
   unfolding startFault
-  start-axes h = orders.first-passed (axesRow (axesField img)) _ (orders.second-passed (fieldFault 0 1 (wordAt 1 img 0)) _ (orders.second-passed (shortFault (length img)) _ h))
+  start-axes h = orders.first-passed (axesCountFault (axesField img)) _ (orders.second-passed (fieldFault 0 1 (wordAt 1 img 0)) _ (orders.second-passed (shortFault (length img)) _ h))
 
-  module _ (h : good (axesRow (axesField img)) ≡ true) where
-    inside : leb 1 (axesField img) && leb (axesField img) 4 ≡ true
-    unfolding axesRow
-    inside = not-false (leb 1 (axesField img) && leb (axesField img) 4) (orders.row-good (not (leb 1 (axesField img) && leb (axesField img) 4)) 0 0 0 h)
-
-    pub axes-four : axesField img ≤ 4
-    axes-four = leb-true (axesField img) 4 (and-right (leb 1 (axesField img)) (leb (axesField img) 4) inside)
-
+  module _ (h : good (axesCountFault (axesField img)) ≡ true) where
     -- 1 and the counts are told before: what is left of the shape's faults is the product
     module _ (g : good (firstOf (countRow img) 0 4) ≡ true) where
       each : (a : ℕ) → 0 ≤ a → a < 0 + axesField img → good (countFault a (getD (tabulate 4 (countField img)) a 0)) ≡ true
       each a l m =
-          let four : a < 4 = omega (arith, axes-four) in
+          let four : a < 4 = omega (arith, axes-four (axesField img) h) in
           ap good (ap (countFault a) (getD-tabulate 4 a (countField img) 0 four) ∙ count-used img a (omega (arith, m)))
           ∙ orders.all-passed (countRow img) 0 4 g a (omega arith) (omega (arith, four))
 
       pub product-only : shapeFault (shapeOf img) ≡ productRow (shapeOf img)
-      unfolding shapeFault productRow shapeOf axesRow
+      unfolding shapeFault productRow shapeOf
       product-only =
-          orders.or-good (when (not (leb 1 (axesField img) && leb (axesField img) 4)) (refused 1 0 0)) _ h
+          orders.or-good (axesCountFault (axesField img)) _ h
           ∙ orders.or-good (firstOf (λ a. countFault a (getD (tabulate 4 (countField img)) a 0)) 0 (axesField img)) _
           (ap good (orders.none-good (λ a. countFault a (getD (tabulate 4 (countField img)) a 0)) 0 (axesField img) each) ∙ orders.good-fine)
 
@@ -84,7 +78,7 @@ module _ (img : List ℕ) (h : good (headFault img) ≡ true) where
   row =
       let h1 = orders.second-passed (shortFault (length img)) _ starts in
       let h2 = orders.second-passed (fieldFault 0 1 (wordAt 1 img 0)) _ h1 in
-      let h3 = orders.second-passed (axesRow (axesField img)) _ h2 in
+      let h3 = orders.second-passed (axesCountFault (axesField img)) _ h2 in
       let h4 = orders.second-passed (fieldFault 2 0 (wordAt 2 img 2)) (lengthRow (wordAt 4 img 4) (length img)) h3 in
       not-false (eqb (wordAt 4 img 4) (length img) && (leb 40 (wordAt 4 img 4) && leb (wordAt 4 img 4) 36864))
       (orders.row-good (not (eqb (wordAt 4 img 4) (length img) && (leb 40 (wordAt 4 img 4) && leb (wordAt 4 img 4) 36864))) 12 0 4 h4)

@@ -11,7 +11,6 @@ use Rattle.counts.specs.Counts.{countFault}
 use Rattle.answer.proofs.Tests.{and-false, not-false}
 use Rattle.image.specs.Image.{axesField, countField}
 use Rattle.image.specs.Load.{fieldFault, shortFault, lengthRow, countRow, areaFault}
-use Rattle.shapes.specs.Frame.{axesRow}
 
 module _ (place wanted x : ℕ) where
   pub field-wrong : (x ≡ wanted → ⊥) → refused 13 0 place ≡ fieldFault place wanted x
@@ -33,22 +32,6 @@ short-wrong len h = row-met (ltb len 40) 12 0 0 (lt-ltb len 40 h)
 pub short-right : (len : ℕ) → 40 ≤ len → fine ≡ shortFault len
 unfolding shortFault
 short-right len h = row-passed (ltb len 40) 12 0 0 (le-ltb len 40 h)
-
-module _ (axes : ℕ) where
-  abbrev outside : Bool
-  outside = not (leb 1 axes && leb axes 4)
-
-  pub axes-none : axes < 1 → refused 1 0 0 ≡ axesRow axes
-  unfolding axesRow
-  axes-none h = row-met outside 0 0 0 (ap (λ (b : Bool). not (b && leb axes 4)) (lt-leb 1 axes h))
-
-  pub axes-many : 4 < axes → refused 1 0 0 ≡ axesRow axes
-  unfolding axesRow
-  axes-many h = row-met outside 0 0 0 (ap not (and-false (leb 1 axes) (leb axes 4) (lt-leb axes 4 h)))
-
-  pub axes-right : 1 ≤ axes → axes ≤ 4 → fine ≡ axesRow axes
-  unfolding axesRow
-  axes-right h k = row-passed outside 0 0 0 (ap₂ (λ (p q : Bool). not (p && q)) (le-leb 1 axes h) (le-leb axes 4 k))
 
 module _ (stated len : ℕ) where
   abbrev unfit : Bool

@@ -6,9 +6,9 @@ use lib.Dec.{leb, ltb, eqb}
 use lib.ListN.{length}
 use Rattle.answer.specs.Answer.{refused, when, _or_, firstOf, given}
 use Rattle.answer.specs.declared.Answer.{Answer}
-use Rattle.counts.specs.Counts.{countFault, roomFault}
+use Rattle.counts.specs.Counts.{axesCountFault, countFault, roomFault}
 use Rattle.shapes.specs.Shape.{countsOf, size, total, noShape}
-use Rattle.shapes.specs.Frame.{axesRow, productRow}
+use Rattle.shapes.specs.Frame.{productRow}
 use Rattle.table.specs.Table.{axesFault}
 use Rattle.values.specs.Values.{valuesFault}
 use Rattle.shapes.specs.declared.Shape.{Shape}
@@ -33,7 +33,7 @@ unfoldable pub startFault : List ℕ → Answer
 startFault img =
     shortFault (length img)
     or fieldFault 0 1 (wordAt 1 img 0)
-    or axesRow (axesField img)
+    or axesCountFault (axesField img)
     or fieldFault 2 0 (wordAt 2 img 2)
     or lengthRow (wordAt 4 img 4) (length img)
 

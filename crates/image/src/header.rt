@@ -5,7 +5,6 @@ ghost use Rattle.answer.specs.Answer.{firstOf};
 ghost use Rattle.words.specs.Words.{wordAt};
 ghost use Rattle.image.specs.Image.{axesField, countField, offsetField, valuesField, shapeOf};
 ghost use Rattle.image.specs.Load.{fieldFault, shortFault, lengthRow, startFault, countRow, offsetRow, headFault};
-ghost use Rattle.shapes.specs.Frame.{axesRow};
 use answer::Answer;
 use shapes::Shape;
 
@@ -78,19 +77,6 @@ fn short_fault(len: usize) -> Answer
     }
 }
 
-fn axes_row(axes: usize) -> Answer
-    ensures { λ r. ⌜ r ≡ axesRow axes ⌝ }
-{
-    if axes < 1 {
-        return answer::refuse(1, 0, 0);
-    }
-    if axes > 4 {
-        answer::refuse(1, 0, 0)
-    } else {
-        answer::pass()
-    }
-}
-
 fn length_row(stated: usize, len: usize) -> Answer
     ensures { λ r. ⌜ r ≡ lengthRow stated len ⌝ }
 {
@@ -119,7 +105,7 @@ fn start_fault(img: &[u8]) -> Answer
     if fault.number != 0 {
         return fault;
     }
-    let fault = axes_row(axes_of(img));
+    let fault = counts::axes_count_fault(axes_of(img));
     if fault.number != 0 {
         return fault;
     }

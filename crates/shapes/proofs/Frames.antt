@@ -1,27 +1,23 @@
 -- The rows that judge a shape, on plain values: which test gives which answer, and what is known where a row was passed.
 use mathlib.Core.Path.{_≡_, refl, ap, ap₂, _∙_}
-use mathlib.Core.Bool.{Bool, true, not, _&&_}
+use mathlib.Core.Bool.{true}
 use Prim.Native.Nat.{ℕ, _≤_, _<_}
 use native.Mathlib.Omega.{arith}
-use borrow.Author.Tests.{lt-ltb, le-ltb, ltb-false, le-leb, lt-leb, leb-true}
-use lib.Dec.{leb, ltb}
+use borrow.Author.Tests.{lt-ltb, le-ltb, ltb-false}
+use lib.Dec.{ltb}
 use lib.ListN.{getD}
 use Rattle.answer.specs.Answer.{refused, fine, good, when, _or_, firstOf}
 use Rattle.answer.specs.declared.Answer.{Answer}
 use Rattle.answer.proofs.Orders as orders
-use Rattle.counts.specs.Counts.{countFault}
+use Rattle.counts.specs.Counts.{axesCountFault, countFault}
 use Rattle.shapes.specs.Shape.{countsOf, size, total}
-use Rattle.shapes.specs.Frame.{shapeFault, sizesOf, axesRow, productRow}
+use Rattle.shapes.specs.Frame.{shapeFault, sizesOf, productRow}
 use Rattle.shapes.specs.declared.Shape.{Shape}
 use Rattle.shapes.specs.declared.Holding.{Holding}
-use Rattle.answer.proofs.Tests.{and-false, and-left, and-right, not-false}
-use Rattle.counts.proofs.Rows.{count-enough, count-few}
+use Rattle.counts.proofs.Rows.{axes-some, axes-four, count-enough, count-few}
 
 -- ---- 1, 2
 module _ (s : Shape) where
-  abbrev outside : Bool
-  outside = not (leb 1 (s .axes) && leb (s .axes) 4)
-
   abbrev counts : ℕ → Answer
   counts a = countFault a (getD (s .counts) a 0)
 
@@ -31,51 +27,51 @@ module _ (s : Shape) where
   abbrev then : Answer
   then = firstOf counts 0 (s .axes) or large
 
-  pub axes-low : s .axes < 1 → refused 1 0 0 ≡ shapeFault s
-  unfolding shapeFault axesRow productRow
-  axes-low h = orders.row-stops outside 0 0 0 then (ap (λ (b : Bool). not (b && leb (s .axes) 4)) (lt-leb 1 (s .axes) h))
+  module _ (q : Answer) (d : q ≡ axesCountFault (s .axes)) where
+    pub axes-stop : (q .number ≡ 0 → ⊥) → q ≡ shapeFault s
+    unfolding shapeFault productRow
+    axes-stop h = orders.or-stops q (axesCountFault (s .axes)) d then h
 
-  pub axes-high : 4 < s .axes → refused 1 0 0 ≡ shapeFault s
-  unfolding shapeFault axesRow productRow
-  axes-high h = orders.row-stops outside 0 0 0 then (ap not (and-false (leb 1 (s .axes)) (leb (s .axes) 4) (lt-leb (s .axes) 4 h)))
+    pub axes-four-of : q .number ≡ 0 → s .axes ≤ 4
+    axes-four-of h = axes-four (s .axes) (orders.passes q (axesCountFault (s .axes)) d h)
 
-  module _ (low : 1 ≤ s .axes) (high : s .axes ≤ 4) where
-    axes-on : then ≡ shapeFault s
-    unfolding shapeFault axesRow productRow
-    axes-on = orders.row-goes-on outside 0 0 0 then (ap not (ap₂ _&&_ (le-leb 1 (s .axes) low) (le-leb (s .axes) 4 high)))
+    module _ (z : q .number ≡ 0) where
+      axes-on : then ≡ shapeFault s
+      unfolding shapeFault productRow
+      axes-on = orders.or-goes-on q (axesCountFault (s .axes)) d then then z refl
 
-    module _ (r : Answer) (e : r ≡ firstOf counts 0 (s .axes)) where
-      pub counts-stop : (r .number ≡ 0 → ⊥) → r ≡ shapeFault s
-      counts-stop h = orders.or-stops r (firstOf counts 0 (s .axes)) e large h ∙ axes-on
+      module _ (r : Answer) (e : r ≡ firstOf counts 0 (s .axes)) where
+        pub counts-stop : (r .number ≡ 0 → ⊥) → r ≡ shapeFault s
+        counts-stop h = orders.or-stops r (firstOf counts 0 (s .axes)) e large h ∙ axes-on
 
-      pub counts-few : r .number ≡ 0 → (a : ℕ) → a < s .axes → getD (s .counts) a 0 ≤ 64
-      counts-few h a l = count-few a (getD (s .counts) a 0) (orders.all-passed counts 0 (s .axes) (orders.passes r (firstOf counts 0 (s .axes)) e h) a (omega arith) (omega arith))
+        pub counts-few : r .number ≡ 0 → (a : ℕ) → a < s .axes → getD (s .counts) a 0 ≤ 64
+        counts-few h a l = count-few a (getD (s .counts) a 0) (orders.all-passed counts 0 (s .axes) (orders.passes r (firstOf counts 0 (s .axes)) e h) a (omega arith) (omega arith))
 
-      module _ (h : r .number ≡ 0) (n : ℕ) (q : n ≡ size (countsOf s)) where
-        large-on : large ≡ shapeFault s
-        large-on = orders.or-goes-on r (firstOf counts 0 (s .axes)) e large large h refl ∙ axes-on
+        module _ (h : r .number ≡ 0) (n : ℕ) (p : n ≡ size (countsOf s)) where
+          large-on : large ≡ shapeFault s
+          large-on = orders.or-goes-on r (firstOf counts 0 (s .axes)) e large large h refl ∙ axes-on
 
-        pub product-high : 4096 < n → refused 2 0 0 ≡ shapeFault s
-        product-high k = orders.row-met (ltb 4096 (size (countsOf s))) 1 0 0 (lt-ltb 4096 (size (countsOf s)) (omega arith)) ∙ large-on
+          pub product-high : 4096 < n → refused 2 0 0 ≡ shapeFault s
+          product-high k = orders.row-met (ltb 4096 (size (countsOf s))) 1 0 0 (lt-ltb 4096 (size (countsOf s)) (omega arith)) ∙ large-on
 
-        pub product-fine : n ≤ 4096 → fine ≡ shapeFault s
-        product-fine k = orders.row-passed (ltb 4096 (size (countsOf s))) 1 0 0 (le-ltb 4096 (size (countsOf s)) (omega arith)) ∙ large-on
+          pub product-fine : n ≤ 4096 → fine ≡ shapeFault s
+          product-fine k = orders.row-passed (ltb 4096 (size (countsOf s))) 1 0 0 (le-ltb 4096 (size (countsOf s)) (omega arith)) ∙ large-on
 
   -- what a shape is that passes
   module _ (h : good (shapeFault s) ≡ true) where
-    counted : leb 1 (s .axes) && leb (s .axes) 4 ≡ true
-    unfolding shapeFault axesRow productRow
-    counted = not-false (leb 1 (s .axes) && leb (s .axes) 4) (orders.row-good outside 0 0 0 (orders.first-passed (when outside (refused 1 0 0)) then h))
+    counted : good (axesCountFault (s .axes)) ≡ true
+    unfolding shapeFault productRow
+    counted = orders.first-passed (axesCountFault (s .axes)) then h
 
     later : good then ≡ true
-    unfolding shapeFault axesRow productRow
-    later = orders.second-passed (when outside (refused 1 0 0)) then h
+    unfolding shapeFault productRow
+    later = orders.second-passed (axesCountFault (s .axes)) then h
 
     pub shape-some : 1 ≤ s .axes
-    shape-some = leb-true 1 (s .axes) (and-left (leb 1 (s .axes)) (leb (s .axes) 4) counted)
+    shape-some = axes-some (s .axes) counted
 
     pub shape-four : s .axes ≤ 4
-    shape-four = leb-true (s .axes) 4 (and-right (leb 1 (s .axes)) (leb (s .axes) 4) counted)
+    shape-four = axes-four (s .axes) counted
 
     count-passed : (a : ℕ) → a < s .axes → good (counts a) ≡ true
     count-passed a l = orders.all-passed counts 0 (s .axes) (orders.first-passed (firstOf counts 0 (s .axes)) large later) a (omega arith) (omega arith)

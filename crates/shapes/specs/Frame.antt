@@ -1,18 +1,13 @@
 -- "Numbers the technician sees": the rows that judge a shape and the lengths of what is lent with it.
-use mathlib.Core.Bool.{not, _&&_}
 use Prim.Native.Nat.{ℕ}
-use lib.Dec.{leb, ltb}
+use lib.Dec.{ltb}
 use lib.ListN.{getD}
 use Rattle.answer.specs.Answer.{refused, when, _or_, firstOf, given}
 use Rattle.answer.specs.declared.Answer.{Answer}
-use Rattle.counts.specs.Counts.{countFault, lengthFault}
+use Rattle.counts.specs.Counts.{axesCountFault, countFault, lengthFault}
 use Rattle.shapes.specs.Shape.{countsOf, size, total}
 use Rattle.shapes.specs.declared.Shape.{Shape}
 use Rattle.shapes.specs.declared.Holding.{Holding}
-
--- 1: "axes not 1 to 4"
-unfoldable pub axesRow : ℕ → Answer
-axesRow axes = when (not (leb 1 axes && leb axes 4)) (refused 1 0 0)
 
 -- 2: ".. else product above 4,096"
 unfoldable pub productRow : Shape → Answer
@@ -20,7 +15,7 @@ productRow s = when (ltb 4096 (size (countsOf s))) (refused 2 0 0)
 
 -- 1, then 2: "a count outside 2 to 64, else product above 4,096"
 unfoldable pub shapeFault : Shape → Answer
-shapeFault s = axesRow (s .axes) or firstOf (λ a. countFault a (getD (s .counts) a 0)) 0 (s .axes) or productRow s
+shapeFault s = axesCountFault (s .axes) or firstOf (λ a. countFault a (getD (s .counts) a 0)) 0 (s .axes) or productRow s
 
 -- how many nodes and values a shape has that passes 1 and 2
 unfoldable pub sizesOf : Shape → Holding

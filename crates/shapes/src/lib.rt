@@ -75,12 +75,9 @@ fn total_of(shape: Shape) -> usize
 pub fn shape_fault(shape: Shape) -> Answer
     ensures { λ r. ⌜ r ≡ shapeFault shape ⌝ }
 {
-    let axes = shape.axes;
-    if axes < 1 {
-        return answer::refuse(1, 0, 0);
-    }
-    if axes > 4 {
-        return answer::refuse(1, 0, 0);
+    let fault = counts::axes_count_fault(shape.axes);
+    if fault.number != 0 {
+        return fault;
     }
     let fault = counts_fault(shape);
     if fault.number != 0 {

@@ -17,7 +17,7 @@ use Rattle.answer.proofs.Orders as orders
 use Rattle.judge.specs.Check.{node, Axis, nodesFault}
 use Rattle.counts.specs.Counts.{countFault, lengthFault}
 use Rattle.numbers.specs.Numbers.{readingFault}
-use Rattle.counts.proofs.Rows.{count-fine, length-same, length-passed}
+use Rattle.counts.proofs.Rows.{axes-right, count-fine, length-same, length-passed}
 use Rattle.judge.proofs.Rows.{nodes-fine}
 use Rattle.numbers.proofs.Rows.{reading-fine}
 use Rattle.shapes.specs.Shape.{countsOf, size, total}
@@ -152,7 +152,7 @@ module _ (s : Shape) (four : length (s .counts) ≡ 4) (nodes values : List Floa
   shape-good =
       let low : 1 ≤ s' .axes = let m : 1 < s .axes = t .many in omega (arith, axes', count-left) in
       let high : s' .axes ≤ 4 = let q : s .axes ≤ 4 = t .four in omega (arith, axes', count-left) in
-      orders.passed-fine (shapeFault s') (product-fine s' low high fine (sym (orders.none-good (λ a. countFault a (getD (s' .counts) a 0)) 0 (s' .axes) each)) orders.fine-number (size left) (ap size (sym counts-left)) small)
+      orders.passed-fine (shapeFault s') (product-fine s' fine (axes-right (s' .axes) low high) orders.fine-number fine (sym (orders.none-good (λ a. countFault a (getD (s' .counts) a 0)) 0 (s' .axes) each)) orders.fine-number (size left) (ap size (sym counts-left)) small)
     where
       each : (a : ℕ) → 0 ≤ a → a < 0 + s' .axes → good (countFault a (getD (s' .counts) a 0)) ≡ true
       each a l m =

@@ -9,11 +9,11 @@ use lib.ListN.{drop}
 use lib.Ieee.{ofBits, toBits, lt, le, eq, add, sub, mul, div}
 use Rattle.answer.specs.Answer.{refused, answered, fine, good, when, _or_, firstOf, given}
 use Rattle.judge.specs.Check.{gap, riseFault, nodeFault, nodesFault}
-use Rattle.counts.specs.Counts.{countFault, roomFault, lengthFault}
+use Rattle.counts.specs.Counts.{axesCountFault, countFault, roomFault, lengthFault}
 use Rattle.numbers.specs.Numbers.{finiteFault, readingFault, resultFault}
 use Rattle.shapes.specs.Shape.{size, total}
 use Rattle.table.specs.Layout.{axesOf, strides, placeBy, table}
-use Rattle.shapes.specs.Frame.{shapeFault, frameFault, axesRow, productRow}
+use Rattle.shapes.specs.Frame.{shapeFault, frameFault, productRow}
 use Rattle.table.specs.Table.{axesFault, rangesFault}
 use Rattle.values.specs.Values.{valueFault, valuesFault}
 use Rattle.lists.specs.Lists.{readingsFault, rangeFault}
@@ -47,11 +47,11 @@ abbrev printed : List ℕ
 printed = 111 ∷ 107 ∷ 32 ∷ 52 ∷ 48 ∷ 50 ∷ 57 ∷ 48 ∷ 48 ∷ 48 ∷ 48 ∷ 48 ∷ 48 ∷ 48 ∷ 48 ∷ 48 ∷ 48 ∷ 48 ∷ 48 ∷ 10 ∷ 111 ∷ 107 ∷ 32 ∷ 52 ∷ 48 ∷ 51 ∷ 52 ∷ 48 ∷ 48 ∷ 48 ∷ 48 ∷ 48 ∷ 48 ∷ 48 ∷ 48 ∷ 48 ∷ 48 ∷ 48 ∷ 48 ∷ 10 ∷ 110 ∷ 111 ∷ 32 ∷ 49 ∷ 49 ∷ 32 ∷ 48 ∷ 32 ∷ 49 ∷ 10 ∷ []
 
 loads : good (loadFault img 256 4096) ≡ true
-unfolding loadFault headFault startFault shortFault fieldFault axesRow lengthRow countRow productRow offsetRow areaFault areasFault roomFault roomsFault contentsFault axesField countField offsetField valuesField shapeOf floatsAt nodesFrom nodesIn valuesIn ofBytes wordAt floatAt size total axesOf axesFault valueFault valuesFault countFault finiteFault riseFault nodeFault nodesFault refused answered fine good when _or_ firstOf given ofBits sub lt
+unfolding loadFault headFault startFault shortFault fieldFault axesCountFault lengthRow countRow productRow offsetRow areaFault areasFault roomFault roomsFault contentsFault axesField countField offsetField valuesField shapeOf floatsAt nodesFrom nodesIn valuesIn ofBytes wordAt floatAt size total axesOf axesFault valueFault valuesFault countFault finiteFault riseFault nodeFault nodesFault refused answered fine good when _or_ firstOf given ofBits sub lt
 loads = refl
 
 three-lines : linesFirst rule 3 three ≡ printed
-unfolding linesFirst recordAnswer recordReadings kindAnswer linearAnswer nearestAnswer locations interpolated nearestIndex indices picked howMany lowerIndex exactNode fraction axisLocation lineOf okLine noLine glyphOf digits places decimal fieldFault shortFault axesRow lengthRow startFault countRow productRow offsetRow headFault areaFault areasFault roomFault roomsFault contentsFault loadFault axesField countField offsetField valuesField shapeOf floatsAt nodesFrom nodesIn valuesIn blended computed lookupFault ofBytes wordAt floatAt shapeFault lengthFault frameFault axesFault valueFault valuesFault readingsFault rangeFault rangesFault size total axesOf strides placeBy table gap countFault finiteFault riseFault nodeFault nodesFault readingFault resultFault refused answered fine good when _or_ firstOf given ofBits toBits lt le eq add sub mul div
+unfolding linesFirst recordAnswer recordReadings kindAnswer linearAnswer nearestAnswer locations interpolated nearestIndex indices picked howMany lowerIndex exactNode fraction axisLocation lineOf okLine noLine glyphOf digits places decimal fieldFault shortFault axesCountFault lengthRow startFault countRow productRow offsetRow headFault areaFault areasFault roomFault roomsFault contentsFault loadFault axesField countField offsetField valuesField shapeOf floatsAt nodesFrom nodesIn valuesIn blended computed lookupFault ofBytes wordAt floatAt shapeFault lengthFault frameFault axesFault valueFault valuesFault readingsFault rangeFault rangesFault size total axesOf strides placeBy table gap countFault finiteFault riseFault nodeFault nodesFault readingFault resultFault refused answered fine good when _or_ firstOf given ofBits toBits lt le eq add sub mul div
 three-lines = refl
 
 size-nine : rule .size ≡ 9

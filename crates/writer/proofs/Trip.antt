@@ -13,11 +13,11 @@ use lib.Ieee.Fits.{nan-fits}
 use Rattle.answer.specs.Answer.{fine, good, _or_, firstOf, given, filledInto}
 use Rattle.answer.specs.declared.Answer.{Answer}
 use Rattle.answer.proofs.Orders as orders
-use Rattle.counts.proofs.Rows.{count-fine, room-enough, length-same}
+use Rattle.counts.proofs.Rows.{axes-right, count-fine, room-enough, length-same}
 use Rattle.shapes.specs.Shape.{countsOf, size, total, noShape}
 use Rattle.table.specs.Layout.{tabulate}
-use Rattle.shapes.specs.Frame.{shapeFault, frameFault, axesRow, productRow}
-use Rattle.counts.specs.Counts.{lengthFault, roomFault}
+use Rattle.shapes.specs.Frame.{shapeFault, frameFault, productRow}
+use Rattle.counts.specs.Counts.{axesCountFault, lengthFault, roomFault}
 use Rattle.table.specs.Table.{axesFault}
 use Rattle.values.specs.Values.{valueFault, valuesFault}
 use Rattle.shapes.specs.declared.Shape.{Shape}
@@ -29,7 +29,7 @@ use Rattle.image.specs.Load.{fieldFault, shortFault, startFault, countRow, offs
 use Rattle.image.proofs.Floats.{nodes-total, values-size}
 use Rattle.image.proofs.Heads.{unused-zero}
 use Rattle.image.proofs.Laws.{Loadable, load-means, loaded-shape}
-use Rattle.image.proofs.Rows.{field-right, short-right, axes-right, length-right, area-right, count-used, count-unused}
+use Rattle.image.proofs.Rows.{field-right, short-right, length-right, area-right, count-used, count-unused}
 use Rattle.writer.specs.Made.{axisAt, imageLength, countIn, imageOf}
 use Rattle.writer.specs.Write.{writeFault, writeAnswer, plain, written}
 use Rattle.writer.proofs.Headers.{first-at, next-at, axis-after, at-before, values-after, values-end, values-before, length-small, count-in}
@@ -58,7 +58,7 @@ module _ (s : Shape) (four : length (s .counts) ≡ 4) (h : good (shapeFault s) 
   starts =
       orders.both-passed (shortFault (length img)) _ (orders.passed-fine _ (short-right (length img) (omega (arith, long, forty))))
       (orders.both-passed (fieldFault 0 1 (wordAt 1 img 0)) _ (orders.passed-fine _ (field-right 0 1 (wordAt 1 img 0) (made.heads s four h nodes values en ev .0)))
-      (orders.both-passed (axesRow (axesField img)) _ (orders.passed-fine _ (axes-right (axesField img) (omega (arith, axes-is, shape-some s h)) (omega (arith, axes-is, shape-four s h))))
+      (orders.both-passed (axesCountFault (axesField img)) _ (orders.passed-fine _ (axes-right (axesField img) (omega (arith, axes-is, shape-some s h)) (omega (arith, axes-is, shape-four s h))))
       (orders.both-passed (fieldFault 2 0 (wordAt 2 img 2)) _ (orders.passed-fine _ (field-right 2 0 (wordAt 2 img 2) (made.heads s four h nodes values en ev .1 .1 .0)))
       (orders.passed-fine _ (length-right (wordAt 4 img 4) (length img) (stated ∙ sym long) (omega (arith, stated, forty)) (omega (arith, stated, length-small s h)))))))
     where

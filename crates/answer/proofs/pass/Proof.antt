@@ -3,9 +3,6 @@ use Rattle.answer.specs.Answer.{fine}
 use borrow.Author.Needs.{needs}
 use Rattle.answer.proofs.pass.Statement.{statement}
 use Rattle.answer.proofs.pass.Tie as tie
-use Rattle.answer.proofs.pass.Reads as reads
-use Rattle.answer.proofs.pass.Lts as lts
-use Rattle.answer.proofs.succeed.Reads as succeed-reads
 
 -- src/lib.rt:40:5
 succeed-requires : tie.Need-succeed-requires

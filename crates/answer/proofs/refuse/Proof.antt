@@ -3,8 +3,6 @@ use lib.Ieee.{ofBits}
 use Rattle.answer.specs.Answer.{refused}
 use Rattle.answer.proofs.refuse.Statement.{statement}
 use Rattle.answer.proofs.refuse.Tie as tie
-use Rattle.answer.proofs.refuse.Reads as reads
-use Rattle.answer.proofs.refuse.Lts as lts
 
 -- src/lib.rt:13:1
 returns : tie.Need-returns

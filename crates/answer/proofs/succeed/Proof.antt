@@ -2,8 +2,6 @@ use mathlib.Core.Path.{refl}
 use Rattle.answer.specs.Answer.{answered}
 use Rattle.answer.proofs.succeed.Statement.{statement}
 use Rattle.answer.proofs.succeed.Tie as tie
-use Rattle.answer.proofs.succeed.Reads as reads
-use Rattle.answer.proofs.succeed.Lts as lts
 
 -- src/lib.rt:25:1
 returns : tie.Need-returns

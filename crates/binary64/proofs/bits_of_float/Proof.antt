@@ -6,8 +6,6 @@ use Rattle.binary64.proofs.Order.{clash, eq-refl}
 use borrow.Author.Needs.{needs}
 use Rattle.binary64.proofs.bits_of_float.Statement.{statement}
 use Rattle.binary64.proofs.bits_of_float.Tie as tie
-use Rattle.binary64.proofs.bits_of_float.Reads as reads
-use Rattle.binary64.proofs.bits_of_float.Lts as lts
 
 -- only a NaN differs from itself
 no-nan : (x : Float) → eq x x ≡ true → isNan x ≡ false

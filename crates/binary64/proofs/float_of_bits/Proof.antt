@@ -7,8 +7,6 @@ use lib.Ieee.Bits.{nanBits-is, nanBits-above}
 use borrow.Author.Needs.{needs}
 use Rattle.binary64.proofs.float_of_bits.Statement.{statement}
 use Rattle.binary64.proofs.float_of_bits.Tie as tie
-use Rattle.binary64.proofs.float_of_bits.Reads as reads
-use Rattle.binary64.proofs.float_of_bits.Lts as lts
 
 is-nan : (x : Float) → isNan x ≡ true → x ≡ nan
 unfolding isNan

@@ -4,8 +4,6 @@ use lib.Ieee.{ofBits}
 use Rattle.blend.specs.Blend.{blended}
 use Rattle.blend.proofs.blend.Statement.{statement}
 use Rattle.blend.proofs.blend.Tie as tie
-use Rattle.blend.proofs.blend.Reads as reads
-use Rattle.blend.proofs.blend.Lts as lts
 
 -- src/lib.rt:17:1
 returns : tie.Need-returns

@@ -2,9 +2,6 @@ use Prim.Native.Nat.{_-_}
 use borrow.Author.Needs.{needs}
 use Rattle.blend.proofs.grow.Statement.{statement}
 use Rattle.blend.proofs.grow.Tie as tie
-use Rattle.blend.proofs.grow.Reads as reads
-use Rattle.blend.proofs.grow.Lts as lts
-use Rattle.blend.proofs.double.Reads as double-reads
 
 -- src/lib.rt:74:35
 enum-told : tie.Need-enum-told

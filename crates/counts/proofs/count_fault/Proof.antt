@@ -1,28 +1,14 @@
-use mathlib.Core.Path.{_∙_}
-use Rattle.counts.proofs.Rows.{count-low, count-high, count-fine}
+use Rattle.counts.specs.Counts.{countFault}
 use borrow.Author.Needs.{needs}
 use Rattle.counts.proofs.count_fault.Statement.{statement}
 use Rattle.counts.proofs.count_fault.Tie as tie
 
-refuse-requires : tie.Need-refuse-requires
-refuse-requires c κs = search needs
+outside-fault-requires : tie.Need-outside-fault-requires
+outside-fault-requires c κs = search needs
 
 returns : tie.Need-returns
-returns c = c .refuse .ensures ∙ count-low _ _ (c .before .if1 .taken)
-
-refuse-requires-2 : tie.Need-refuse-requires-2
-refuse-requires-2 c κs = search needs
-
-returns-2 : tie.Need-returns-2
-returns-2 c = c .refuse2 .ensures ∙ count-high _ _ (c .before .if2 .taken)
-
-pass-requires : tie.Need-pass-requires
-pass-requires c κs = search needs
-
-returns-3 : tie.Need-returns-3
-returns-3 c = c .pass .ensures ∙ count-fine _ _ (c .before .before .if1 .left) (c .before .if2 .left)
+unfolding countFault
+returns c = c .outside-fault .ensures
 
 pub count-fault-spec : {M : Type 1} → statement M
-count-fault-spec =
-    tie.close
-    (tie.spec refuse-requires returns refuse-requires-2 returns-2 pass-requires returns-3)
+count-fault-spec = tie.close (tie.spec outside-fault-requires returns)

@@ -11,13 +11,6 @@ use denote.Ref.{now}
 use borrow.Author.Needs.{needs}
 use Rattle.image.proofs.load.Statement.{statement}
 use Rattle.image.proofs.load.Tie as tie
-use Rattle.image.proofs.load.Reads as reads
-use Rattle.image.proofs.load.Lts as lts
-use Rattle.image.proofs.contents.read_nodes.Reads as read-nodes-reads
-use Rattle.image.proofs.contents.read_values.Reads as read-values-reads
-use Rattle.image.proofs.header.shape_of.Reads as shape-of-reads
-use Rattle.image.proofs.load_fault.Reads as load-fault-reads
-use Rattle.shapes.proofs.no_shape.Reads as no-shape-reads
 
 abbrev start : tie.After-load-fault → tie.Start
 start f = f .before .before .before .before

@@ -12,12 +12,6 @@ use denote.Ref.{now}
 use borrow.Author.Needs.{needs}
 use Rattle.image.proofs.load_fault.Statement.{statement}
 use Rattle.image.proofs.load_fault.Tie as tie
-use Rattle.image.proofs.load_fault.Reads as reads
-use Rattle.image.proofs.load_fault.Lts as lts
-use Rattle.image.proofs.areas.areas_fault.Reads as areas-fault-reads
-use Rattle.image.proofs.areas.rooms_fault.Reads as rooms-fault-reads
-use Rattle.image.proofs.contents.contents_fault.Reads as contents-fault-reads
-use Rattle.image.proofs.header.head_fault.Reads as head-fault-reads
 
 abbrev start : tie.After-head-fault → tie.Start
 start f = f .before .before

@@ -10,11 +10,6 @@ use Rattle.lines.proofs.Shows.{line-ok, line-no, line-left, line-put, l
 use borrow.Author.Needs.{needs}
 use Rattle.lines.proofs.put_line.Statement.{statement}
 use Rattle.lines.proofs.put_line.Tie as tie
-use Rattle.lines.proofs.put_line.Reads as reads
-use Rattle.lines.proofs.put_line.Lts as lts
-use Rattle.lines.proofs.put_no.Reads as put-no-reads
-use Rattle.lines.proofs.put_ok.Reads as put-ok-reads
-use Rattle.lines.proofs.within.Reads as within-reads
 
 -- src/lib.rt:51:9
 within-requires : tie.Need-within-requires

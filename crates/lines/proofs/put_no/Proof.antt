@@ -6,11 +6,6 @@ use Rattle.lines.proofs.Puts.{then}
 use borrow.Author.Needs.{needs}
 use Rattle.lines.proofs.put_no.Statement.{statement}
 use Rattle.lines.proofs.put_no.Tie as tie
-use Rattle.lines.proofs.put_no.Reads as reads
-use Rattle.lines.proofs.put_no.Lts as lts
-use Rattle.lines.proofs.text.put_byte.Reads as put-byte-reads
-use Rattle.lines.proofs.text.put_bytes.Reads as put-bytes-reads
-use Rattle.lines.proofs.text.put_decimal.Reads as put-decimal-reads
 
 -- src/lib.rt:37:29
 slice-aggregate-put-bytes : tie.Need-slice-aggregate-put-bytes

@@ -6,12 +6,6 @@ use Rattle.lines.proofs.Puts.{then}
 use borrow.Author.Needs.{needs}
 use Rattle.lines.proofs.put_ok.Statement.{statement}
 use Rattle.lines.proofs.put_ok.Tie as tie
-use Rattle.lines.proofs.put_ok.Reads as reads
-use Rattle.lines.proofs.put_ok.Lts as lts
-use Rattle.binary64.proofs.bits_of_float.Reads as bits-of-float-reads
-use Rattle.lines.proofs.text.put_byte.Reads as put-byte-reads
-use Rattle.lines.proofs.text.put_bytes.Reads as put-bytes-reads
-use Rattle.lines.proofs.text.put_digits.Reads as put-digits-reads
 
 -- src/lib.rt:28:29
 slice-aggregate-put-bytes : tie.Need-slice-aggregate-put-bytes

@@ -6,8 +6,6 @@ use lib.Dec.{leb}
 use borrow.Author.Tests.{leb-true, leb-false, le-leb, lt-leb}
 use Rattle.lines.proofs.within.Statement.{statement}
 use Rattle.lines.proofs.within.Tie as tie
-use Rattle.lines.proofs.within.Reads as reads
-use Rattle.lines.proofs.within.Lts as lts
 
 there : (at n len : ℕ) → at ≤ len → leb n (len - at) ≡ leb (at + n) len
 there at n len h = go (leb n (len - at)) (leb-true n (len - at)) (leb-false n (len - at))

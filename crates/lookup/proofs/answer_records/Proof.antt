@@ -5,11 +5,6 @@ use native.Mathlib.Omega.{arith}
 use borrow.Author.Needs.{needs}
 use Rattle.lookup.proofs.answer_records.Statement.{statement}
 use Rattle.lookup.proofs.answer_records.Tie as tie
-use Rattle.lookup.proofs.answer_records.Reads as reads
-use Rattle.lookup.proofs.answer_records.Lts as lts
-use Rattle.lookup.proofs.feed.answer_all.Reads as answer-all-reads
-use Rattle.counts.proofs.least.Reads as least-reads
-use Rattle.shapes.proofs.sizes.Reads as sizes-reads
 
 -- src/main.rt:70:9
 sizes-requires : tie.Need-sizes-requires

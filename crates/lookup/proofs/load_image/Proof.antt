@@ -6,10 +6,6 @@ use Prim.Native.Nat.{_-_, _≤_}
 use borrow.Author.Needs.{needs}
 use Rattle.lookup.proofs.load_image.Statement.{statement}
 use Rattle.lookup.proofs.load_image.Tie as tie
-use Rattle.lookup.proofs.load_image.Reads as reads
-use Rattle.lookup.proofs.load_image.Lts as lts
-use Rattle.image.proofs.load.Reads as load-reads
-use Rattle.lookup.proofs.read_image.Reads as read-image-reads
 
 -- src/main.rt:62:9
 read-image-requires : tie.Need-read-image-requires

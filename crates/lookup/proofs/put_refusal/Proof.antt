@@ -5,10 +5,6 @@ use native.Mathlib.Omega.{arith}
 use borrow.Author.Needs.{needs}
 use Rattle.lookup.proofs.put_refusal.Statement.{statement}
 use Rattle.lookup.proofs.put_refusal.Tie as tie
-use Rattle.lookup.proofs.put_refusal.Reads as reads
-use Rattle.lookup.proofs.put_refusal.Lts as lts
-use Rattle.io.proofs.write_all.Reads as write-all-reads
-use Rattle.lines.proofs.put_line.Reads as put-line-reads
 
 -- src/main.rt:48:9
 put-line-requires : tie.Need-put-line-requires

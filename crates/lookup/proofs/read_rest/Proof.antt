@@ -9,9 +9,6 @@ use denote.Ref.{now}
 use borrow.Author.Needs.{needs}
 use Rattle.lookup.proofs.read_rest.Statement.{statement}
 use Rattle.lookup.proofs.read_rest.Tie as tie
-use Rattle.lookup.proofs.read_rest.Reads as reads
-use Rattle.lookup.proofs.read_rest.Lts as lts
-use Rattle.io.proofs.read_full.Reads as read-full-reads
 
 -- src/main.rt:26:33
 sub-read-full : tie.Need-sub-read-full

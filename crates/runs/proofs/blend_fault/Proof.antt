@@ -9,12 +9,6 @@ use Rattle.runs.proofs.Blends.{runFault, results-blends}
 use borrow.Author.Needs.{needs}
 use Rattle.runs.proofs.blend_fault.Statement.{statement}
 use Rattle.runs.proofs.blend_fault.Tie as tie
-use Rattle.runs.proofs.blend_fault.Reads as reads
-use Rattle.runs.proofs.blend_fault.Lts as lts
-use Rattle.answer.proofs.pass.Reads as pass-reads
-use Rattle.blend.proofs.blend.Reads as blend-reads
-use Rattle.numbers.proofs.result_fault.Reads as result-fault-reads
-use Rattle.counts.proofs.least.Reads as least-reads
 
 abbrev Inv-loop : tie.InvT-loop
 Inv-loop low high f count i₀ i = (i ≤ count) × (firstOf (runFault f low high) 0 count ≡ firstOf (runFault f low high) i (count - i))

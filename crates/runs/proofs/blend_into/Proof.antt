@@ -13,10 +13,6 @@ use Rattle.runs.proofs.Blends.{runAt}
 use borrow.Author.Needs.{needs}
 use Rattle.runs.proofs.blend_into.Statement.{statement}
 use Rattle.runs.proofs.blend_into.Tie as tie
-use Rattle.runs.proofs.blend_into.Reads as reads
-use Rattle.runs.proofs.blend_into.Lts as lts
-use Rattle.blend.proofs.blend.Reads as blend-reads
-use Rattle.counts.proofs.least.Reads as least-reads
 
 abbrev Inv-loop : tie.InvT-loop
 Inv-loop low high f out₀ both count i₀ out i = ((i ≤ count) × (length out ≡ length out₀)) × (out ≡ tabulate i (runAt f low high) ++ drop i out₀)

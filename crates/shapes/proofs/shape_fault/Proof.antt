@@ -1,41 +1,44 @@
 use mathlib.Core.Path.{_∙_}
-use Rattle.shapes.proofs.Frames.{axes-low, axes-high, counts-stop, counts-few, product-high, product-fine}
+use Rattle.shapes.proofs.Frames.{axes-stop, axes-four-of, counts-stop, counts-few, product-high, product-fine}
 use borrow.Author.Needs.{needs}
 use Rattle.shapes.proofs.shape_fault.Statement.{statement}
 use Rattle.shapes.proofs.shape_fault.Tie as tie
 
-refuse-requires : tie.Need-refuse-requires
-refuse-requires c κs = search needs
+axes-count-fault-requires : tie.Need-axes-count-fault-requires
+axes-count-fault-requires c κs = search needs
 
 returns : tie.Need-returns
-returns c = c .refuse .ensures ∙ axes-low _ (c .before .if1 .taken)
-
-refuse-requires-2 : tie.Need-refuse-requires-2
-refuse-requires-2 c κs = search needs
-
-returns-2 : tie.Need-returns-2
-returns-2 c = c .refuse2 .ensures ∙ axes-high _ (c .before .if2 .taken)
+returns c = axes-stop _ _ (c .before .before .axes-count-fault .ensures) (c .if1 .taken)
 
 counts-fault-requires : tie.Need-counts-fault-requires
-counts-fault-requires c κs = search needs
+counts-fault-requires c κs = axes-four-of (c .before .before .before .args .shape) _ (c .before .before .axes-count-fault .ensures) (c .if1 .left)
 
-returns-3 : tie.Need-returns-3
-returns-3 c =
+returns-2 : tie.Need-returns-2
+returns-2 c =
     let f = c .before .before in
     let e = f .before in
-    counts-stop _ (e .before .if1 .left) (e .if2 .left) _ (f .counts-fault .ensures) (c .if3 .taken)
+    counts-stop _ _ (e .before .before .axes-count-fault .ensures) (e .if1 .left) _ (f .counts-fault .ensures) (c .if2 .taken)
 
 size-of-requires : tie.Need-size-of-requires
 size-of-requires c κs =
     let f = c .before .before in
     let e = f .before in
-    (e .if2 .left, counts-few (e .before .before .args .shape) (e .before .if1 .left) (e .if2 .left) _ (f .counts-fault .ensures) (c .if3 .left))
+    let g = e .before .before in
+    (axes-four-of (g .before .args .shape) _ (g .axes-count-fault .ensures) (e .if1 .left), counts-few (g .before .args .shape) _ (g .axes-count-fault .ensures) (e .if1 .left) _ (f .counts-fault .ensures) (c .if2 .left))
 
-refuse-requires-3 : tie.Need-refuse-requires-3
-refuse-requires-3 c κs = search needs
+refuse-requires : tie.Need-refuse-requires
+refuse-requires c κs = search needs
 
 pass-requires : tie.Need-pass-requires
 pass-requires c κs = search needs
+
+returns-3 : tie.Need-returns-3
+returns-3 c =
+    let z = c .before .before in
+    let t = z .before in
+    let f = t .before .before in
+    let e = f .before in
+    c .refuse .ensures ∙ product-high _ _ (e .before .before .axes-count-fault .ensures) (e .if1 .left) _ (f .counts-fault .ensures) (t .if2 .left) _ (z .size-of .ensures) (c .before .if3 .taken)
 
 returns-4 : tie.Need-returns-4
 returns-4 c =
@@ -43,28 +46,18 @@ returns-4 c =
     let t = z .before in
     let f = t .before .before in
     let e = f .before in
-    c .refuse3 .ensures ∙ product-high _ (e .before .if1 .left) (e .if2 .left) _ (f .counts-fault .ensures) (t .if3 .left) _ (z .size-of .ensures) (c .before .if4 .taken)
-
-returns-5 : tie.Need-returns-5
-returns-5 c =
-    let z = c .before .before in
-    let t = z .before in
-    let f = t .before .before in
-    let e = f .before in
-    c .pass .ensures ∙ product-fine _ (e .before .if1 .left) (e .if2 .left) _ (f .counts-fault .ensures) (t .if3 .left) _ (z .size-of .ensures) (c .before .if4 .left)
+    c .pass .ensures ∙ product-fine _ _ (e .before .before .axes-count-fault .ensures) (e .if1 .left) _ (f .counts-fault .ensures) (t .if2 .left) _ (z .size-of .ensures) (c .before .if3 .left)
 
 pub shape-fault-spec : {M : Type 1} → statement M
 shape-fault-spec =
     tie.close
     (tie.spec
-    refuse-requires
+    axes-count-fault-requires
     returns
-    refuse-requires-2
-    returns-2
     counts-fault-requires
-    returns-3
+    returns-2
     size-of-requires
-    refuse-requires-3
+    refuse-requires
     pass-requires
-    returns-4
-    returns-5)
+    returns-3
+    returns-4)

@@ -4,11 +4,6 @@ use Prim.Native.Nat.{_-_}
 use borrow.Author.Needs.{needs}
 use Rattle.shapes.proofs.sizes.Statement.{statement}
 use Rattle.shapes.proofs.sizes.Tie as tie
-use Rattle.shapes.proofs.sizes.Reads as reads
-use Rattle.shapes.proofs.sizes.Lts as lts
-use Rattle.shapes.proofs.shape_fault.Reads as shape-fault-reads
-use Rattle.shapes.proofs.size_of.Reads as size-of-reads
-use Rattle.shapes.proofs.total_of.Reads as total-of-reads
 
 -- src/lib.rt:101:9
 shape-fault-requires : tie.Need-shape-fault-requires

@@ -7,8 +7,6 @@ use native.Mathlib.Omega.{arith}
 use borrow.Author.Needs.{needs}
 use Rattle.turns.proofs.used_bytes.Statement.{statement}
 use Rattle.turns.proofs.used_bytes.Tie as tie
-use Rattle.turns.proofs.used_bytes.Reads as reads
-use Rattle.turns.proofs.used_bytes.Lts as lts
 
 one : (d : tie.Else1) → recordSize (d .before .args .shape) ≤ d .before .args .have
 one d = let s = d .before in one-of (s .args .count) (recordSize (s .args .shape)) (s .args .have) (d .if1 .left) (s .pre)

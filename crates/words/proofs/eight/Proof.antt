@@ -3,9 +3,6 @@ use Rattle.words.proofs.Bytes.{word-eight}
 use borrow.Author.Needs.{needs}
 use Rattle.words.proofs.eight.Statement.{statement}
 use Rattle.words.proofs.eight.Tie as tie
-use Rattle.words.proofs.eight.Reads as reads
-use Rattle.words.proofs.eight.Lts as lts
-use Rattle.words.proofs.four.Reads as four-reads
 
 -- src/lib.rt:59:5
 four-requires : tie.Need-four-requires

@@ -6,11 +6,6 @@ use Rattle.words.specs.Words.{floatAt}
 use borrow.Author.Needs.{needs}
 use Rattle.words.proofs.float.Statement.{statement}
 use Rattle.words.proofs.float.Tie as tie
-use Rattle.words.proofs.float.Reads as reads
-use Rattle.words.proofs.float.Lts as lts
-use Rattle.binary64.proofs.float_of_bits.Reads as float-of-bits-reads
-use Rattle.words.proofs.eight.Reads as eight-reads
-use Rattle.words.proofs.word.Reads as word-reads
 
 -- src/lib.rt:68:40
 eight-requires : tie.Need-eight-requires

@@ -9,9 +9,6 @@ use denote.Ref.{now}
 use borrow.Author.Needs.{needs}
 use Rattle.words.proofs.word.Statement.{statement}
 use Rattle.words.proofs.word.Tie as tie
-use Rattle.words.proofs.word.Reads as reads
-use Rattle.words.proofs.word.Lts as lts
-use Rattle.words.proofs.word_within.Reads as word-within-reads
 
 -- src/lib.rt:40:9
 returns : tie.Need-returns

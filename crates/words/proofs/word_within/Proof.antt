@@ -4,9 +4,6 @@ use native.Mathlib.Omega.{arith}
 use borrow.Author.Needs.{needs}
 use Rattle.words.proofs.word_within.Statement.{statement}
 use Rattle.words.proofs.word_within.Tie as tie
-use Rattle.words.proofs.word_within.Reads as reads
-use Rattle.words.proofs.word_within.Lts as lts
-use Rattle.words.proofs.wide.Reads as wide-reads
 
 abbrev Inv-loop : tie.InvT-loop
 Inv-loop s at n x₀ i₀ x i = Reading s at n i x

@@ -8,9 +8,6 @@ use native.Mathlib.Omega.{arith}
 use borrow.Author.Needs.{needs}
 use Rattle.writer.proofs.image_length.Statement.{statement}
 use Rattle.writer.proofs.image_length.Tie as tie
-use Rattle.writer.proofs.image_length.Reads as reads
-use Rattle.writer.proofs.image_length.Lts as lts
-use Rattle.shapes.proofs.sizes.Reads as sizes-reads
 
 nodes : (c : tie.After-sizes) → c .sizes .result .nodes ≡ total (countsOf (c .before .args .shape))
 nodes c = holds-nodes _ (c .before .pre) _ (c .sizes .ensures)

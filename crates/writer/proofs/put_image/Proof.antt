@@ -7,10 +7,6 @@ use denote.Ref.{now}
 use borrow.Author.Needs.{needs}
 use Rattle.writer.proofs.put_image.Statement.{statement}
 use Rattle.writer.proofs.put_image.Tie as tie
-use Rattle.writer.proofs.put_image.Reads as reads
-use Rattle.writer.proofs.put_image.Lts as lts
-use Rattle.writer.proofs.bytes.put_floats.Reads as put-floats-reads
-use Rattle.writer.proofs.header.put_header.Reads as put-header-reads
 
 abbrev start : tie.After-put-header → tie.Start
 start h = h .before .before .before .before .before

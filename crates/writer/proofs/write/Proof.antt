@@ -13,11 +13,6 @@ use denote.Ref.{now}
 use borrow.Author.Needs.{needs}
 use Rattle.writer.proofs.write.Statement.{statement}
 use Rattle.writer.proofs.write.Tie as tie
-use Rattle.writer.proofs.write.Reads as reads
-use Rattle.writer.proofs.write.Lts as lts
-use Rattle.writer.proofs.image_length.Reads as image-length-reads
-use Rattle.writer.proofs.put_image.Reads as put-image-reads
-use Rattle.writer.proofs.write_fault.Reads as write-fault-reads
 
 abbrev start : tie.After-write-fault → tie.Start
 start f = f .before .before .before .before

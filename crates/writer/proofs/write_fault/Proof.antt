@@ -14,13 +14,6 @@ use denote.Ref.{now}
 use borrow.Author.Needs.{needs}
 use Rattle.writer.proofs.write_fault.Statement.{statement}
 use Rattle.writer.proofs.write_fault.Tie as tie
-use Rattle.writer.proofs.write_fault.Reads as reads
-use Rattle.writer.proofs.write_fault.Lts as lts
-use Rattle.table.proofs.axes_fault.Reads as axes-fault-reads
-use Rattle.shapes.proofs.frame_fault.Reads as frame-fault-reads
-use Rattle.values.proofs.values_fault.Reads as values-fault-reads
-use Rattle.writer.proofs.image_length.Reads as image-length-reads
-use Rattle.counts.proofs.room_fault.Reads as room-fault-reads
 
 abbrev start : tie.After-frame-fault → tie.Start
 start f = f .before .before .before

@@ -2,10 +2,12 @@ use mathlib.Core.Bool.{true}
 use Rattle.answer.specs.Answer.{good, _or_, firstOf}
 use Rattle.answer.specs.declared.Answer.{Answer}
 use Rattle.answer.proofs.Orders.{passes, or-stops, or-goes-on}
-use Rattle.shapes.specs.Frame.{shapeFault, axesRow, productRow}
+use Rattle.counts.specs.Counts.{axesCountFault}
+use Rattle.shapes.specs.Frame.{shapeFault, productRow}
 use Rattle.image.specs.Image.{axesField, shapeOf}
 use Rattle.image.specs.Load.{fieldFault, startFault, countRow, offsetRow, headFault}
-use Rattle.image.proofs.Heads.{start-axes, axes-four, product-only}
+use Rattle.counts.proofs.Rows.{axes-four}
+use Rattle.image.proofs.Heads.{start-axes, product-only}
 use mathlib.Core.Path.{_≡_, ap, _∙_}
 use Prim.Native.Nat.{ℕ, _-_, _≤_}
 use native.Mathlib.Omega.{arith}
@@ -33,7 +35,7 @@ past2 : (d : tie.Else2) (x rest : Answer) → x ≡ rest → x ≡ (startFault (
 past2 d x rest p = past1 (d .before .before .before) x _ (or-goes-on _ _ (e2 (d .before .before)) x rest (d .if2 .left) p)
 
 -- what is known after the counts
-axes : (d : tie.Else2) → good (axesRow (axesField (now (s2 (d .before .before) .args .img)))) ≡ true
+axes : (d : tie.Else2) → good (axesCountFault (axesField (now (s2 (d .before .before) .args .img)))) ≡ true
 axes d = let e = d .before .before .before in start-axes _ (passes _ _ (e1 (e .before .before)) (e .if1 .left))
 
 counts : (d : tie.Else2) → good (firstOf (countRow (now (s2 (d .before .before) .args .img))) 0 4) ≡ true

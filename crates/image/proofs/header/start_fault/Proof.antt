@@ -4,7 +4,7 @@ use Rattle.answer.proofs.Orders.{or-stops, or-goes-on}
 use Rattle.words.specs.Words.{wordAt}
 use Rattle.image.specs.Image.{axesField}
 use Rattle.image.specs.Load.{fieldFault, shortFault, lengthRow, startFault}
-use Rattle.shapes.specs.Frame.{axesRow}
+use Rattle.counts.specs.Counts.{axesCountFault}
 use mathlib.Core.Path.{_≡_, ap, _∙_}
 use Prim.Native.Nat.{ℕ}
 use lib.ListN.{length}
@@ -31,14 +31,14 @@ e2 f = f .field-fault .ensures ∙ ap (fieldFault 0 1) (f .before .field .ensure
 past2 : (d : tie.Else2) (x rest : Answer) → x ≡ rest → x ≡ (shortFault (length (now (s2 (d .before .before) .args .img))) or fieldFault 0 1 (wordAt 1 (now (s2 (d .before .before) .args .img)) 0) or rest)
 past2 d x rest p = past1 (d .before .before .before .before) x _ (or-goes-on _ _ (e2 (d .before .before)) x rest (d .if2 .left) p)
 
-abbrev s3 : tie.After-axes-row → tie.Start
+abbrev s3 : tie.After-axes-count-fault → tie.Start
 s3 f = s2 (f .before .before .before .before)
 
-e3 : (f : tie.After-axes-row) → f .axes-row .result ≡ axesRow (axesField (now (s3 f .args .img)))
-e3 f = f .axes-row .ensures ∙ ap axesRow (f .before .axes-of .ensures .0)
+e3 : (f : tie.After-axes-count-fault) → f .axes-count-fault .result ≡ axesCountFault (axesField (now (s3 f .args .img)))
+e3 f = f .axes-count-fault .ensures ∙ ap axesCountFault (f .before .axes-of .ensures .0)
 
 past3 : (d : tie.Else3) (x rest : Answer) → x ≡ rest
-    → x ≡ (shortFault (length (now (s3 (d .before .before) .args .img))) or fieldFault 0 1 (wordAt 1 (now (s3 (d .before .before) .args .img)) 0) or axesRow (axesField (now (s3 (d .before .before) .args .img))) or rest)
+    → x ≡ (shortFault (length (now (s3 (d .before .before) .args .img))) or fieldFault 0 1 (wordAt 1 (now (s3 (d .before .before) .args .img)) 0) or axesCountFault (axesField (now (s3 (d .before .before) .args .img))) or rest)
 past3 d x rest p = past2 (d .before .before .before .before) x _ (or-goes-on _ _ (e3 (d .before .before)) x rest (d .if3 .left) p)
 
 abbrev s4 : tie.After-field-fault2 → tie.Start
@@ -48,7 +48,7 @@ e4 : (f : tie.After-field-fault2) → f .field-fault2 .result ≡ fieldFault 2 0
 e4 f = f .field-fault2 .ensures ∙ ap (fieldFault 2 0) (f .before .field2 .ensures .0)
 
 past4 : (d : tie.Else4) (x rest : Answer) → x ≡ rest
-    → x ≡ (shortFault (length (now (s4 (d .before .before) .args .img))) or fieldFault 0 1 (wordAt 1 (now (s4 (d .before .before) .args .img)) 0) or axesRow (axesField (now (s4 (d .before .before) .args .img))) or fieldFault 2 0 (wordAt 2 (now (s4 (d .before .before) .args .img)) 2) or rest)
+    → x ≡ (shortFault (length (now (s4 (d .before .before) .args .img))) or fieldFault 0 1 (wordAt 1 (now (s4 (d .before .before) .args .img)) 0) or axesCountFault (axesField (now (s4 (d .before .before) .args .img))) or fieldFault 2 0 (wordAt 2 (now (s4 (d .before .before) .args .img)) 2) or rest)
 past4 d x rest p = past3 (d .before .before .before .before) x _ (or-goes-on _ _ (e4 (d .before .before)) x rest (d .if4 .left) p)
 
 -- src/header.rt:114:9
@@ -78,8 +78,8 @@ axes-of-requires : tie.Need-axes-of-requires
 axes-of-requires c κs = search needs
 
 -- src/header.rt:122:9
-axes-row-requires : tie.Need-axes-row-requires
-axes-row-requires c κs = search needs
+axes-count-fault-requires : tie.Need-axes-count-fault-requires
+axes-count-fault-requires c κs = search needs
 
 -- src/header.rt:124:9
 returns-3 : tie.Need-returns-3
@@ -122,7 +122,7 @@ start-fault-spec =
     field-fault-requires
     returns-2
     axes-of-requires
-    axes-row-requires
+    axes-count-fault-requires
     returns-3
     field-requires-2
     field-fault-requires-2

@@ -2,8 +2,6 @@ use borrow.Author.Needs.{needs}
 use Rattle.lines.proofs.Digits.{glyph-at}
 use Rattle.lines.proofs.text.glyph.Statement.{statement}
 use Rattle.lines.proofs.text.glyph.Tie as tie
-use Rattle.lines.proofs.text.glyph.Reads as reads
-use Rattle.lines.proofs.text.glyph.Lts as lts
 
 -- src/text.rt:33:9
 slice-aggregate-glyphs : tie.Need-slice-aggregate-glyphs

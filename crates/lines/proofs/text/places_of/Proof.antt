@@ -3,8 +3,6 @@ use borrow.Author.Needs.{needs}
 use Rattle.lines.proofs.Digits.{Counting, count-start, count-step, count-end, count-small}
 use Rattle.lines.proofs.text.places_of.Statement.{statement}
 use Rattle.lines.proofs.text.places_of.Tie as tie
-use Rattle.lines.proofs.text.places_of.Reads as reads
-use Rattle.lines.proofs.text.places_of.Lts as lts
 
 abbrev Inv-loop : tie.InvT-loop
 Inv-loop n left₀ k₀ left k = Counting n left k

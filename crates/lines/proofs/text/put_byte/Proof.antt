@@ -2,8 +2,6 @@ use Rattle.lines.proofs.Puts.{wrote-one}
 use borrow.Author.Needs.{needs}
 use Rattle.lines.proofs.text.put_byte.Statement.{statement}
 use Rattle.lines.proofs.text.put_byte.Tie as tie
-use Rattle.lines.proofs.text.put_byte.Reads as reads
-use Rattle.lines.proofs.text.put_byte.Lts as lts
 
 -- src/text.rt:24:5
 slice-write-out : tie.Need-slice-write-out

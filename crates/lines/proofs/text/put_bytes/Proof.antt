@@ -9,8 +9,6 @@ use Rattle.lines.specs.Put.{Wrote}
 use Rattle.lines.proofs.Puts.{wrote-none, copy-step}
 use Rattle.lines.proofs.text.put_bytes.Statement.{statement}
 use Rattle.lines.proofs.text.put_bytes.Tie as tie
-use Rattle.lines.proofs.text.put_bytes.Reads as reads
-use Rattle.lines.proofs.text.put_bytes.Lts as lts
 
 abbrev Inv-loop : tie.InvT-loop
 Inv-loop src out₀ at i₀ out i = (i ≤ length src) × ((length out ≡ length out₀) × Wrote out₀ at (take i src) out (at + i))

@@ -4,10 +4,6 @@ use Rattle.lines.proofs.Digits.{decimal-length}
 use borrow.Author.Needs.{needs}
 use Rattle.lines.proofs.text.put_decimal.Statement.{statement}
 use Rattle.lines.proofs.text.put_decimal.Tie as tie
-use Rattle.lines.proofs.text.put_decimal.Reads as reads
-use Rattle.lines.proofs.text.put_decimal.Lts as lts
-use Rattle.lines.proofs.text.places_of.Reads as places-of-reads
-use Rattle.lines.proofs.text.put_digits.Reads as put-digits-reads
 
 -- src/text.rt:68:9
 places-of-requires : tie.Need-places-of-requires

@@ -4,9 +4,6 @@ use borrow.Author.Needs.{needs}
 use Rattle.lines.proofs.Digits.{Writing, write-start, write-step, write-end}
 use Rattle.lines.proofs.text.put_digits.Statement.{statement}
 use Rattle.lines.proofs.text.put_digits.Tie as tie
-use Rattle.lines.proofs.text.put_digits.Reads as reads
-use Rattle.lines.proofs.text.put_digits.Lts as lts
-use Rattle.lines.proofs.text.glyph.Reads as glyph-reads
 
 abbrev Inv-loop : tie.InvT-loop
 Inv-loop n base k out₀ at left₀ i₀ out left i = Writing out₀ at base k n out i left

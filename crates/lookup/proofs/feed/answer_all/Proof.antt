@@ -9,10 +9,6 @@ use denote.Ref.{now}
 use borrow.Author.Needs.{needs}
 use Rattle.lookup.proofs.feed.answer_all.Statement.{statement}
 use Rattle.lookup.proofs.feed.answer_all.Tie as tie
-use Rattle.lookup.proofs.feed.answer_all.Reads as reads
-use Rattle.lookup.proofs.feed.answer_all.Lts as lts
-use Rattle.lookup.proofs.feed.end.Reads as end-reads
-use Rattle.lookup.proofs.feed.step.Reads as step-reads
 
 abbrev Inv-loop : tie.InvT-loop
 Inv-loop shape nodes values size buf₀ out₀ held₀ left₀ go₀ failed₀ turns₀ buf out held left go failed turns =

@@ -4,10 +4,6 @@ use Prim.Native.Nat.{_-_}
 use borrow.Author.Needs.{needs}
 use Rattle.lookup.proofs.feed.end.Statement.{statement}
 use Rattle.lookup.proofs.feed.end.Tie as tie
-use Rattle.lookup.proofs.feed.end.Reads as reads
-use Rattle.lookup.proofs.feed.end.Lts as lts
-use Rattle.io.proofs.write_all.Reads as write-all-reads
-use Rattle.lookup.proofs.feed.last.Reads as last-reads
 
 -- src/feed.rt:92:13
 last-requires : tie.Need-last-requires

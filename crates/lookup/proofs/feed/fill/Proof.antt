@@ -4,9 +4,6 @@ use denote.Ref.{now}
 use borrow.Author.Needs.{needs}
 use Rattle.lookup.proofs.feed.fill.Statement.{statement}
 use Rattle.lookup.proofs.feed.fill.Tie as tie
-use Rattle.lookup.proofs.feed.fill.Reads as reads
-use Rattle.lookup.proofs.feed.fill.Lts as lts
-use Rattle.io.proofs.read_full.Reads as read-full-reads
 
 -- src/feed.rt:22:32
 sub-read-full : tie.Need-sub-read-full

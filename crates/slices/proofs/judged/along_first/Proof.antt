@@ -27,12 +27,6 @@ use denote.Ref.{now}
 use borrow.Author.Needs.{needs}
 use Rattle.slices.proofs.judged.along_first.Statement.{statement}
 use Rattle.slices.proofs.judged.along_first.Tie as tie
-use Rattle.slices.proofs.judged.along_first.Reads as reads
-use Rattle.slices.proofs.judged.along_first.Lts as lts
-use Rattle.answer.proofs.pass.Reads as pass-reads
-use Rattle.axis.proofs.locate.lower_node.Reads as lower-node-reads
-use Rattle.axis.proofs.locate.location_by.Reads as location-by-reads
-use Rattle.slices.proofs.written.blend_runs.Reads as blend-runs-reads
 use Rattle.slices.proofs.written.fill.Reads as fill-reads
 
 abbrev C : tie.Start → List ℕ

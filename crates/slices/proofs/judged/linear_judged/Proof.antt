@@ -14,12 +14,6 @@ use denote.Ref.{now}
 use borrow.Author.Needs.{needs}
 use Rattle.slices.proofs.judged.linear_judged.Statement.{statement}
 use Rattle.slices.proofs.judged.linear_judged.Tie as tie
-use Rattle.slices.proofs.judged.linear_judged.Reads as reads
-use Rattle.slices.proofs.judged.linear_judged.Lts as lts
-use Rattle.slices.proofs.judged.along_first.Reads as along-first-reads
-use Rattle.shapes.proofs.no_shape.Reads as no-shape-reads
-use Rattle.slices.proofs.remaining.point_fault.Reads as point-fault-reads
-use Rattle.slices.proofs.remaining.shape_without.Reads as shape-without-reads
 
 abbrev start : tie.After-point-fault → tie.Start
 start f = f .before .before .before .before

@@ -14,10 +14,6 @@ use denote.Ref.{now}
 use borrow.Author.Needs.{needs}
 use Rattle.slices.proofs.written.blend_runs.Statement.{statement}
 use Rattle.slices.proofs.written.blend_runs.Tie as tie
-use Rattle.slices.proofs.written.blend_runs.Reads as reads
-use Rattle.slices.proofs.written.blend_runs.Lts as lts
-use Rattle.runs.proofs.blend_fault.Reads as blend-fault-reads
-use Rattle.runs.proofs.blend_into.Reads as blend-into-reads
 
 abbrev start : tie.After-blend-fault → tie.Start
 start f = f .before .before .before .before .before

@@ -10,10 +10,6 @@ use denote.Ref.{now}
 use borrow.Author.Needs.{needs}
 use Rattle.writer.proofs.bytes.put_floats.Statement.{statement}
 use Rattle.writer.proofs.bytes.put_floats.Tie as tie
-use Rattle.writer.proofs.bytes.put_floats.Reads as reads
-use Rattle.writer.proofs.bytes.put_floats.Lts as lts
-use Rattle.binary64.proofs.bits_of_float.Reads as bits-of-float-reads
-use Rattle.writer.proofs.bytes.put_word.Reads as put-word-reads
 
 abbrev Inv-loop : tie.InvT-loop
 Inv-loop floats out₀ at i₀ out i =

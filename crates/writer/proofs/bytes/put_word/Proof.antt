@@ -9,8 +9,6 @@ use lib.ListN.{length}
 use borrow.Author.Needs.{needs}
 use Rattle.writer.proofs.bytes.put_word.Statement.{statement}
 use Rattle.writer.proofs.bytes.put_word.Tie as tie
-use Rattle.writer.proofs.bytes.put_word.Reads as reads
-use Rattle.writer.proofs.bytes.put_word.Lts as lts
 
 abbrev Inv-loop : tie.InvT-loop
 Inv-loop out₀ at n x y₀ i₀ out y i = (i ≤ n) × ((length out ≡ length out₀) × (sets out (at + i) (toBytes (n - i) y) ≡ sets out₀ at (toBytes n x)))

@@ -5,8 +5,6 @@ use native.Mathlib.Omega.{arith}
 use borrow.Author.Needs.{needs}
 use Rattle.writer.proofs.header.count_in.Statement.{statement}
 use Rattle.writer.proofs.header.count_in.Tie as tie
-use Rattle.writer.proofs.header.count_in.Reads as reads
-use Rattle.writer.proofs.header.count_in.Lts as lts
 
 -- src/header.rt:39:9
 mul-result : tie.Need-mul-result

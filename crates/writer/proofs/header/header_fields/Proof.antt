@@ -8,11 +8,6 @@ use native.Mathlib.Omega.{arith}
 use borrow.Author.Needs.{needs}
 use Rattle.writer.proofs.header.header_fields.Statement.{statement}
 use Rattle.writer.proofs.header.header_fields.Tie as tie
-use Rattle.writer.proofs.header.header_fields.Reads as reads
-use Rattle.writer.proofs.header.header_fields.Lts as lts
-use Rattle.shapes.proofs.sizes.Reads as sizes-reads
-use Rattle.writer.proofs.header.count_in.Reads as count-in-reads
-use Rattle.writer.proofs.header.offset_in.Reads as offset-in-reads
 
 abbrev sized : tie.After-offset-in4 → tie.After-sizes
 sized c = c .before .before .before .before

@@ -4,8 +4,6 @@ use mathlib.Core.Path.{sym, ap}
 use Prim.Native.Nat.{_-_}
 use Rattle.writer.proofs.header.offset_in.Statement.{statement}
 use Rattle.writer.proofs.header.offset_in.Tie as tie
-use Rattle.writer.proofs.header.offset_in.Reads as reads
-use Rattle.writer.proofs.header.offset_in.Lts as lts
 
 -- src/header.rt:46:1
 returns : tie.Need-returns

@@ -10,9 +10,6 @@ use denote.Ref.{now}
 use borrow.Author.Needs.{needs}
 use Rattle.writer.proofs.header.put_fields.Statement.{statement}
 use Rattle.writer.proofs.header.put_fields.Tie as tie
-use Rattle.writer.proofs.header.put_fields.Reads as reads
-use Rattle.writer.proofs.header.put_fields.Lts as lts
-use Rattle.writer.proofs.bytes.put_word.Reads as put-word-reads
 
 abbrev Inv-loop : tie.InvT-loop
 Inv-loop out₀ widths fields at₀ k₀ out at k =

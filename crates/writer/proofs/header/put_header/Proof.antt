@@ -7,10 +7,6 @@ use denote.Ref.{now}
 use borrow.Author.Needs.{needs}
 use Rattle.writer.proofs.header.put_header.Statement.{statement}
 use Rattle.writer.proofs.header.put_header.Tie as tie
-use Rattle.writer.proofs.header.put_header.Reads as reads
-use Rattle.writer.proofs.header.put_header.Lts as lts
-use Rattle.writer.proofs.header.header_fields.Reads as header-fields-reads
-use Rattle.writer.proofs.header.put_fields.Reads as put-fields-reads
 
 -- src/header.rt:82:18
 header-fields-requires : tie.Need-header-fields-requires

@@ -11,10 +11,6 @@ use Rattle.numbers.specs.Numbers.{finiteFault, lentStepFault, toleranceF
 
 -- ---- 4
 module _ (axis i : ℕ) (x : Float) where
-  pub finite-wild : finite x ≡ false → refused 4 axis i ≡ finiteFault axis i x
-  unfolding finiteFault
-  finite-wild h = orders.row-met (not (finite x)) 3 axis i (ap not h)
-
   pub finite-fine : finite x ≡ true → fine ≡ finiteFault axis i x
   unfolding finiteFault
   finite-fine h = orders.row-passed (not (finite x)) 3 axis i (ap not h)
@@ -56,10 +52,6 @@ module _ (t : Float) where
 
 -- ---- 10
 module _ (axis : ℕ) (p : Float) where
-  pub reading-wild : finite p ≡ false → refused 10 axis 0 ≡ readingFault axis p
-  unfolding readingFault
-  reading-wild h = orders.row-met (not (finite p)) 9 axis 0 (ap not h)
-
   pub reading-fine : finite p ≡ true → fine ≡ readingFault axis p
   unfolding readingFault
   reading-fine h = orders.row-passed (not (finite p)) 9 axis 0 (ap not h)

@@ -157,6 +157,25 @@ put-step xs i x z h l p e k b = ⊎-elim below same (less-or-same k i b)
     same : k ≡ i → getD (set xs i x) k z ≡ h k
     same q = ap (λ (n : ℕ). getD (set xs i x) n z) q ∙ getD-set-same xs i x z l ∙ e ∙ ap h (sym q)
 
+-- the same of two places, the second `count` on
+pub put-both : {A : Type 0} (xs : List A) (i count : ℕ) (x y z : A) (g h : ℕ → A) → i < count → i + count < length xs
+    → ((k : ℕ) → k < i → (getD xs k z ≡ g k) × (getD xs (k + count) z ≡ h k)) → x ≡ g i → y ≡ h i
+    → (k : ℕ) → k < i + 1 → (getD (set (set xs (i + count) y) i x) k z ≡ g k) × (getD (set (set xs (i + count) y) i x) (k + count) z ≡ h k)
+put-both {A} xs i count x y z g h m l p e f k b = ⊎-elim below same (less-or-same k i b)
+  where
+    below : k < i → (getD (set (set xs (i + count) y) i x) k z ≡ g k) × (getD (set (set xs (i + count) y) i x) (k + count) z ≡ h k)
+    below c = (
+      getD-set-other (set xs (i + count) y) i k x z (λ q. omega arith) ∙ getD-set-other xs (i + count) k y z (λ q. omega arith) ∙ p k c .0,
+      getD-set-other (set xs (i + count) y) i (k + count) x z (λ q. omega arith) ∙ getD-set-other xs (i + count) (k + count) y z (λ q. omega arith) ∙ p k c .1,
+    )
+
+    same : k ≡ i → (getD (set (set xs (i + count) y) i x) k z ≡ g k) × (getD (set (set xs (i + count) y) i x) (k + count) z ≡ h k)
+    same q =
+        subst (λ (n : ℕ). (getD (set (set xs (i + count) y) i x) n z ≡ g n) × (getD (set (set xs (i + count) y) i x) (n + count) z ≡ h n)) (sym q) (
+          getD-set-same (set xs (i + count) y) i x z (omega (arith, length-set xs (i + count) y)) ∙ e,
+          getD-set-other (set xs (i + count) y) i (i + count) x z (λ r. omega arith) ∙ getD-set-same xs (i + count) y z l ∙ f,
+        )
+
 -- the places of one axis more, so far
 pub record Spreaded (v₀ : List ℕ) (count low high i : ℕ) (v : List ℕ) : Type 0 where
   pub long : length v ≡ length v₀
@@ -204,7 +223,7 @@ module _ (v₀ v : List ℕ) (count low high i at : ℕ) (few : count + count �
       rest-next k a b = kept k (λ q. omega (arith, q, a)) (λ q. omega (arith, q, b)) ∙ z .rest k (omega (arith, a)) b
 
 -- ---- the loop over the axes, from the last one on: what is at axis d - 1
-module _ (ls : List AxisLocation) (C : List ℕ) (n d : ℕ) (few : n ≤ 4) (longl : n ≤ length ls) (longc : n ≤ length C) (above : 0 < d) (most : d ≤ n)
+module _ (ls : List AxisLocation) (C : List ℕ) (n d : ℕ) (few : n ≤ 4) (longl : n ≤ length ls) (longc : n ≤ length C) (above : 1 < d) (most : d ≤ n)
     (small : size (take n C) ≤ 4096) (w : Within (take n ls) (take n C)) where
   again : d - 1 + 1 ≡ d
   again = omega arith
@@ -251,13 +270,71 @@ spread-none ls C n places e = rw (past ls n n (omega arith), past C n n (omega a
     only : (i : ℕ) → i < 1 → getD places i 0 ≡ place [] []
     only i b = let z : i ≡ 0 = omega arith in ap (λ (k : ℕ). getD places k 0) z ∙ e ∙ sym place-none
 
--- ---- the values gathered at the corners fold to the rule
-pub gathered : (ps : List AxisLocation) (cs places : List ℕ) (values vals : List Float)
-    → ((i : ℕ) → i < 2 ^ length (diffs ps) → getD places i 0 ≡ cornerPlace cs ps i)
-    → ((i : ℕ) → i < 2 ^ length (diffs ps) → getD vals i nan ≡ getD values (getD places i 0) nan)
-    → butterfly (diffs ps) vals ≡ linear ps (table cs values)
-unfolding table
-gathered ps cs places values vals p v =
-    butterfly-same (diffs ps) vals (tabulate (2 ^ length (diffs ps)) (λ m. table cs values (cornerAt ps m)))
-    (λ i b. v i b ∙ ap (λ (k : ℕ). getD values k nan) (p i b) ∙ sym (getD-tabulate (2 ^ length (diffs ps)) i (λ m. table cs values (cornerAt ps m)) nan b))
-    ∙ fold-linear ps (table cs values)
+-- ---- the first axis, under whose nodes the corners of the others lie
+module _ (ls : List AxisLocation) (C : List ℕ) (n : ℕ) (some : 1 ≤ n) (longl : n ≤ length ls) (longc : n ≤ length C) (w : Within (take n ls) (take n C)) where
+  abbrev rest-l : List AxisLocation
+  rest-l = drop 1 (take n ls)
+
+  abbrev rest-c : List ℕ
+  rest-c = drop 1 (take n C)
+
+  first-l : take n ls ≡ getD ls 0 (Exact 0) ∷ rest-l
+  first-l = ahead ls n 0 (Exact 0) some longl
+
+  first-c : take n C ≡ getD C 0 0 ∷ rest-c
+  first-c = ahead C n 0 0 some longc
+
+  within-first : Within (getD ls 0 (Exact 0) ∷ rest-l) (getD C 0 0 ∷ rest-c)
+  within-first = subst (λ (q : List ℕ). Within (getD ls 0 (Exact 0) ∷ rest-l) q) first-c (subst (λ (q : List AxisLocation). Within q (take n C)) first-l w)
+
+  pub first-few : size (take n C) ≤ 4096 → upperOf (getD ls 0 (Exact 0)) ≤ 4096
+  first-few small = upper-few (getD ls 0 (Exact 0)) rest-l (getD C 0 0) rest-c within-first (omega (arith, ap size first-c, small))
+
+  pub first-small : size (take n C) ≤ 4096 → upperOf (getD ls 0 (Exact 0)) * size rest-c ≤ 4096
+  first-small small = upper-small (getD ls 0 (Exact 0)) rest-l (getD C 0 0) rest-c within-first (omega (arith, ap size first-c, small))
+
+  -- a node of the first axis that is its upper one or below it
+  module _ (p : AxisLocation) (e : getD ls 0 (Exact 0) ≡ p) where
+    under : (node q stride : ℕ) → node ≤ upperOf p → q < size rest-c → stride ≡ size rest-c → q + node * stride < size (take n C)
+    under node q stride l b f =
+        let u : upperOf p < getD C 0 0 = subst (λ (x : AxisLocation). upperOf x < getD C 0 0) e (within-first .0) in
+        let m : (node + 1) * size rest-c ≤ getD C 0 0 * size rest-c = mul-le-mul-right (size rest-c) (omega (arith, u, l)) in
+        omega (arith, b, m, ap (λ (x : ℕ). node * x) f, ap size first-c, size-cons (getD C 0 0) rest-c)
+
+    pub corner-under : (node q stride i : ℕ) → node ≤ upperOf p → q ≡ cornerPlace rest-c rest-l i → stride ≡ size rest-c → q + node * stride < size (take n C)
+    corner-under node q stride i l b f =
+        under node q stride l (omega (arith, b, place-below (cornerAt rest-l i) rest-c (corner-inside rest-l rest-c i (within-first .1)))) f
+
+    module _ (values : List Float) where
+      pub at-node : (node q stride i : ℕ) → q ≡ cornerPlace rest-c rest-l i → stride ≡ size rest-c → getD values (q + node * stride) nan ≡ table (take n C) values (node ∷ cornerAt rest-l i)
+      unfolding table
+      at-node node q stride i b f =
+          ap (λ (k : ℕ). getD values k nan)
+          (omega (arith, b, ap (λ (x : ℕ). node * x) f, place-cons (getD C 0 0) rest-c node (cornerAt rest-l i), ap (λ (cs : List ℕ). place cs (node ∷ cornerAt rest-l i)) first-c))
+
+      corner-value : (q : AxisLocation) (vals : List Float)
+          → ((i : ℕ) → i < 2 ^ length (diffs rest-l) → (getD vals i nan ≡ table (take n C) values (locationIndex q ∷ cornerAt rest-l i)) × (getD vals (i + 2 ^ length (diffs rest-l)) nan ≡ table (take n C) values (upperOf q ∷ cornerAt rest-l i)))
+          → (i : ℕ) → i < 2 ^ length (diffs (q ∷ rest-l)) → getD vals i nan ≡ table (take n C) values (cornerAt (q ∷ rest-l) i)
+      corner-value (Exact node) vals v i b = v i b .0
+      corner-value (Between lower frac) vals v i b = half (ltb i (2 ^ length (diffs rest-l))) refl
+        where
+          half : (t : Bool) → ltb i (2 ^ length (diffs rest-l)) ≡ t → getD vals i nan ≡ table (take n C) values (cornerAt (Between lower frac ∷ rest-l) i)
+          half true u =
+              let l : i < 2 ^ length (diffs rest-l) = ltb-true i (2 ^ length (diffs rest-l)) u in
+              v i l .0 ∙ ap (table (take n C) values) (sym (low-corner rest-l lower frac i l))
+          half false u =
+              let ge : 2 ^ length (diffs rest-l) ≤ i = ltb-false i (2 ^ length (diffs rest-l)) u in
+              let below : i - 2 ^ length (diffs rest-l) < 2 ^ length (diffs rest-l) = omega (arith, b, power-suc (length (diffs rest-l)), ge) in
+              let is : i - 2 ^ length (diffs rest-l) + 2 ^ length (diffs rest-l) ≡ i = omega (arith, ge) in
+              subst (λ (k : ℕ). getD vals k nan ≡ table (take n C) values (cornerAt (Between lower frac ∷ rest-l) k)) is
+              (v (i - 2 ^ length (diffs rest-l)) below .1 ∙ ap (table (take n C) values) (sym (high-corner rest-l lower frac (i - 2 ^ length (diffs rest-l)) below)))
+
+      -- the values read under the two nodes of the first axis fold to the rule
+      pub folded : (vals : List Float)
+          → ((i : ℕ) → i < 2 ^ length (diffs rest-l) → (getD vals i nan ≡ table (take n C) values (locationIndex p ∷ cornerAt rest-l i)) × (getD vals (i + 2 ^ length (diffs rest-l)) nan ≡ table (take n C) values (upperOf p ∷ cornerAt rest-l i)))
+          → butterfly (diffs (take n ls)) vals ≡ linear (take n ls) (table (take n C) values)
+      folded vals v =
+          subst (λ (ps : List AxisLocation). butterfly (diffs ps) vals ≡ linear ps (table (take n C) values)) (sym (first-l ∙ ap (λ (x : AxisLocation). x ∷ rest-l) e))
+          (butterfly-same (diffs (p ∷ rest-l)) vals (tabulate (2 ^ length (diffs (p ∷ rest-l))) (λ m. table (take n C) values (cornerAt (p ∷ rest-l) m)))
+          (λ i b. corner-value p vals v i b ∙ sym (getD-tabulate (2 ^ length (diffs (p ∷ rest-l))) i (λ m. table (take n C) values (cornerAt (p ∷ rest-l) m)) nan b))
+          ∙ fold-linear (p ∷ rest-l) (table (take n C) values))

@@ -20,7 +20,7 @@ use Rattle.values.specs.Values.{valuesFault}
 use Rattle.lists.specs.Lists.{directionsFault, readingsFault}
 use Rattle.shapes.specs.declared.Shape.{Shape}
 use Rattle.table.proofs.Walks.{length-axes}
-use Rattle.shapes.proofs.Frames.{shape-four}
+use Rattle.shapes.proofs.Frames.{shape-some, shape-four}
 use Rattle.table.proofs.Layouts.{tabulate-same}
 use Rattle.table.proofs.Grids.{frame-shape, frame-values, frame-axes, grid-of}
 use Rattle.lists.proofs.Rows.{readings-finite}
@@ -50,6 +50,7 @@ module _ (s : Shape) (four : length (s .counts) ≡ 4) (nodes values readings : 
       let n : length readings ≡ s .axes = length-passed 2 (s .axes) (length readings) r in
       record {
         grid = grid-of s four nodes values f x;
+        some = shape-some s (frame-shape s four nodes values f);
         four = shape-four s (frame-shape s four nodes values f);
         count = frame-axes s four nodes values f;
         stored = frame-values s four nodes values f;

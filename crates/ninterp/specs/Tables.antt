@@ -44,6 +44,7 @@ stepAnswer s nodes values readings directions = stepFault s nodes values reading
 -- what follows of a table and a reading passing the checks before a lookup (`lookup-judged`)
 pub record Judged (s : Shape) (nodes values readings : List Float) : Type 0 where
   pub grid : Grid (countsOf s) nodes
+  pub some : 1 ≤ s .axes
   pub four : s .axes ≤ 4
   pub count : length (countsOf s) ≡ s .axes
   pub stored : length values ≡ size (countsOf s)

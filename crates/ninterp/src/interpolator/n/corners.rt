@@ -1,7 +1,7 @@
 // The corners of a reading: where they lie in the flat values, what is stored there, and what it comes to.
 ghost use mathlib.Core.Path.{_≡_};
 ghost use Prim.Native.Nat.{ℕ, _+_, _*_, _^_, _<_, _≤_};
-ghost use lib.ListN.{length, take, getD};
+ghost use lib.ListN.{length, take, drop, getD};
 ghost use lib.Ieee.{nan};
 ghost use Rattle.shapes.specs.Shape.{countsOf, size};
 ghost use Rattle.table.specs.Layout.{table};
@@ -9,7 +9,8 @@ ghost use Rattle.blend.specs.Blend.{linear, computed};
 ghost use Rattle.blend.specs.Rust.{diffs};
 ghost use Rattle.ninterp.specs.Tables.{Judged};
 ghost use Rattle.ninterp.specs.Linears.{interpolated};
-ghost use Rattle.axis.specs.Locations.{locationBy, upperOf};
+ghost use Rattle.axis.specs.Locations.{locationBy, locationIndex, upperOf};
+ghost use Rattle.blend.specs.declared.AxisLocation.the-variants.{Exact};
 ghost use Rattle.ninterp.specs.Locations.{Within, cornerPlace};
 use crate::interpolator::n::locations;
 use answer::Answer;
@@ -44,21 +45,28 @@ fn spread(places: &mut [usize], count: usize, low: usize, high: usize)
     }
 }
 
-// The flat place of each corner, by its number, and how many there are: from the last axis on, so that the first one's lower half comes first.
-fn corner_places(
+// How many corners the axes after the first have, and what the lower and the upper node of the first add to their places.
+struct Rest {
+    count: usize,
+    low: usize,
+    high: usize,
+}
+
+// The flat place of each corner of the axes after the first, by its number: from the last axis on, so that the lower half of an axis comes first.
+fn rest_places(
     counts: [usize; 4],
     locations: [AxisLocation; 4],
     n: usize,
     places: &mut [usize],
-) -> usize
+) -> Rest
     requires { ⌜ (n ≤ 4) × ((size (take n counts) ≤ 4096) × Within (take n locations) (take n counts)) ⌝ }
-    requires { ⌜ (length (now places) ≡ 16) × (getD (now places) 0 0 ≡ 0) ⌝ }
-    ensures { λ r. ⌜ (r ≡ 2 ^ length (diffs (take n locations))) × ((i : ℕ) → i < 2 ^ length (diffs (take n locations)) → getD (now (places .exit)) i 0 ≡ cornerPlace (take n counts) (take n locations) i) ⌝ }
+    requires { ⌜ (length (now places) ≡ 16) × ((getD (now places) 0 0 ≡ 0) × (1 ≤ n)) ⌝ }
+    ensures { λ r. ⌜ (r .count ≡ 2 ^ length (diffs (drop 1 (take n locations)))) × (((r .low ≡ locationIndex (getD locations 0 (Exact 0)) * size (drop 1 (take n counts))) × (r .high ≡ upperOf (getD locations 0 (Exact 0)) * size (drop 1 (take n counts)))) × ((i : ℕ) → i < 2 ^ length (diffs (drop 1 (take n locations))) → getD (now (places .exit)) i 0 ≡ cornerPlace (drop 1 (take n counts)) (drop 1 (take n locations)) i)) ⌝ }
 {
     let mut count: usize = 1;
     let mut stride: usize = 1;
     let mut d = n;
-    while d > 0 {
+    while d > 1 {
         d -= 1;
         let location = locations[d];
         let low = locate::lower_node(location) * stride;
@@ -67,36 +75,43 @@ fn corner_places(
         count = blend::grow(location, count);
         stride = counts[d] * stride;
     }
-    count
+    // The first axis. By a literal index the compiler would take it apart from the others and copy them.
+    let first = locations[d - 1];
+    let low = locate::lower_node(first) * stride;
+    let high = upper_node(first) * stride;
+    Rest { count, low, high }
 }
 
-// The values at so many places.
-fn gather(values: &[f64], places: &[usize], count: usize) -> [f64; 16]
-    requires { ⌜ ((count ≤ 16) × (count ≤ length (now places))) × ((i : ℕ) → i < count → getD (now places) i 0 < length (now values)) ⌝ }
-    ensures { λ r. ⌜ ((i : ℕ) → i < count → getD r i nan ≡ getD (now (values .entry)) (getD (now (places .entry)) i 0) nan) ⌝ }
+// The values at so many places under one node of the first axis, and as many more under another.
+fn gather(values: &[f64], places: &[usize], count: usize, low: usize, high: usize) -> [f64; 16]
+    requires { ⌜ ((count + count ≤ 16) × (count ≤ length (now places))) × ((i : ℕ) → i < count → (getD (now places) i 0 + low < length (now values)) × (getD (now places) i 0 + high < length (now values))) ⌝ }
+    ensures { λ r. ⌜ ((i : ℕ) → i < count → (getD r i nan ≡ getD (now (values .entry)) (getD (now (places .entry)) i 0 + low) nan) × (getD r (i + count) nan ≡ getD (now (values .entry)) (getD (now (places .entry)) i 0 + high) nan)) ⌝ }
 {
     let mut vals = [0.0f64; 16];
     let mut i: usize = 0;
     while i < count {
         let at = places[i];
-        vals[i] = values[at];
+        let j = i + count;
+        vals[j] = values[at + high];
+        vals[i] = values[at + low];
         i += 1;
     }
     vals
 }
 
-// What the corners come to: the value, or 12.
+// What the corners come to: the value, or 12. The places are not spread over the first axis: the values are read under its two nodes at once, instead of
+// from places that were just put.
 fn compute(shape: Shape, values: &[f64], locations: [AxisLocation; 4]) -> Answer
-    requires { ⌜ (shape .axes ≤ 4) × ((size (countsOf shape) ≤ 4096) × (Within (take (shape .axes) locations) (countsOf shape) × (length (now values) ≡ size (countsOf shape)))) ⌝ }
+    requires { ⌜ (shape .axes ≤ 4) × ((size (countsOf shape) ≤ 4096) × (Within (take (shape .axes) locations) (countsOf shape) × ((length (now values) ≡ size (countsOf shape)) × (1 ≤ shape .axes)))) ⌝ }
     ensures { λ r. ⌜ r ≡ computed (linear (take (shape .axes) locations) (table (countsOf shape) (now (values .entry)))) ⌝ }
 {
     let axes = shape.axes;
     let counts = shape.counts;
     let mut space = [0usize; 16];
     let places: &mut [usize] = &mut space;
-    let count = corner_places(counts, locations, axes, places);
+    let rest = rest_places(counts, locations, axes, places);
     let corners: &[usize] = places;
-    let vals = gather(values, corners, count);
+    let vals = gather(values, corners, rest.count, rest.low, rest.high);
     fold::compute(vals, locations, axes)
 }
 

@@ -1,37 +1,77 @@
-use mathlib.Core.Path.{ap, _∙_}
-use Prim.Native.Nat.{_≤_, _<_}
+use mathlib.Core.Path.{_≡_, refl, sym, ap, _∙_}
+use mathlib.Core.List.{_∷_}
+use Prim.Native.Nat.{ℕ, _+_, _*_, _^_, _≤_, _<_}
+use native.Mathlib.Nat.{pow-le-pow-right}
 use native.Mathlib.Omega.{arith}
-use lib.ListN.{length, take, length-take}
 use denote.Ref.{now}
+use lib.Ieee.{nan}
+use lib.ListN.{length, take, drop, getD, length-take, length-drop}
 use Rattle.shapes.specs.Shape.{size}
-use Rattle.table.specs.Layout.{place}
-use Rattle.table.proofs.Layouts.{place-below}
+use Rattle.shapes.proofs.Totals.{length-ids}
+use Rattle.table.specs.Layout.{table}
 use Rattle.blend.specs.Blend.{computed}
+use Rattle.blend.specs.Rust.{diffs}
 use Rattle.blend.specs.Corners.{cornerAt}
-use Rattle.blend.proofs.Counts.{few-corners}
-use Rattle.ninterp.proofs.Corners.{corner-inside, gathered}
+use Rattle.blend.specs.declared.AxisLocation.{AxisLocation}
+use Rattle.blend.specs.declared.AxisLocation.the-variants.{Exact}
+use Rattle.blend.proofs.Counts.{few-diffs}
+use Rattle.axis.specs.Locations.{locationIndex, upperOf}
+use Rattle.ninterp.proofs.Corners.{lower-upper, corner-under, at-node, folded}
 use borrow.Author.Needs.{needs}
 use Rattle.ninterp.proofs.interpolator.n.corners.compute.Statement.{statement}
 use Rattle.ninterp.proofs.interpolator.n.corners.compute.Tie as tie
 
+long-l : (s : tie.Start) → s .args .shape .axes ≤ length (s .args .locations)
+long-l s = omega (arith, s .good .1 .1 .0 .1 .0 .1, s .pre .0)
+
+long-c : (s : tie.Start) → s .args .shape .axes ≤ length (s .args .shape .counts)
+long-c s = omega (arith, length-ids (s .args .shape .counts) (s .good .0 .1 .1 .1 .0 .1 .0 .1), s .pre .0)
+
+abbrev first : tie.Start → AxisLocation
+first s = getD (s .args .locations) 0 (Exact 0)
+
+module _ (k : tie.After-rest-places) where
+  abbrev s : tie.Start
+  s = k .before .before .before .before .before
+
+  abbrev many : ℕ
+  many = length (diffs (drop 1 (take (s .args .shape .axes) (s .args .locations))))
+
+  -- three axes are left at most, and so eight corners
+  eight : k .rest-places .result .count ≤ 8
+  eight =
+      let rest = drop 1 (take (s .args .shape .axes) (s .args .locations)) in
+      let short : many ≤ 3 = omega (arith, few-diffs rest, length-drop 1 (take (s .args .shape .axes) (s .args .locations)), length-take (s .args .shape .axes) (s .args .locations), s .pre .0) in
+      let u : 2 ^ many ≤ 2 ^ 3 = pow-le-pow-right (omega arith) {i = many} {j = 3} short in
+      omega (arith, k .rest-places .ensures .0, u)
+
+  room : k .rest-places .result .count ≤ length (k .rest-places .last .1 .1 .1 .0)
+  room = omega (arith, eight, k .rest-places .kept .1 .1 .1 .0)
+
+  -- a node of the first axis, and a corner of the others under it
+  module _ (node i : ℕ) where
+    abbrev at : ℕ
+    at = getD (k .rest-places .last .1 .1 .1 .0) i 0 + node * size (drop 1 (take (s .args .shape .axes) (s .args .shape .counts)))
+
+    under : node ≤ upperOf (first s) → i < k .rest-places .result .count → at < length (now (s .args .values))
+    under l b =
+        omega (arith, corner-under (s .args .locations) (s .args .shape .counts) (s .args .shape .axes) (s .pre .1 .1 .1 .1) (long-l s) (long-c s) (s .pre .1 .1 .0) _ refl node _ _ i l (k .rest-places .ensures .1 .1 i (omega (arith, k .rest-places .ensures .0, b))) refl, s .pre .1 .1 .1 .0)
+
+    stored : i < 2 ^ many → getD (now (s .args .values)) at nan
+        ≡ table (take (s .args .shape .axes) (s .args .shape .counts)) (now (s .args .values)) (node ∷ cornerAt (drop 1 (take (s .args .shape .axes) (s .args .locations))) i)
+    stored b = at-node (s .args .locations) (s .args .shape .counts) (s .args .shape .axes) (s .pre .1 .1 .1 .1) (long-l s) (long-c s) (s .pre .1 .1 .0) _ refl (now (s .args .values)) node _ _ i (k .rest-places .ensures .1 .1 i b) refl
+
 slice-aggregate-places : tie.Need-slice-aggregate-places
 slice-aggregate-places c = search needs
 
-corner-places-requires : tie.Need-corner-places-requires
-corner-places-requires c κs = search needs
+rest-places-requires : tie.Need-rest-places-requires
+rest-places-requires c κs = search needs
 
 gather-requires : tie.Need-gather-requires
 gather-requires c κs =
-    let k = c .before .before .before in
-    let s = k .before .before .before .before .before in
-    let ps = take (s .args .shape .axes) (s .args .locations) in
-    let cs = take (s .args .shape .axes) (s .args .shape .counts) in
-    let short : length (take (s .args .shape .axes) (s .args .locations)) ≤ 4 = omega (arith, length-take (s .args .shape .axes) (s .args .locations), s .pre .0) in
-    let few : k .corner-places .result ≤ 16 = omega (arith, k .corner-places .ensures .0, few-corners ps short) in (
-      (few, omega (arith, few, k .corner-places .kept .1 .1 .1 .0)),
-      λ i b.
-          let below : place cs (cornerAt ps i) < size cs = place-below (cornerAt ps i) cs (corner-inside ps cs i (s .pre .1 .1 .0)) in
-          omega (arith, k .corner-places .ensures .1 i (omega (arith, k .corner-places .ensures .0, b)), below, s .pre .1 .1 .1),
+    let k = c .before .before .before in (
+      (omega (arith, eight k), room k),
+      λ i b. (omega (arith, under k (locationIndex (first (s k))) i (lower-upper (first (s k))) b, k .rest-places .ensures .1 .0 .0), omega (arith, under k (upperOf (first (s k))) i (omega arith) b, k .rest-places .ensures .1 .0 .1)),
     )
 
 compute-requires : tie.Need-compute-requires
@@ -41,19 +81,15 @@ returns : tie.Need-returns
 returns c =
     let g = c .before .before in
     let k = g .before .before .before .before in
-    let s = k .before .before .before .before .before in
+    let t = s k in
     c .compute .ensures
     ∙ ap computed
-    (gathered (take (s .args .shape .axes) (s .args .locations)) (take (s .args .shape .axes) (s .args .shape .counts)) (k .corner-places .last .1 .1 .1 .0) (now (s .args .values)) (g .gather .result)
-    (k .corner-places .ensures .1)
-    (λ i b. g .gather .ensures i (omega (arith, k .corner-places .ensures .0, b))))
+    (folded (t .args .locations) (t .args .shape .counts) (t .args .shape .axes) (t .pre .1 .1 .1 .1) (long-l t) (long-c t) (t .pre .1 .1 .0) _ refl (now (t .args .values)) (g .gather .result) (λ i b.
+    let v = g .gather .ensures i (omega (arith, k .rest-places .ensures .0, b)) in
+    let p = getD (k .rest-places .last .1 .1 .1 .0) i 0 in (
+      v .0 ∙ ap (λ (m : ℕ). getD (now (t .args .values)) (p + m) nan) (k .rest-places .ensures .1 .0 .0) ∙ stored k (locationIndex (first t)) i b,
+      ap (λ (m : ℕ). getD (g .gather .result) (i + m) nan) (sym (k .rest-places .ensures .0)) ∙ v .1 ∙ ap (λ (m : ℕ). getD (now (t .args .values)) (p + m) nan) (k .rest-places .ensures .1 .0 .1) ∙ stored k (upperOf (first t)) i b,
+    )))
 
 pub compute-spec : {M : Type 1} → statement M
-compute-spec =
-    tie.close
-    (tie.spec
-    slice-aggregate-places
-    corner-places-requires
-    gather-requires
-    compute-requires
-    returns)
+compute-spec = tie.close (tie.spec slice-aggregate-places rest-places-requires gather-requires compute-requires returns)

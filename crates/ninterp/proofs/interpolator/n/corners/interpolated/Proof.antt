@@ -19,7 +19,7 @@ all-requires c κs =
 compute-requires : tie.Need-compute-requires
 compute-requires c κs =
     let j = start c .pre in
-    (j .four, (j .grid .small, (c .all .ensures .1, j .stored)))
+    (j .four, (j .grid .small, (c .all .ensures .1, (j .stored, j .some))))
 
 returns : tie.Need-returns
 unfolding interpolated

@@ -7,7 +7,7 @@ use native.Mathlib.Omega.{arith}
 use lib.ListN.{length}
 use lib.Ieee.{Float, nan, inf, fin, eq}
 use Rattle.judge.specs.Check.{node}
-use Rattle.picks.specs.Utils.{lowerIndex}
+use Rattle.cells.specs.Cells.{lowerIndex}
 use Rattle.axis.specs.Utils.{exactNode, fraction, axisLocation, locationAt}
 use Rattle.axis.specs.declared.locate.MaybeIndex.{MaybeIndex}
 use Rattle.axis.specs.declared.locate.MaybeIndex.the-variants.{Some, None}

@@ -16,9 +16,9 @@ use Rattle.binary64.proofs.Difference.{sub-above, sub-not-below, sub-keeps-orde
 use Rattle.binary64.proofs.Quotient.{Unit, unit-finite, div-unit}
 use Rattle.judge.specs.Check.{node, gap, Axis}
 use Rattle.uniform.specs.Uniform.{uniformIndex, uniformCell}
-use Rattle.picks.specs.Utils.{howMany, lowerIndex}
-use Rattle.picks.proofs.Cells.{cell-inside}
-use Rattle.picks.proofs.Axes.{cell-high}
+use Rattle.cells.specs.Cells.{howMany, lowerIndex}
+use Rattle.cells.proofs.Cells.{cell-inside}
+use Rattle.cells.proofs.Axes.{cell-high}
 use Rattle.binary64.proofs.Held.{Held}
 use Rattle.picks.proofs.Laws.{from-lower, before-node, at-lower}
 use Rattle.blend.specs.declared.AxisLocation.the-variants.{Exact}

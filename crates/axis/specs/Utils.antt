@@ -4,7 +4,7 @@ use mathlib.Core.List.{List}
 use Prim.Native.Nat.{ℕ, _+_}
 use lib.Ieee.{Float, binary64, eq, sub, div}
 use Rattle.judge.specs.Check.{node, gap}
-use Rattle.picks.specs.Utils.{lowerIndex}
+use Rattle.cells.specs.Cells.{lowerIndex}
 use Rattle.axis.specs.declared.locate.MaybeIndex.{MaybeIndex}
 use Rattle.axis.specs.declared.locate.MaybeIndex.the-variants.{Some, None}
 use Rattle.blend.specs.declared.AxisLocation.{AxisLocation}

@@ -5,7 +5,6 @@ ghost use lib.ListN.{length};
 ghost use Rattle.axis.specs.Utils.{exactNode, axisLocation};
 ghost use Rattle.axis.specs.Locations.{locationIndex, uniformLocation, locationFound};
 use blend::AxisLocation;
-use picks::cell;
 
 // An index, or none: the Rust's Option<usize>.
 pub enum MaybeIndex {
@@ -39,7 +38,7 @@ fn axis_location(grid: &[f64], point: f64) -> AxisLocation
     requires { ⌜ 2 ≤ length (now grid) ⌝ }
     ensures { λ r. ⌜ r ≡ axisLocation (now (grid .entry)) point ⌝ }
 {
-    let lower = cell::cell_index(grid, point);
+    let lower = cells::cell_index(grid, point);
     match exact_node(grid, lower, point) {
         MaybeIndex::Some(node) => AxisLocation::Exact(node),
         MaybeIndex::None => {

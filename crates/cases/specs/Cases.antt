@@ -16,7 +16,8 @@ use Rattle.grids.specs.Uniform.{apart, gapFault, uniformFault, toleranceOf}
 use Rattle.uniform.specs.Calls.{uniformReadFault, locateLowerIndexUniform}
 use Rattle.grids.specs.Calls.{validateUniformGridEpsilon}
 use Rattle.grids.specs.declared.Tolerance.the-variants.{Default}
-use Rattle.picks.specs.Utils.{howMany, lowerIndex, lowerStep, upperStep, stepIndex}
+use Rattle.picks.specs.Utils.{lowerStep, upperStep, stepIndex}
+use Rattle.cells.specs.Cells.{howMany, lowerIndex}
 use Rattle.axis.specs.Utils.{exactNode, fraction, axisLocation}
 use Rattle.utils.specs.Calls.{axisAnswer, axisReadingFault, directedFault, locateLowerIndex, locateAxis, locateStepIndex}
 use Rattle.picks.specs.Picks.{nearestIndex}

@@ -27,7 +27,7 @@ use Rattle.lines.specs.Digit.{glyphOf, digits, places, decimal}
 use Rattle.lines.specs.Line.{okLine, noLine, lineOf}
 use Rattle.lines.specs.Stream.{Rule, linesFirst, linesOf}
 use Rattle.lines.proofs.Runs.{lines-of-add, cut-none}
-use Rattle.picks.specs.Utils.{howMany, lowerIndex}
+use Rattle.cells.specs.Cells.{howMany, lowerIndex}
 use Rattle.axis.specs.Utils.{exactNode, fraction, axisLocation}
 use Rattle.picks.specs.Picks.{nearestIndex}
 use Rattle.ninterp.specs.Tables.{indices, picked, nearestAnswer}

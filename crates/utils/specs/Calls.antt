@@ -11,7 +11,8 @@ use Rattle.answer.specs.declared.IndexAnswer.{IndexAnswer}
 use Rattle.judge.specs.Check.{axisFault}
 use Rattle.counts.specs.Counts.{directionFault}
 use Rattle.numbers.specs.Numbers.{readingFault, resultFault}
-use Rattle.picks.specs.Utils.{lowerIndex, stepIndex}
+use Rattle.picks.specs.Utils.{stepIndex}
+use Rattle.cells.specs.Cells.{lowerIndex}
 use Rattle.axis.specs.Utils.{exactNode, axisLocation}
 use Rattle.axis.specs.declared.locate.MaybeIndex.{MaybeIndex}
 use Rattle.axis.specs.declared.locate.MaybeIndex.the-variants.{Some, None}

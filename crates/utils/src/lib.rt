@@ -6,7 +6,7 @@ ghost use Prim.Native.Nat.{_+_, _<_, _≤_};
 ghost use lib.ListN.{length};
 ghost use lib.Ieee.Scale.{finite};
 ghost use Rattle.judge.specs.Check.{Axis};
-ghost use Rattle.picks.specs.Utils.{lowerIndex};
+ghost use Rattle.cells.specs.Cells.{lowerIndex};
 ghost use Rattle.utils.specs.Calls.{locationFraction, axisReadingFault, directedFault, lowerFault, exactFault, locateLowerIndex, exactIndex, locateAxis, locateStepIndex};
 use answer::Answer;
 use answer::IndexAnswer;

@@ -16,8 +16,9 @@ use Rattle.blend.specs.declared.AxisLocation.{AxisLocation}
 use Rattle.blend.specs.declared.AxisLocation.the-variants.{Between}
 use Rattle.cells.specs.Cells.{lowerIndex}
 use Rattle.cells.proofs.Cells.{cell-inside}
-use Rattle.axis.specs.Utils.{exactNode, exactOr, fraction, axisLocation}
-use Rattle.axis.specs.declared.locate.MaybeIndex.the-variants.{Some, None}
+use Rattle.axis.specs.Utils.{exactOr, fraction, axisLocation}
+use Rattle.exact.specs.Exact.{exactNode}
+use Rattle.exact.specs.declared.MaybeIndex.the-variants.{Some, None}
 use Rattle.axis.specs.Locations.{uniformLocation, locationBy, locationFound, upperOf}
 
 -- ---- on one axis

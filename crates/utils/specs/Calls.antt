@@ -13,9 +13,10 @@ use Rattle.counts.specs.Counts.{directionFault}
 use Rattle.numbers.specs.Numbers.{readingFault, resultFault}
 use Rattle.picks.specs.Utils.{stepIndex}
 use Rattle.cells.specs.Cells.{lowerIndex}
-use Rattle.axis.specs.Utils.{exactNode, axisLocation}
-use Rattle.axis.specs.declared.locate.MaybeIndex.{MaybeIndex}
-use Rattle.axis.specs.declared.locate.MaybeIndex.the-variants.{Some, None}
+use Rattle.axis.specs.Utils.{axisLocation}
+use Rattle.exact.specs.Exact.{exactNode}
+use Rattle.exact.specs.declared.MaybeIndex.{MaybeIndex}
+use Rattle.exact.specs.declared.MaybeIndex.the-variants.{Some, None}
 use Rattle.blend.specs.declared.AxisLocation.{AxisLocation}
 use Rattle.blend.specs.declared.AxisLocation.the-variants.{Exact, Between}
 use Rattle.utils.specs.declared.ExactAnswer.{ExactAnswer}

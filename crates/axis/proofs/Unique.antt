@@ -3,13 +3,8 @@ use mathlib.Core.Path.{_≡_}
 use Prim.Native.Nat.{ℕ}
 use Rattle.answer.proofs.Outcome.{one-outcome}
 use Rattle.blend.specs.declared.AxisLocation.{AxisLocation}
-use Rattle.axis.specs.declared.locate.MaybeIndex.{MaybeIndex}
-use Rattle.axis.proofs.locate.exact_node.Reads as exact-node
 use Rattle.axis.proofs.locate.location_by.Reads as location-by
 use Rattle.axis.proofs.locate.lower_node.Reads as lower-node
-
-pub exact-node-unique : (κs : _) (a : _) (r s : MaybeIndex) (x y : _) → exact-node.Post κs a r x → exact-node.Post κs a s y → r ≡ s
-exact-node-unique κs a r s x y p q = one-outcome r s _ p q
 
 pub location-by-unique : (κs : _) (a : _) (r s : AxisLocation) (x y : _) → location-by.Post κs a r x → location-by.Post κs a s y → r ≡ s
 location-by-unique κs a r s x y p q = one-outcome r s _ p q

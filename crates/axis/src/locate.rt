@@ -2,45 +2,18 @@
 ghost use mathlib.Core.Path.{_≡_};
 ghost use Prim.Native.Nat.{_≤_};
 ghost use lib.ListN.{length};
-ghost use Rattle.axis.specs.Utils.{exactNode, axisLocation};
+ghost use Rattle.axis.specs.Utils.{axisLocation};
 ghost use Rattle.axis.specs.Locations.{locationIndex, uniformLocation, locationFound};
 use blend::AxisLocation;
-use picks::cell;
-
-// An index, or none: the Rust's Option<usize>.
-pub enum MaybeIndex {
-    Some(usize),
-    None,
-}
-
-// The node of a cell that equals the reading; a node past the end equals nothing.
-pub fn exact_node(grid: &[f64], lower: usize, point: f64) -> MaybeIndex
-    ensures { λ r. ⌜ r ≡ exactNode (now (grid .entry)) lower point ⌝ }
-{
-    if lower >= grid.len() {
-        return MaybeIndex::None;
-    }
-    if grid[lower] == point {
-        return MaybeIndex::Some(lower);
-    }
-    let upper = lower + 1;
-    if upper >= grid.len() {
-        return MaybeIndex::None;
-    }
-    if grid[upper] == point {
-        MaybeIndex::Some(upper)
-    } else {
-        MaybeIndex::None
-    }
-}
+use exact::MaybeIndex;
 
 // Linear's rule.
 fn axis_location(grid: &[f64], point: f64) -> AxisLocation
     requires { ⌜ 2 ≤ length (now grid) ⌝ }
     ensures { λ r. ⌜ r ≡ axisLocation (now (grid .entry)) point ⌝ }
 {
-    let lower = cell::cell_index(grid, point);
-    match exact_node(grid, lower, point) {
+    let lower = cells::cell_index(grid, point);
+    match exact::exact_node(grid, lower, point) {
         MaybeIndex::Some(node) => AxisLocation::Exact(node),
         MaybeIndex::None => {
             let frac = (point - grid[lower]) / (grid[lower + 1] - grid[lower]);

@@ -5,13 +5,9 @@ use lib.Ieee.{Float}
 use Rattle.answer.proofs.Outcome.{one-outcome}
 use Rattle.blend.proofs.blend.Reads as blend
 use Rattle.blend.proofs.grow.Reads as grow
-use Rattle.blend.proofs.corner_count.Reads as corner-count
 
 pub blend-unique : (κs : _) (a : _) (r s : Float) (x y : _) → blend.Post κs a r x → blend.Post κs a s y → r ≡ s
 blend-unique κs a r s x y p q = one-outcome r s _ p q
 
 pub grow-unique : (κs : _) (a : _) (r s : ℕ) (x y : _) → grow.Post κs a r x → grow.Post κs a s y → r ≡ s
 grow-unique κs a r s x y p q = one-outcome r s _ p q
-
-pub corner-count-unique : (κs : _) (a : _) (r s : ℕ) (x y : _) → corner-count.Post κs a r x → corner-count.Post κs a s y → r ≡ s
-corner-count-unique κs a r s x y p q = one-outcome r s _ p q

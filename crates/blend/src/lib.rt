@@ -1,9 +1,7 @@
-// What the two linears compute with: where a reading lies on an axis, the blend of two values, and how many corners a reading has.
+// What the two linears compute with: where a reading lies on an axis, the blend of two values, and how many corners one axis more gives.
 ghost use mathlib.Core.Path.{_≡_};
-ghost use Prim.Native.Nat.{_+_, _^_, min};
-ghost use lib.ListN.{length, take};
+ghost use Prim.Native.Nat.{_+_, min};
 ghost use Rattle.blend.specs.Blend.{blended};
-ghost use Rattle.blend.specs.Rust.{diffs};
 ghost use Rattle.blend.specs.Corners.{moreCorners};
 
 // Where a reading lies on an axis: on a node, or at a fraction of a cell.
@@ -36,18 +34,4 @@ pub fn grow(location: AxisLocation, count: usize) -> usize
         AxisLocation::Exact(_) => count,
         AxisLocation::Between { lower: _, frac: _ } => double(count),
     }
-}
-
-// How many corners the first n axes have.
-pub fn corner_count(locations: [AxisLocation; 4], n: usize) -> usize
-    ensures { λ r. ⌜ r ≡ 2 ^ length (diffs (take n locations)) ⌝ }
-{
-    let mut count: usize = 1;
-    let mut d = counts::least(n, 4);
-    while d > 0 {
-        d -= 1;
-        let location = locations[d];
-        count = grow(location, count);
-    }
-    count
 }

@@ -16,8 +16,10 @@ use Rattle.grids.specs.Uniform.{apart, gapFault, uniformFault, toleranceOf}
 use Rattle.uniform.specs.Calls.{uniformReadFault, locateLowerIndexUniform}
 use Rattle.grids.specs.Calls.{validateUniformGridEpsilon}
 use Rattle.grids.specs.declared.Tolerance.the-variants.{Default}
-use Rattle.picks.specs.Utils.{howMany, lowerIndex, lowerStep, upperStep, stepIndex}
-use Rattle.axis.specs.Utils.{exactNode, fraction, axisLocation}
+use Rattle.picks.specs.Utils.{lowerStep, upperStep, stepIndex}
+use Rattle.cells.specs.Cells.{howMany, lowerIndex}
+use Rattle.axis.specs.Utils.{fraction, axisLocation}
+use Rattle.exact.specs.Exact.{exactNode}
 use Rattle.utils.specs.Calls.{axisAnswer, axisReadingFault, directedFault, locateLowerIndex, locateAxis, locateStepIndex}
 use Rattle.picks.specs.Picks.{nearestIndex}
 use Rattle.ninterp.specs.Tables.{indices, picked, nearestAnswer}

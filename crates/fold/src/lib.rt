@@ -1,6 +1,6 @@
 // The fold of a reading's corners: axis after axis, in place, and the answer that its value gives.
 ghost use mathlib.Core.Path.{_≡_};
-ghost use Prim.Native.Nat.{_+_, _≤_};
+ghost use Prim.Native.Nat.{_+_, _^_, _≤_};
 ghost use lib.ListN.{length, take};
 ghost use Rattle.blend.specs.Blend.{computed};
 ghost use Rattle.blend.specs.Rust.{diffs, butterfly};
@@ -42,12 +42,26 @@ fn half_of(location: AxisLocation, count: usize) -> usize
     }
 }
 
+// How many corners the first n axes have.
+fn corner_count(locations: [AxisLocation; 4], n: usize) -> usize
+    ensures { λ r. ⌜ r ≡ 2 ^ length (diffs (take n locations)) ⌝ }
+{
+    let mut count: usize = 1;
+    let mut d = counts::least(n, 4);
+    while d > 0 {
+        d -= 1;
+        let location = locations[d];
+        count = blend::grow(location, count);
+    }
+    count
+}
+
 // The corners' values blended, axis after axis, the first one first.
-pub fn fold(mut vals: [f64; 16], locations: [AxisLocation; 4], n: usize) -> f64
+fn fold(mut vals: [f64; 16], locations: [AxisLocation; 4], n: usize) -> f64
     ensures { λ r. ⌜ r ≡ butterfly (diffs (take n locations)) vals ⌝ }
 {
     let axes = counts::least(n, 4);
-    let mut half = blend::corner_count(locations, axes);
+    let mut half = corner_count(locations, axes);
     let v: &mut [f64] = &mut vals;
     let mut d: usize = 0;
     while d < axes {

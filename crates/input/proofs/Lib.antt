@@ -1,3 +1,2 @@
-pub mod Shifts
 pub mod Ends
 pub mod Unique

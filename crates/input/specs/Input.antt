@@ -1,12 +1,12 @@
 -- "The program and one whole run": what the program does with the bytes of its input, of whatever table.
 use mathlib.Core.Bool.{Bool, false, _&&_, _||_, cond}
-use mathlib.Core.List.{List, _++_}
+use mathlib.Core.List.{List}
 use Prim.Native.Nat.{ℕ}
 use lib.Dec.{leb, eqb}
-use lib.ListN.{take, drop}
+use lib.ListN.{take}
 use Rattle.answer.specs.Answer.{refused}
 use Rattle.words.specs.Words.{wordAt}
-use Rattle.lines.specs.Put.{roomFor, lineInto, lineEnd}
+use Rattle.lines.specs.Put.{lineInto, lineEnd}
 
 -- "It reads 40 bytes, then up to the stated length where that is 40 to 36,864"
 unfoldable pub imageSize : List ℕ → ℕ
@@ -15,10 +15,6 @@ imageSize input = cond (leb 40 (wordAt 4 input 4) && leb (wordAt 4 input 4) 3686
 -- "and loads what it has"
 abbrev pub imageIn : List ℕ → List ℕ
 imageIn input = take (imageSize input) input
-
--- the n bytes at a place moved to the front, the rest as it was; where they are not all there, the buffer as it was
-unfoldable pub shifted : List ℕ → ℕ → ℕ → List ℕ
-shifted d from n = cond (roomFor n d from) (take n (drop from d) ++ drop n d) d
 
 -- whether the program reads on: its output stands, records may still come, and the buffer was filled or holds a whole record still
 unfoldable pub goesOn : Bool → Bool → ℕ → Bool → Bool

@@ -1,6 +1,6 @@
-// What the program does with the bytes of its input, of whatever table: where the image ends, what is left moved to the buffer's front, whether to read on, and the input's end.
+// What the program does with the bytes of its input, of whatever table: where the image ends, whether to read on, and the input's end.
 ghost use mathlib.Core.Path.{_≡_};
-ghost use Rattle.input.specs.Input.{imageSize, goesOn, endSize, endInto, shifted};
+ghost use Rattle.input.specs.Input.{imageSize, goesOn, endSize, endInto};
 
 // How many bytes the image is to have, by what its first bytes state.
 pub fn image_size(head: &[u8]) -> usize
@@ -14,24 +14,6 @@ pub fn image_size(head: &[u8]) -> usize
         return 40;
     }
     stated
-}
-
-// Moves the n bytes at a place to the front, where they are all there.
-pub fn shift(buf: &mut [u8], from: usize, n: usize)
-    ensures { λ _. ⌜ now (buf .exit) ≡ shifted (now (buf .entry)) from n ⌝ }
-{
-    let len = buf.len();
-    if from > len {
-        return;
-    }
-    if n > len - from {
-        return;
-    }
-    let mut i: usize = 0;
-    while i < n {
-        buf[i] = buf[from + i];
-        i += 1;
-    }
 }
 
 // Whether to read on.

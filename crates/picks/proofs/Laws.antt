@@ -12,10 +12,11 @@ use lib.Ieee.Scale.{finite}
 use Rattle.answer.proofs.Orders.{clash}
 use Rattle.binary64.proofs.Order as order
 use Rattle.judge.specs.Check.{node, Axis}
-use Rattle.picks.specs.Utils.{howMany, countBelow, lowerIndex, lowerStep, upperStep}
-use Rattle.picks.proofs.Counts.{Falls, count-is, count-splits}
-use Rattle.picks.proofs.Cells.{cell-inside}
-use Rattle.picks.proofs.Axes.{rises-all, climbs, AtMost, Below, below-count, lower-at, cell-low, cell-high, lowest}
+use Rattle.picks.specs.Utils.{lowerStep, upperStep}
+use Rattle.cells.specs.Cells.{howMany, countBelow, lowerIndex}
+use Rattle.cells.proofs.Counts.{Falls, count-is, count-splits}
+use Rattle.cells.proofs.Cells.{cell-inside}
+use Rattle.cells.proofs.Axes.{rises-all, climbs, AtMost, Below, below-count, lower-at, cell-low, cell-high, lowest}
 use Rattle.picks.proofs.Steps.{inside-is, at-most, under-lower, under-upper, over-lower, over-upper}
 
 module _ (xs : List Float) (p : Float) (ax : Axis xs) (fp : finite p ≡ true) where

@@ -1,6 +1,3 @@
-pub mod Counts
-pub mod Cells
-pub mod Axes
 pub mod Steps
 pub mod Nearests
 pub mod Rusts

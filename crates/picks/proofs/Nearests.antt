@@ -5,7 +5,7 @@ use mathlib.Core.List.{List}
 use Prim.Native.Nat.{ℕ, _+_}
 use lib.Ieee.{Float, binary64, lt, sub}
 use Rattle.judge.specs.Check.{node}
-use Rattle.picks.specs.Utils.{lowerIndex}
+use Rattle.cells.specs.Cells.{lowerIndex}
 use Rattle.picks.specs.Picks.{nearer, nearestIndex}
 
 module _ (nodes : List Float) (p : Float) (l : ℕ) (e : l ≡ lowerIndex nodes p) where

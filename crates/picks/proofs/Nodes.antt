@@ -11,10 +11,11 @@ use lib.Ieee.Scale.{finite}
 use Rattle.binary64.proofs.Order as order
 use Rattle.binary64.proofs.Difference.{sub-level, sub-above, zero-below, not-below-zero}
 use Rattle.judge.specs.Check.{node, Axis}
-use Rattle.picks.specs.Utils.{lowerIndex, lowerStep, upperStep, stepIndex}
+use Rattle.picks.specs.Utils.{lowerStep, upperStep, stepIndex}
+use Rattle.cells.specs.Cells.{lowerIndex}
 use Rattle.picks.specs.Picks.{nearer, nearestIndex}
 use Rattle.picks.specs.Rust.{lowerBy, upperBy, rustStep}
-use Rattle.picks.proofs.Axes.{rises-all}
+use Rattle.cells.proofs.Axes.{rises-all}
 use Rattle.picks.proofs.Steps.{lower-step-last, on-upper, on-lower, upper-step-first, past-first}
 use Rattle.binary64.proofs.Held.{Held}
 use Rattle.picks.proofs.Laws.{node-lower, node-upper, at-lower}

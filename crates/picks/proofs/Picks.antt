@@ -10,11 +10,12 @@ use lib.ListN.{length}
 use lib.Ieee.{Float, lt, le, sub, binary64}
 use lib.Ieee.Scale.{finite}
 use Rattle.judge.specs.Check.{node, Axis}
-use Rattle.picks.specs.Utils.{howMany, countBelow, lowerIndex, byRange, lowerStep, upperStep, stepIndex}
+use Rattle.picks.specs.Utils.{byRange, lowerStep, upperStep, stepIndex}
+use Rattle.cells.specs.Cells.{howMany, countBelow, lowerIndex}
 use Rattle.picks.specs.Picks.{nearestIndex, pickIndex, pickFound}
 use Rattle.picks.specs.Rust.{rustStep}
 use Rattle.picks.proofs.Nodes.{step-rust}
-use Rattle.picks.proofs.Cells.{cell-inside}
+use Rattle.cells.proofs.Cells.{cell-inside}
 use Rattle.picks.proofs.Laws.{few}
 
 -- ---- each index is one of its axis

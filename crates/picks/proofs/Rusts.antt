@@ -7,7 +7,7 @@ use borrow.Author.Tests.{eq-eqb, ne-eqb}
 use lib.ListN.{length}
 use lib.Ieee.{Float, eq}
 use Rattle.judge.specs.Check.{node}
-use Rattle.picks.specs.Utils.{lowerIndex}
+use Rattle.cells.specs.Cells.{lowerIndex}
 use Rattle.picks.specs.Rust.{lowerBy, upperBy, rustStep}
 
 module _ (xs : List Float) (p : Float) (r l : ℕ) (e : r ≡ l) where

@@ -12,10 +12,11 @@ use lib.Ieee.Scale.{finite}
 use Rattle.answer.proofs.Orders.{clash}
 use Rattle.binary64.proofs.Order as order
 use Rattle.judge.specs.Check.{node, Axis}
-use Rattle.picks.specs.Utils.{howMany, countBelow, lowerIndex, byRange, lowerStep, upperStep}
-use Rattle.picks.proofs.Counts.{count-is}
-use Rattle.picks.proofs.Cells.{cell-inside}
-use Rattle.picks.proofs.Axes.{rises-all, climbs, AtMost, below-count, lower-is, cell-low, cell-high, lowest, highest}
+use Rattle.picks.specs.Utils.{byRange, lowerStep, upperStep}
+use Rattle.cells.specs.Cells.{howMany, countBelow, lowerIndex}
+use Rattle.cells.proofs.Counts.{count-is}
+use Rattle.cells.proofs.Cells.{cell-inside}
+use Rattle.cells.proofs.Axes.{rises-all, climbs, AtMost, below-count, lower-is, cell-low, cell-high, lowest, highest}
 
 module _ (xs : List Float) (p : Float) (ax : Axis xs) (fp : finite p ≡ true) where
   abbrev first : Float

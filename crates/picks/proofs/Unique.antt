@@ -2,11 +2,7 @@
 use mathlib.Core.Path.{_≡_}
 use Prim.Native.Nat.{ℕ}
 use Rattle.answer.proofs.Outcome.{one-outcome}
-use Rattle.picks.proofs.cell.cell_index.Reads as cell-index
 use Rattle.picks.proofs.pick.pick_index.Reads as pick-index
-
-pub cell-index-unique : (κs : _) (a : _) (r s : ℕ) (x y : _) → cell-index.Post κs a r x → cell-index.Post κs a s y → r ≡ s
-cell-index-unique κs a r s x y p q = one-outcome r s _ p q
 
 pub pick-index-unique : (κs : _) (a : _) (r s : ℕ) (x y : _) → pick-index.Post κs a r x → pick-index.Post κs a s y → r ≡ s
 pick-index-unique κs a r s x y p q = one-outcome r s _ p q

@@ -6,7 +6,8 @@ use lib.Dec.{ltb}
 use lib.ListN.{length}
 use lib.Ieee.{Float, binary64, lt, sub}
 use Rattle.judge.specs.Check.{node}
-use Rattle.picks.specs.Utils.{lowerIndex, stepIndex}
+use Rattle.picks.specs.Utils.{stepIndex}
+use Rattle.cells.specs.Cells.{lowerIndex}
 use Rattle.picks.specs.Rust.{rustStep}
 
 -- "the lower node if (p - lower) is less than (upper - p) as rounded, else the upper"

@@ -6,7 +6,7 @@ use lib.Dec.{eqb}
 use lib.ListN.{length}
 use lib.Ieee.{Float, eq}
 use Rattle.judge.specs.Check.{node}
-use Rattle.picks.specs.Utils.{lowerIndex}
+use Rattle.cells.specs.Cells.{lowerIndex}
 
 -- StepDirection::Lower, with x_l the lower index
 abbrev pub lowerBy : List Float → ℕ → Float → ℕ

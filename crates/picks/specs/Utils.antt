@@ -1,24 +1,12 @@
--- "The axis rules (utils.rs)": what the primitives that give an index by counting give on a good axis.
-use mathlib.Core.Bool.{Bool, cond}
-use mathlib.Core.List.{List, [], _∷_}
-use Prim.Native.Nat.{ℕ, _+_, _-_, min}
+-- "The axis rules (utils.rs)": what Step gives on a good axis.
+use mathlib.Core.Bool.{cond}
+use mathlib.Core.List.{List}
+use Prim.Native.Nat.{ℕ, _-_}
 use lib.Dec.{eqb}
 use lib.ListN.{length}
 use lib.Ieee.{Float, lt, le}
 use Rattle.judge.specs.Check.{node}
-
--- how many nodes pass a test
-unfoldable pub howMany : (Float → Bool) → List Float → ℕ
-howMany test [] = 0
-howMany test (x ∷ xs) = cond (test x) 1 0 + howMany test xs
-
--- "the count of nodes strictly below the reading"
-abbrev pub countBelow : List Float → Float → ℕ
-countBelow nodes p = howMany (λ x. lt x p) nodes
-
--- "less 1, held between 0 and n-2"
-unfoldable pub lowerIndex : List Float → Float → ℕ
-lowerIndex nodes p = min (countBelow nodes p - 1) (length nodes - 2)
+use Rattle.cells.specs.Cells.{howMany, countBelow}
 
 -- one of three, as a reading lies below the range, above it or inside
 abbrev pub byRange : List Float → Float → ℕ → ℕ → ℕ → ℕ

@@ -2,10 +2,9 @@
 ghost use mathlib.Core.Path.{_≡_};
 ghost use Prim.Native.Nat.{_≤_};
 ghost use lib.ListN.{length};
-ghost use Rattle.picks.specs.Utils.{lowerIndex};
+ghost use Rattle.cells.specs.Cells.{lowerIndex};
 ghost use Rattle.picks.specs.Rust.{lowerBy, upperBy, rustStep};
 ghost use Rattle.picks.specs.Picks.{nearestIndex, pickFound};
-use crate::cell;
 
 // A reading on a node lies in the cell below it, so the node is one further up.
 fn lower_step(grid: &[f64], point: f64) -> usize
@@ -13,7 +12,7 @@ fn lower_step(grid: &[f64], point: f64) -> usize
     ensures { λ r. ⌜ r ≡ lowerBy (now (grid .entry)) (lowerIndex (now (grid .entry)) point) point ⌝ }
 {
     let n = grid.len();
-    let lower = cell::cell_index(grid, point);
+    let lower = cells::cell_index(grid, point);
     if point == grid[n - 1] {
         n - 1
     } else if point == grid[lower + 1] {
@@ -30,7 +29,7 @@ fn upper_step(grid: &[f64], point: f64) -> usize
     if point == grid[0] {
         0
     } else {
-        cell::cell_index(grid, point) + 1
+        cells::cell_index(grid, point) + 1
     }
 }
 
@@ -50,7 +49,7 @@ fn nearest_index(grid: &[f64], point: f64) -> usize
     requires { ⌜ 2 ≤ length (now grid) ⌝ }
     ensures { λ r. ⌜ r ≡ nearestIndex (now (grid .entry)) point ⌝ }
 {
-    let lower = cell::cell_index(grid, point);
+    let lower = cells::cell_index(grid, point);
     if point - grid[lower] < grid[lower + 1] - point {
         lower
     } else {

@@ -2,7 +2,7 @@
 use crate::line::Reply;
 use crate::list::Header;
 use answer::IndexAnswer;
-use axis::locate::MaybeIndex;
+use exact::MaybeIndex;
 use grids::Tolerance;
 use utils::AxisAnswer;
 use utils::ExactAnswer;

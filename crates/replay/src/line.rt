@@ -3,8 +3,8 @@ ghost use Prim.Native.Nat.{_≤_};
 ghost use lib.ListN.{length};
 ghost use Rattle.io.specs.Counts.{Counts};
 use answer::Answer;
-use axis::locate::MaybeIndex;
 use blend::AxisLocation;
+use exact::MaybeIndex;
 use libc::STDOUT_FILENO;
 use slices::SliceAnswer;
 

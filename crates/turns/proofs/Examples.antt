@@ -27,8 +27,9 @@ use Rattle.lines.specs.Digit.{glyphOf, digits, places, decimal}
 use Rattle.lines.specs.Line.{okLine, noLine, lineOf}
 use Rattle.lines.specs.Stream.{Rule, linesFirst, linesOf}
 use Rattle.lines.proofs.Runs.{lines-of-add, cut-none}
-use Rattle.picks.specs.Utils.{howMany, lowerIndex}
-use Rattle.axis.specs.Utils.{exactNode, fraction, axisLocation}
+use Rattle.cells.specs.Cells.{howMany, lowerIndex}
+use Rattle.axis.specs.Utils.{fraction, axisLocation}
+use Rattle.exact.specs.Exact.{exactNode}
 use Rattle.picks.specs.Picks.{nearestIndex}
 use Rattle.ninterp.specs.Tables.{indices, picked, nearestAnswer}
 use Rattle.ninterp.specs.Linears.{locations, interpolated, linearAnswer}

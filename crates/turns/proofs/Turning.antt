@@ -13,9 +13,8 @@ use Rattle.lines.specs.Feed.{Filled, Stepped}
 use Rattle.lines.proofs.Puts.{wrote-take}
 use Rattle.lines.proofs.Blocks.{Answered, answered}
 use Rattle.lines.proofs.Runs.{turned}
-use Rattle.input.specs.Input.{shifted}
-use Rattle.input.proofs.Shifts.{shifted-front, shifted-length}
-use Rattle.turns.specs.Turns.{turnCount, TurnOf}
+use Rattle.turns.proofs.Shifts.{shifted-front, shifted-length}
+use Rattle.turns.specs.Turns.{shifted, turnCount, TurnOf}
 
 -- where there is a record, its bytes are no more than those of all
 pub one-of : (count size have : ℕ) → (count ≡ 0 → ⊥) → count * size ≤ have → size ≤ have

@@ -1,11 +1,15 @@
 -- A turn of the program's buffer, for every buffer, output and number of bytes. Of any rule.
 use mathlib.Core.Path.{_≡_}
-use mathlib.Core.List.{List}
+use mathlib.Core.Bool.{cond}
+use mathlib.Core.List.{List, _++_}
 use Prim.Native.Nat.{ℕ, _-_, _*_}
-use lib.ListN.{length, take}
-use Rattle.lines.specs.Put.{put}
+use lib.ListN.{length, take, drop}
+use Rattle.lines.specs.Put.{put, roomFor}
 use Rattle.lines.specs.Stream.{Rule, linesFirst, countOf}
-use Rattle.input.specs.Input.{shifted}
+
+-- the n bytes at a place moved to the front, the rest as it was; where they are not all there, the buffer as it was
+unfoldable pub shifted : List ℕ → ℕ → ℕ → List ℕ
+shifted d from n = cond (roomFor n d from) (take n (drop from d) ++ drop n d) d
 
 -- how many records are answered of the first `have` bytes of the buffer b, with room in d
 abbrev pub turnCount : Rule → ℕ → ℕ → List ℕ → List ℕ → ℕ

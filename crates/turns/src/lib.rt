@@ -2,7 +2,7 @@
 ghost use mathlib.Core.Path.{_≡_};
 ghost use Prim.Native.Nat.{_*_, _≤_};
 ghost use Rattle.ninterp.specs.Records.{recordSize, recordRule};
-ghost use Rattle.turns.specs.Turns.{TurnOf};
+ghost use Rattle.turns.specs.Turns.{shifted, TurnOf};
 use shapes::Shape;
 
 // How many bytes were printed, how many are held at the buffer's front, and how many records may still come.
@@ -21,6 +21,24 @@ fn used_bytes(shape: Shape, count: usize, have: usize) -> usize
         return 0;
     }
     count * (1 + 8 * shape.axes)
+}
+
+// Moves the n bytes at a place to the front, where they are all there.
+fn shift(buf: &mut [u8], from: usize, n: usize)
+    ensures { λ _. ⌜ now (buf .exit) ≡ shifted (now (buf .entry)) from n ⌝ }
+{
+    let len = buf.len();
+    if from > len {
+        return;
+    }
+    if n > len - from {
+        return;
+    }
+    let mut i: usize = 0;
+    while i < n {
+        buf[i] = buf[from + i];
+        i += 1;
+    }
 }
 
 // Answers the whole records among the first `have` bytes of the buffer, and moves what is left of them to its front.
@@ -47,7 +65,7 @@ pub fn take_turn(
     let count = done.count;
     let used = used_bytes(shape, count, there);
     let held = there - used;
-    input::shift(buf, used, held);
+    shift(buf, used, held);
     Turn {
         written: done.written,
         held,

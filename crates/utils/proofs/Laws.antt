@@ -7,8 +7,8 @@ use Rattle.answer.specs.declared.Answer.{Answer}
 use Rattle.answer.proofs.Orders.{given-bad}
 use Rattle.utils.specs.Calls.{indexOf, locationFraction, exactAnswer, axisAnswer}
 use Rattle.axis.specs.Locations.{locationIndex}
-use Rattle.axis.specs.declared.locate.MaybeIndex.{MaybeIndex}
-use Rattle.axis.specs.declared.locate.MaybeIndex.the-variants.{None}
+use Rattle.exact.specs.declared.MaybeIndex.{MaybeIndex}
+use Rattle.exact.specs.declared.MaybeIndex.the-variants.{None}
 use Rattle.blend.specs.declared.AxisLocation.{AxisLocation}
 use Rattle.blend.specs.declared.AxisLocation.the-variants.{Exact}
 

@@ -15,8 +15,8 @@ use Rattle.judge.specs.Check.{axisFault, Axis}
 use Rattle.counts.specs.Counts.{directionFault}
 use Rattle.numbers.specs.Numbers.{readingFault}
 use Rattle.utils.specs.Calls.{exactAnswer, axisAnswer, axisReadingFault, directedFault, lowerFault}
-use Rattle.axis.specs.declared.locate.MaybeIndex.{MaybeIndex}
-use Rattle.axis.specs.declared.locate.MaybeIndex.the-variants.{None}
+use Rattle.exact.specs.declared.MaybeIndex.{MaybeIndex}
+use Rattle.exact.specs.declared.MaybeIndex.the-variants.{None}
 use Rattle.blend.specs.declared.AxisLocation.{AxisLocation}
 use Rattle.blend.specs.declared.AxisLocation.the-variants.{Exact}
 use Rattle.utils.specs.declared.ExactAnswer.{ExactAnswer}

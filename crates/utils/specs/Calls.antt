@@ -11,10 +11,12 @@ use Rattle.answer.specs.declared.IndexAnswer.{IndexAnswer}
 use Rattle.judge.specs.Check.{axisFault}
 use Rattle.counts.specs.Counts.{directionFault}
 use Rattle.numbers.specs.Numbers.{readingFault, resultFault}
-use Rattle.picks.specs.Utils.{lowerIndex, stepIndex}
-use Rattle.axis.specs.Utils.{exactNode, axisLocation}
-use Rattle.axis.specs.declared.locate.MaybeIndex.{MaybeIndex}
-use Rattle.axis.specs.declared.locate.MaybeIndex.the-variants.{Some, None}
+use Rattle.picks.specs.Utils.{stepIndex}
+use Rattle.cells.specs.Cells.{lowerIndex}
+use Rattle.axis.specs.Utils.{axisLocation}
+use Rattle.exact.specs.Exact.{exactNode}
+use Rattle.exact.specs.declared.MaybeIndex.{MaybeIndex}
+use Rattle.exact.specs.declared.MaybeIndex.the-variants.{Some, None}
 use Rattle.blend.specs.declared.AxisLocation.{AxisLocation}
 use Rattle.blend.specs.declared.AxisLocation.the-variants.{Exact, Between}
 use Rattle.utils.specs.declared.ExactAnswer.{ExactAnswer}

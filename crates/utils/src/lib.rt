@@ -6,12 +6,12 @@ ghost use Prim.Native.Nat.{_+_, _<_, _≤_};
 ghost use lib.ListN.{length};
 ghost use lib.Ieee.Scale.{finite};
 ghost use Rattle.judge.specs.Check.{Axis};
-ghost use Rattle.picks.specs.Utils.{lowerIndex};
+ghost use Rattle.cells.specs.Cells.{lowerIndex};
 ghost use Rattle.utils.specs.Calls.{locationFraction, axisReadingFault, directedFault, lowerFault, exactFault, locateLowerIndex, exactIndex, locateAxis, locateStepIndex};
 use answer::Answer;
 use answer::IndexAnswer;
-use axis::locate::MaybeIndex;
 use blend::AxisLocation;
+use exact::MaybeIndex;
 
 // What a primitive answers, with what it gives.
 pub struct ExactAnswer {
@@ -173,6 +173,6 @@ pub fn exact_index(grid: &[f64], lower: usize, point: f64) -> ExactAnswer
             index: MaybeIndex::None,
         };
     }
-    let index = axis::locate::exact_node(grid, lower, point);
+    let index = exact::exact_node(grid, lower, point);
     ExactAnswer { answer, index }
 }

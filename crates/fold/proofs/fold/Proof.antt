@@ -7,7 +7,7 @@ use Rattle.shapes.proofs.Totals.{counts-least}
 use Rattle.blend.specs.Rust.{diffs, butterfly}
 use Rattle.blend.specs.declared.AxisLocation.{AxisLocation}
 use Rattle.blend.specs.declared.AxisLocation.the-variants.{Exact}
-use Rattle.blend.proofs.Counts.{count-few}
+use Rattle.fold.proofs.Counts.{count-few}
 use Rattle.fold.proofs.Folds.{Folding, fold-step, fold-fits, fold-at, fold-done}
 use borrow.Author.Needs.{needs}
 use Rattle.fold.proofs.fold.Statement.{statement}

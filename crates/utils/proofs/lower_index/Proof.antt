@@ -9,11 +9,11 @@ use lib.ListN.{length}
 use lib.Ieee.{Float}
 use lib.Ieee.Scale.{finite}
 use borrow.Author.Needs.{needs}
-use Rattle.picks.proofs.Cells.{cell-inside}
-use Rattle.picks.proofs.Axes.{Bracket, bracket-start, bracket-up, bracket-down, lowest, highest, met-above, met-first, met-never}
+use Rattle.cells.proofs.Cells.{cell-inside}
+use Rattle.cells.proofs.Axes.{Bracket, bracket-start, bracket-up, bracket-down, lowest, highest, met-above, met-first, met-never}
 use Rattle.binary64.proofs.Order.{le-of-lt}
 use Rattle.judge.specs.Check.{Axis}
-use Rattle.picks.specs.Utils.{lowerIndex}
+use Rattle.cells.specs.Cells.{lowerIndex}
 use Rattle.utils.proofs.lower_index.Statement.{statement}
 use Rattle.utils.proofs.lower_index.Tie as tie
 

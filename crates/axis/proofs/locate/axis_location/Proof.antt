@@ -6,7 +6,7 @@ use Rattle.judge.specs.Check.{gap}
 use Rattle.axis.specs.Utils.{fraction}
 use Rattle.axis.proofs.Exacts.{location-exact, location-between}
 use borrow.Author.Needs.{needs}
-use Rattle.picks.proofs.Cells.{cell-inside}
+use Rattle.cells.proofs.Cells.{cell-inside}
 use Rattle.axis.proofs.locate.axis_location.Statement.{statement}
 use Rattle.axis.proofs.locate.axis_location.Tie as tie
 

@@ -4,7 +4,7 @@ use lib.ListN.{length}
 use denote.Ref.{now}
 use Rattle.picks.proofs.Rusts.{by-last, by-upper, by-lower}
 use borrow.Author.Needs.{needs}
-use Rattle.picks.proofs.Cells.{cell-inside}
+use Rattle.cells.proofs.Cells.{cell-inside}
 use Rattle.picks.proofs.pick.lower_step.Statement.{statement}
 use Rattle.picks.proofs.pick.lower_step.Tie as tie
 

@@ -4,7 +4,7 @@ use lib.ListN.{length}
 use denote.Ref.{now}
 use Rattle.picks.proofs.Nearests.{nearest-lower, nearest-upper}
 use borrow.Author.Needs.{needs}
-use Rattle.picks.proofs.Cells.{cell-inside}
+use Rattle.cells.proofs.Cells.{cell-inside}
 use Rattle.picks.proofs.pick.nearest_index.Statement.{statement}
 use Rattle.picks.proofs.pick.nearest_index.Tie as tie
 

@@ -2,10 +2,10 @@ use Prim.Native.Nat.{_+_, _<_}
 use native.Mathlib.Omega.{arith}
 use lib.ListN.{length}
 use denote.Ref.{now}
-use Rattle.picks.specs.Utils.{lowerIndex}
+use Rattle.cells.specs.Cells.{lowerIndex}
 use Rattle.picks.proofs.Rusts.{by-first, by-next}
 use borrow.Author.Needs.{needs}
-use Rattle.picks.proofs.Cells.{cell-inside}
+use Rattle.cells.proofs.Cells.{cell-inside}
 use Rattle.picks.proofs.pick.upper_step.Statement.{statement}
 use Rattle.picks.proofs.pick.upper_step.Tie as tie
 

@@ -13,9 +13,9 @@ use lib.Ieee.Scale.{finite}
 use Rattle.answer.proofs.Orders.{clash}
 use Rattle.binary64.proofs.Order as order
 use Rattle.judge.specs.Check.{node, Axis}
-use Rattle.picks.specs.Utils.{countBelow, lowerIndex}
-use Rattle.picks.proofs.Cells.{cell-inside}
-use Rattle.picks.proofs.Counts.{Splits, Falls, count-is, count-splits}
+use Rattle.cells.specs.Cells.{countBelow, lowerIndex}
+use Rattle.cells.proofs.Cells.{cell-inside}
+use Rattle.cells.proofs.Counts.{Splits, Falls, count-is, count-splits}
 
 module _ (xs : List Float) (ax : Axis xs) where
   pub rises-all : (i j : ℕ) → i < j → j < length xs → lt (node xs i) (node xs j) ≡ true

@@ -8,7 +8,7 @@ use native.Mathlib.Omega.{arith}
 use lib.ListN.{length, drop, getD, drop-of-length-le}
 use lib.Seq.{drop-cons}
 use lib.Ieee.{Float, nan, lt}
-use Rattle.picks.specs.Utils.{howMany, countBelow, lowerIndex}
+use Rattle.cells.specs.Cells.{howMany, countBelow, lowerIndex}
 
 module _ (xs : List Float) (p : Float) where
   abbrev left : ℕ → ℕ

@@ -1,8 +1,8 @@
 use denote.Ref.{now}
 use borrow.Author.Needs.{needs}
-use Rattle.picks.proofs.Cells.{none-below, all-below, some-below, no-cell}
-use Rattle.picks.proofs.cell.cell_index.Statement.{statement}
-use Rattle.picks.proofs.cell.cell_index.Tie as tie
+use Rattle.cells.proofs.Cells.{none-below, all-below, some-below, no-cell}
+use Rattle.cells.proofs.cell_index.Statement.{statement}
+use Rattle.cells.proofs.cell_index.Tie as tie
 
 count-below-requires : tie.Need-count-below-requires
 count-below-requires c κs = search needs

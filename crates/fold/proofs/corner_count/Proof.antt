@@ -1,15 +1,15 @@
 use Rattle.shapes.proofs.Totals.{counts-least}
 use Rattle.blend.specs.declared.AxisLocation.{AxisLocation}
 use Rattle.blend.specs.Rust.{diffs}
-use Rattle.blend.proofs.Counts.{count-step, count-none}
+use Rattle.fold.proofs.Counts.{count-step, count-none}
 use mathlib.Core.Path.{_≡_, ap, _∙_}
 use mathlib.Core.List.{List}
 use Prim.Native.Nat.{ℕ, _^_, _≤_}
 use native.Mathlib.Omega.{arith}
 use lib.ListN.{length, take, drop}
 use borrow.Author.Needs.{needs}
-use Rattle.blend.proofs.corner_count.Statement.{statement}
-use Rattle.blend.proofs.corner_count.Tie as tie
+use Rattle.fold.proofs.corner_count.Statement.{statement}
+use Rattle.fold.proofs.corner_count.Tie as tie
 
 abbrev Inv-loop : tie.InvT-loop
 Inv-loop n locations count₀ d₀ count d = (d ≤ d₀) × (count ≡ 2 ^ length (diffs (drop d (take d₀ locations))))

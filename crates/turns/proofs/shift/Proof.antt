@@ -1,9 +1,9 @@
 use Prim.Native.Nat.{_-_}
 use native.Mathlib.Omega.{arith}
 use borrow.Author.Needs.{needs}
-use Rattle.input.proofs.Shifts.{Shifting, shift-start, shift-step, shift-end, shift-left}
-use Rattle.input.proofs.shift.Statement.{statement}
-use Rattle.input.proofs.shift.Tie as tie
+use Rattle.turns.proofs.Shifts.{Shifting, shift-start, shift-step, shift-end, shift-left}
+use Rattle.turns.proofs.shift.Statement.{statement}
+use Rattle.turns.proofs.shift.Tie as tie
 
 abbrev Inv-loop : tie.InvT-loop
 Inv-loop buf₀ from n len i₀ buf i = Shifting buf₀ from n i buf

@@ -1,7 +1,7 @@
-use Rattle.axis.proofs.Exacts.{exact-past, exact-lower, exact-last, exact-upper, exact-none}
+use Rattle.exact.proofs.Exacts.{exact-past, exact-lower, exact-last, exact-upper, exact-none}
 use borrow.Author.Needs.{needs}
-use Rattle.axis.proofs.locate.exact_node.Statement.{statement}
-use Rattle.axis.proofs.locate.exact_node.Tie as tie
+use Rattle.exact.proofs.exact_node.Statement.{statement}
+use Rattle.exact.proofs.exact_node.Tie as tie
 
 -- src/locate.rt:21:9
 returns : tie.Need-returns

@@ -8,7 +8,7 @@ use lib.ListN.{length}
 use lib.Ieee.{Float}
 use Rattle.answer.proofs.Orders.{clash}
 use Rattle.judge.specs.Check.{node}
-use Rattle.picks.specs.Utils.{howMany}
+use Rattle.cells.specs.Cells.{howMany}
 
 module _ (test : Float → Bool) where
   -- r is the count, where each element before r passes and none from r on does

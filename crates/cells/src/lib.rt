@@ -1,10 +1,11 @@
 // The cell of a reading, by counting: the index that the Rust's search gives on a good axis. There is no branch for each node, so the compiler
-// counts several at a time, and a reading that is anywhere costs the same.
+// counts several at a time, and a reading that is anywhere costs the same. It judges nothing and takes any nodes and any reading at all: a board
+// calls `utils`, `ninterp` and `slices`, which judge first.
 ghost use mathlib.Core.Path.{_≡_};
 ghost use mathlib.Core.Bool.{cond};
 ghost use Prim.Native.Nat.{_≤_};
 ghost use lib.Ieee.{lt};
-ghost use Rattle.picks.specs.Utils.{countBelow, lowerIndex};
+ghost use Rattle.cells.specs.Cells.{countBelow, lowerIndex};
 
 fn one_if_below(node: f64, point: f64) -> usize
     ensures { λ r. ⌜ (r ≡ cond (lt node point) 1 0) × (r ≤ 1) ⌝ }

@@ -1,5 +1,5 @@
-use Rattle.picks.specs.Utils.{howMany, countBelow}
-use Rattle.picks.proofs.Cells.{count-step, count-end}
+use Rattle.cells.specs.Cells.{howMany, countBelow}
+use Rattle.cells.proofs.Cells.{count-step, count-end}
 use lib.Ieee.{lt}
 use mathlib.Core.Path.{_≡_}
 use Prim.Native.Nat.{_+_, _-_, _≤_}
@@ -7,8 +7,8 @@ use native.Mathlib.Omega.{arith}
 use lib.ListN.{length, drop}
 use denote.Ref.{now}
 use borrow.Author.Needs.{needs}
-use Rattle.picks.proofs.cell.count_below.Statement.{statement}
-use Rattle.picks.proofs.cell.count_below.Tie as tie
+use Rattle.cells.proofs.count_below.Statement.{statement}
+use Rattle.cells.proofs.count_below.Tie as tie
 
 abbrev Inv-loop : tie.InvT-loop
 Inv-loop grid point count₀ i₀ count i = (i ≤ length grid) × ((count ≤ i) × (count + howMany (λ x. lt x point) (drop i grid) ≡ countBelow grid point))

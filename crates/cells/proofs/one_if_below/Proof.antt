@@ -1,8 +1,8 @@
 use mathlib.Core.Bool.{Bool, cond}
 use mathlib.Core.Path.{sym, ap}
 use native.Mathlib.Omega.{arith}
-use Rattle.picks.proofs.cell.one_if_below.Statement.{statement}
-use Rattle.picks.proofs.cell.one_if_below.Tie as tie
+use Rattle.cells.proofs.one_if_below.Statement.{statement}
+use Rattle.cells.proofs.one_if_below.Tie as tie
 
 returns : tie.Need-returns
 returns c = (sym (ap (λ (b : Bool). cond b 1 0) (c .if1 .taken)), omega arith)

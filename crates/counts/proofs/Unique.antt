@@ -8,8 +8,6 @@ use Rattle.counts.proofs.count_fault.Reads as count-fault
 use Rattle.counts.proofs.length_fault.Reads as length-fault
 use Rattle.counts.proofs.direction_fault.Reads as direction-fault
 use Rattle.counts.proofs.room_fault.Reads as room-fault
-use Rattle.counts.proofs.no_axis_fault.Reads as no-axis-fault
-use Rattle.counts.proofs.not_first_fault.Reads as not-first-fault
 use Rattle.counts.proofs.least.Reads as least
 
 pub axes-count-fault-unique : (κs : _) (a : _) (r s : Answer) (x y : _) → axes-count-fault.Post κs a r x → axes-count-fault.Post κs a s y → r ≡ s
@@ -26,12 +24,6 @@ direction-fault-unique κs a r s x y p q = one-outcome r s _ p q
 
 pub room-fault-unique : (κs : _) (a : _) (r s : Answer) (x y : _) → room-fault.Post κs a r x → room-fault.Post κs a s y → r ≡ s
 room-fault-unique κs a r s x y p q = one-outcome r s _ p q
-
-pub no-axis-fault-unique : (κs : _) (a : _) (r s : Answer) (x y : _) → no-axis-fault.Post κs a r x → no-axis-fault.Post κs a s y → r ≡ s
-no-axis-fault-unique κs a r s x y p q = one-outcome r s _ p q
-
-pub not-first-fault-unique : (κs : _) (a : _) (r s : Answer) (x y : _) → not-first-fault.Post κs a r x → not-first-fault.Post κs a s y → r ≡ s
-not-first-fault-unique κs a r s x y p q = one-outcome r s _ p q
 
 pub least-unique : (κs : _) (a : _) (r s : ℕ) (x y : _) → least.Post κs a r x → least.Post κs a s y → r ≡ s
 least-unique κs a r s x y p q = one-outcome r s _ p q

@@ -1,5 +1,5 @@
 -- "Numbers the technician sees": the rows that judge whole numbers.
-use mathlib.Core.Bool.{not, _&&_, _||_}
+use mathlib.Core.Bool.{not, _&&_}
 use Prim.Native.Nat.{ℕ}
 use lib.Dec.{leb, ltb, eqb}
 use Rattle.answer.specs.Answer.{refused, when}
@@ -24,11 +24,3 @@ directionFault axis direction = when (ltb 1 direction) (refused 9 axis 0)
 -- 15: "an output buffer too short", "place 0 nodes, 1 values, 2 image"
 unfoldable pub roomFault : ℕ → ℕ → ℕ → Answer
 roomFault place wanted room = when (ltb room wanted) (refused 15 0 place)
-
--- 16: "slice of a one-axis table, no such axis"
-unfoldable pub noAxisFault : ℕ → ℕ → Answer
-noAxisFault axes axis = when (leb axes 1 || not (ltb axis axes)) (refused 16 0 0)
-
--- 16: "slice of a one-axis table .. or not axis 0 for the two linears"
-unfoldable pub notFirstFault : ℕ → ℕ → Answer
-notFirstFault axes axis = when (leb axes 1 || not (eqb axis 0)) (refused 16 0 0)

@@ -1,10 +1,10 @@
-// The rows of the table of numbers that judge whole numbers, one function each: how many axes, a count, a length, a direction, room, an axis to slice.
+// The rows of the table of numbers that judge whole numbers, one function each: how many axes, a count, a length, a direction, room.
 ghost use mathlib.Core.Path.{_≡_};
 ghost use mathlib.Core.Bool.{not, _&&_};
 ghost use Prim.Native.Nat.{min};
 ghost use lib.Dec.{leb};
 ghost use Rattle.answer.specs.Answer.{refused, when};
-ghost use Rattle.counts.specs.Counts.{axesCountFault, countFault, lengthFault, directionFault, roomFault, noAxisFault, notFirstFault};
+ghost use Rattle.counts.specs.Counts.{axesCountFault, countFault, lengthFault, directionFault, roomFault};
 use answer::Answer;
 
 // A number that is not `from` to `to`.
@@ -63,34 +63,6 @@ pub fn room_fault(place: usize, wanted: usize, room: usize) -> Answer
         answer::refuse(15, 0, place)
     } else {
         answer::pass()
-    }
-}
-
-// 16: no second axis, or no such axis.
-pub fn no_axis_fault(axes: usize, axis: usize) -> Answer
-    ensures { λ r. ⌜ r ≡ noAxisFault axes axis ⌝ }
-{
-    if axes <= 1 {
-        return answer::refuse(16, 0, 0);
-    }
-    if axis < axes {
-        answer::pass()
-    } else {
-        answer::refuse(16, 0, 0)
-    }
-}
-
-// 16 of the two linears: no second axis, or not the first.
-pub fn not_first_fault(axes: usize, axis: usize) -> Answer
-    ensures { λ r. ⌜ r ≡ notFirstFault axes axis ⌝ }
-{
-    if axes <= 1 {
-        return answer::refuse(16, 0, 0);
-    }
-    if axis == 0 {
-        answer::pass()
-    } else {
-        answer::refuse(16, 0, 0)
     }
 }
 

@@ -8,8 +8,8 @@ use Rattle.answer.specs.Answer.{good}
 use Rattle.answer.specs.declared.Answer.{Answer}
 use Rattle.answer.proofs.Orders as orders
 use Rattle.shapes.specs.declared.Shape.{Shape}
-use Rattle.counts.specs.Counts.{noAxisFault, notFirstFault, roomFault}
-use Rattle.fronts.specs.Fronts.{nearestFront, stepFront, linearFront, linearUniformFront}
+use Rattle.counts.specs.Counts.{roomFault}
+use Rattle.fronts.specs.Fronts.{nearestFront, stepFront, linearFront, linearUniformFront, noAxisFault, notFirstFault}
 use Rattle.runs.specs.Runs.{resultsFault}
 use Rattle.numbers.specs.Numbers.{resultFault}
 use Rattle.blend.specs.declared.AxisLocation.{AxisLocation}

@@ -10,10 +10,10 @@ use Rattle.answer.specs.declared.Answer.{Answer}
 use Rattle.answer.specs.declared.IndexAnswer.{IndexAnswer}
 use Rattle.judge.specs.Check.{gap, riseFault, nodeFault, nodesFault, axisFault}
 use Rattle.counts.specs.Counts.{axesCountFault, countFault, directionFault, roomFault, lengthFault}
-use Rattle.numbers.specs.Numbers.{finiteFault, lentStepFault, readingFault, resultFault}
+use Rattle.numbers.specs.Numbers.{finiteFault, readingFault, resultFault}
 use Rattle.uniform.specs.Uniform.{uniformCell, uniformIndex}
 use Rattle.grids.specs.Uniform.{apart, gapFault, uniformFault, toleranceOf}
-use Rattle.uniform.specs.Calls.{uniformReadFault, locateLowerIndexUniform}
+use Rattle.uniform.specs.Calls.{uniformReadFault, locateLowerIndexUniform, lentStepFault}
 use Rattle.grids.specs.Calls.{validateUniformGridEpsilon}
 use Rattle.grids.specs.declared.Tolerance.the-variants.{Default}
 use Rattle.picks.specs.Utils.{howMany, lowerIndex, lowerStep, upperStep, stepIndex}

@@ -9,7 +9,8 @@ use Rattle.answer.specs.Answer.{refused, answered, fine, good, when, _or_, firs
 use Rattle.answer.specs.declared.Answer.{Answer}
 use Rattle.answer.specs.declared.IndexAnswer.{IndexAnswer}
 use Rattle.judge.specs.Check.{gap, riseFault, nodeFault, nodesFault, axisFault}
-use Rattle.counts.specs.Counts.{axesCountFault, countFault, directionFault, roomFault, lengthFault}
+use Rattle.counts.specs.Counts.{axesCountFault, countFault}
+use Rattle.lent.specs.Lent.{directionFault, roomFault, lengthFault}
 use Rattle.numbers.specs.Numbers.{finiteFault, readingFault, resultFault}
 use Rattle.uniform.specs.Uniform.{uniformCell, uniformIndex}
 use Rattle.grids.specs.Uniform.{apart, gapFault, uniformFault, toleranceOf}

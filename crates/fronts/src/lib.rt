@@ -61,7 +61,7 @@ pub fn step_front(
     if fault.number != 0 {
         return fault;
     }
-    let fault = counts::length_fault(3, shape.axes, directions.len());
+    let fault = lent::length_fault(3, shape.axes, directions.len());
     if fault.number != 0 {
         return fault;
     }

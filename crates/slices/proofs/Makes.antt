@@ -11,9 +11,9 @@ use Rattle.answer.specs.Answer.{good, _or_}
 use Rattle.answer.specs.declared.Answer.{Answer}
 use Rattle.answer.proofs.Orders as orders
 use Rattle.numbers.specs.Numbers.{readingFault}
-use Rattle.counts.specs.Counts.{roomFault, lengthFault}
+use Rattle.lent.specs.Lent.{roomFault, lengthFault}
 use Rattle.numbers.proofs.Rows.{reading-fine}
-use Rattle.counts.proofs.Rows.{room-enough}
+use Rattle.lent.proofs.Rows.{room-enough}
 use Rattle.fronts.proofs.Rows.{axis-there, first-there}
 use Rattle.values.specs.Values.{valuesFault}
 use Rattle.lists.specs.Lists.{directionsFault, rangeFault}

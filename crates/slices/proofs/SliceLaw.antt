@@ -13,8 +13,8 @@ use Rattle.answer.specs.Answer.{answered, good, _or_}
 use Rattle.answer.specs.declared.Answer.{Answer}
 use Rattle.answer.proofs.Orders as orders
 use Rattle.judge.specs.Check.{Axis}
-use Rattle.counts.specs.Counts.{directionFault, lengthFault}
-use Rattle.counts.proofs.Rows.{direction-fine, direction-passed, length-same}
+use Rattle.lent.specs.Lent.{directionFault, lengthFault}
+use Rattle.lent.proofs.Rows.{direction-fine, direction-passed, length-same}
 use Rattle.shapes.specs.Shape.{countsOf, size}
 use Rattle.table.specs.Layout.{axesOf, place, table, indicesAt, tabulate, Inside, insert, without, sliceValues, nodesWithout, axisOf}
 use Rattle.shapes.specs.Frame.{frameFault}

@@ -10,9 +10,9 @@ use Rattle.answer.specs.Answer.{good, _or_, filledInto}
 use Rattle.answer.specs.declared.Answer.{Answer}
 use Rattle.answer.proofs.Orders as orders
 use lib.Ieee.Scale.{finite}
-use Rattle.counts.specs.Counts.{directionFault, roomFault, lengthFault}
+use Rattle.lent.specs.Lent.{directionFault, roomFault, lengthFault}
 use Rattle.numbers.specs.Numbers.{readingFault}
-use Rattle.counts.proofs.Rows.{direction-passed, room-passed, length-passed}
+use Rattle.lent.proofs.Rows.{direction-passed, room-passed, length-passed}
 use Rattle.fronts.proofs.Rows.{axis-many, axis-in, first-many, first-axis}
 use Rattle.numbers.proofs.Rows.{reading-finite}
 use Rattle.shapes.specs.Shape.{countsOf, size, noShape}

@@ -9,11 +9,12 @@ use Rattle.answer.specs.Answer.{refused, answered, fine, good, when, _or_, firs
 use Rattle.answer.specs.declared.Answer.{Answer}
 use Rattle.answer.specs.declared.IndexAnswer.{IndexAnswer}
 use Rattle.judge.specs.Check.{gap, riseFault, nodeFault, nodesFault, axisFault}
-use Rattle.counts.specs.Counts.{axesCountFault, countFault, directionFault, roomFault, lengthFault, notFirstFault}
-use Rattle.numbers.specs.Numbers.{finiteFault, lentStepFault, readingFault, resultFault}
+use Rattle.counts.specs.Counts.{axesCountFault, countFault}
+use Rattle.lent.specs.Lent.{directionFault, roomFault, lengthFault}
+use Rattle.numbers.specs.Numbers.{finiteFault, readingFault, resultFault}
 use Rattle.uniform.specs.Uniform.{uniformCell, uniformIndex}
 use Rattle.grids.specs.Uniform.{apart, gapFault, uniformFault, toleranceOf}
-use Rattle.uniform.specs.Calls.{uniformReadFault, locateLowerIndexUniform}
+use Rattle.uniform.specs.Calls.{uniformReadFault, locateLowerIndexUniform, lentStepFault}
 use Rattle.grids.specs.Calls.{validateUniformGridEpsilon}
 use Rattle.grids.specs.declared.Tolerance.the-variants.{Default}
 use Rattle.picks.specs.Utils.{lowerStep, upperStep, stepIndex}
@@ -34,7 +35,7 @@ use Rattle.values.specs.Values.{valueFault, valuesFault}
 use Rattle.lists.specs.Lists.{readingsFault, rangeFault}
 use Rattle.shapes.specs.declared.Shape.{Shape}
 use Rattle.order.specs.Lookups.{lookupFault}
-use Rattle.fronts.specs.Fronts.{linearFront}
+use Rattle.fronts.specs.Fronts.{linearFront, notFirstFault}
 use Rattle.blend.specs.Blend.{blended, computed}
 use Rattle.runs.specs.Runs.{resultsFault}
 use Rattle.blend.specs.declared.AxisLocation.{AxisLocation}

@@ -1,14 +1,13 @@
 -- The rows that judge whole numbers, on plain values: which test gives which answer, and what is known where a row was passed. Assumes nothing.
 use mathlib.Core.Path.{_≡_, ap, ap₂}
-use mathlib.Core.Bool.{Bool, true, false, not, _&&_, _||_}
+use mathlib.Core.Bool.{Bool, true, false, not, _&&_}
 use Prim.Native.Nat.{ℕ, _≤_, _<_}
-use native.Mathlib.Omega.{arith}
-use borrow.Author.Tests.{eq-eqb, ne-eqb, eqb-true, lt-ltb, le-ltb, ltb-true, ltb-false, le-leb, lt-leb, leb-true, leb-false}
-use lib.Dec.{eqb, leb, ltb}
-use Rattle.answer.specs.Answer.{refused, fine, good}
+use borrow.Author.Tests.{le-leb, lt-leb, leb-true}
+use lib.Dec.{leb}
+use Rattle.answer.specs.Answer.{fine, good}
 use Rattle.answer.proofs.Orders as orders
-use Rattle.answer.proofs.Tests.{and-false, and-left, and-right, or-right, not-false, neither-left, neither-right}
-use Rattle.counts.specs.Counts.{axesCountFault, countFault, lengthFault, directionFault, roomFault, noAxisFault, notFirstFault}
+use Rattle.answer.proofs.Tests.{and-false, and-left, and-right, not-false}
+use Rattle.counts.specs.Counts.{axesCountFault, countFault}
 
 -- ---- a number outside a range
 module _ (from to x : ℕ) where
@@ -62,101 +61,3 @@ module _ (axis count : ℕ) where
 
   pub count-few : good (countFault axis count) ≡ true → count ≤ 64
   count-few h = inside-high 2 64 count (fits h)
-
--- ---- 3
-module _ (place wanted lent : ℕ) where
-  pub length-same : lent ≡ wanted → fine ≡ lengthFault place wanted lent
-  unfolding lengthFault
-  length-same h = orders.row-passed (not (eqb lent wanted)) 2 0 place (ap not (eq-eqb lent wanted h))
-
-  pub length-differs : (lent ≡ wanted → ⊥) → refused 3 0 place ≡ lengthFault place wanted lent
-  unfolding lengthFault
-  length-differs h = orders.row-met (not (eqb lent wanted)) 2 0 place (ap not (ne-eqb lent wanted h))
-
-  pub length-passed : good (lengthFault place wanted lent) ≡ true → lent ≡ wanted
-  unfolding lengthFault
-  length-passed h = eqb-true lent wanted (not-false (eqb lent wanted) (orders.row-good (not (eqb lent wanted)) 2 0 place h))
-
--- ---- 9
-module _ (axis direction : ℕ) where
-  pub direction-other : 1 < direction → refused 9 axis 0 ≡ directionFault axis direction
-  unfolding directionFault
-  direction-other h = orders.row-met (ltb 1 direction) 8 axis 0 (lt-ltb 1 direction h)
-
-  pub direction-fine : direction ≤ 1 → fine ≡ directionFault axis direction
-  unfolding directionFault
-  direction-fine h = orders.row-passed (ltb 1 direction) 8 axis 0 (le-ltb 1 direction h)
-
-  pub direction-passed : good (directionFault axis direction) ≡ true → direction < 2
-  unfolding directionFault
-  direction-passed h = let k : direction ≤ 1 = ltb-false 1 direction (orders.row-good (ltb 1 direction) 8 axis 0 h) in omega arith
-
--- ---- 15
-module _ (place wanted room : ℕ) where
-  pub room-short : room < wanted → refused 15 0 place ≡ roomFault place wanted room
-  unfolding roomFault
-  room-short h = orders.row-met (ltb room wanted) 14 0 place (lt-ltb room wanted h)
-
-  pub room-enough : wanted ≤ room → fine ≡ roomFault place wanted room
-  unfolding roomFault
-  room-enough h = orders.row-passed (ltb room wanted) 14 0 place (le-ltb room wanted h)
-
-  pub room-passed : good (roomFault place wanted room) ≡ true → wanted ≤ room
-  unfolding roomFault
-  room-passed h = ltb-false room wanted (orders.row-good (ltb room wanted) 14 0 place h)
-
--- ---- 16
-module _ (axes axis : ℕ) where
-  abbrev missing : Bool
-  missing = leb axes 1 || not (ltb axis axes)
-
-  pub axis-alone : axes ≤ 1 → refused 16 0 0 ≡ noAxisFault axes axis
-  unfolding noAxisFault
-  axis-alone h = orders.row-met missing 15 0 0 (ap (λ (b : Bool). b || not (ltb axis axes)) (le-leb axes 1 h))
-
-  pub axis-none : axes ≤ axis → refused 16 0 0 ≡ noAxisFault axes axis
-  unfolding noAxisFault
-  axis-none h = orders.row-met missing 15 0 0 (or-right (leb axes 1) (not (ltb axis axes)) (ap not (le-ltb axis axes h)))
-
-  pub axis-there : 1 < axes → axis < axes → fine ≡ noAxisFault axes axis
-  unfolding noAxisFault
-  axis-there h k = orders.row-passed missing 15 0 0 (ap₂ (λ (p q : Bool). p || not q) (lt-leb axes 1 h) (lt-ltb axis axes k))
-
-  module _ (h : good (noAxisFault axes axis) ≡ true) where
-    passed : missing ≡ false
-    unfolding noAxisFault
-    passed = orders.row-good missing 15 0 0 h
-
-    pub axis-many : 1 < axes
-    axis-many = leb-false axes 1 (neither-left (leb axes 1) (not (ltb axis axes)) passed)
-
-    pub axis-in : axis < axes
-    axis-in = ltb-true axis axes (not-false (ltb axis axes) (neither-right (leb axes 1) (not (ltb axis axes)) passed))
-
--- 16 of the two linears
-module _ (axes axis : ℕ) where
-  abbrev barred : Bool
-  barred = leb axes 1 || not (eqb axis 0)
-
-  pub first-alone : axes ≤ 1 → refused 16 0 0 ≡ notFirstFault axes axis
-  unfolding notFirstFault
-  first-alone h = orders.row-met barred 15 0 0 (ap (λ (b : Bool). b || not (eqb axis 0)) (le-leb axes 1 h))
-
-  pub first-not : (axis ≡ 0 → ⊥) → refused 16 0 0 ≡ notFirstFault axes axis
-  unfolding notFirstFault
-  first-not h = orders.row-met barred 15 0 0 (or-right (leb axes 1) (not (eqb axis 0)) (ap not (ne-eqb axis 0 h)))
-
-  pub first-there : 1 < axes → axis ≡ 0 → fine ≡ notFirstFault axes axis
-  unfolding notFirstFault
-  first-there h k = orders.row-passed barred 15 0 0 (ap₂ (λ (p q : Bool). p || not q) (lt-leb axes 1 h) (eq-eqb axis 0 k))
-
-  module _ (h : good (notFirstFault axes axis) ≡ true) where
-    first-passed : barred ≡ false
-    unfolding notFirstFault
-    first-passed = orders.row-good barred 15 0 0 h
-
-    pub first-many : 1 < axes
-    first-many = leb-false axes 1 (neither-left (leb axes 1) (not (eqb axis 0)) first-passed)
-
-    pub first-axis : axis ≡ 0
-    first-axis = eqb-true axis 0 (not-false (eqb axis 0) (neither-right (leb axes 1) (not (eqb axis 0)) first-passed))

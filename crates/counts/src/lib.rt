@@ -1,10 +1,10 @@
-// The rows of the table of numbers that judge whole numbers, one function each: how many axes, a count, a length, a direction, room, an axis to slice.
+// The rows of the table of numbers that judge whole numbers, one function each: how many axes, a count; and the less of two.
 ghost use mathlib.Core.Path.{_≡_};
 ghost use mathlib.Core.Bool.{not, _&&_};
 ghost use Prim.Native.Nat.{min};
 ghost use lib.Dec.{leb};
 ghost use Rattle.answer.specs.Answer.{refused, when};
-ghost use Rattle.counts.specs.Counts.{axesCountFault, countFault, lengthFault, directionFault, roomFault, noAxisFault, notFirstFault};
+ghost use Rattle.counts.specs.Counts.{axesCountFault, countFault};
 use answer::Answer;
 
 // A number that is not `from` to `to`.
@@ -32,66 +32,6 @@ pub fn count_fault(axis: usize, count: usize) -> Answer
     ensures { λ r. ⌜ r ≡ countFault axis count ⌝ }
 {
     outside_fault(2, axis, 2, 64, count)
-}
-
-// 3: a lent length that differs from what the shape says.
-pub fn length_fault(place: usize, wanted: usize, lent: usize) -> Answer
-    ensures { λ r. ⌜ r ≡ lengthFault place wanted lent ⌝ }
-{
-    if lent == wanted {
-        answer::pass()
-    } else {
-        answer::refuse(3, 0, place)
-    }
-}
-
-// 9: a direction other than 0 lower, 1 upper.
-pub fn direction_fault(axis: usize, direction: u8) -> Answer
-    ensures { λ r. ⌜ r ≡ directionFault axis direction ⌝ }
-{
-    if direction > 1 {
-        return answer::refuse(9, axis, 0);
-    }
-    answer::pass()
-}
-
-// 15: an output too short.
-pub fn room_fault(place: usize, wanted: usize, room: usize) -> Answer
-    ensures { λ r. ⌜ r ≡ roomFault place wanted room ⌝ }
-{
-    if room < wanted {
-        answer::refuse(15, 0, place)
-    } else {
-        answer::pass()
-    }
-}
-
-// 16: no second axis, or no such axis.
-pub fn no_axis_fault(axes: usize, axis: usize) -> Answer
-    ensures { λ r. ⌜ r ≡ noAxisFault axes axis ⌝ }
-{
-    if axes <= 1 {
-        return answer::refuse(16, 0, 0);
-    }
-    if axis < axes {
-        answer::pass()
-    } else {
-        answer::refuse(16, 0, 0)
-    }
-}
-
-// 16 of the two linears: no second axis, or not the first.
-pub fn not_first_fault(axes: usize, axis: usize) -> Answer
-    ensures { λ r. ⌜ r ≡ notFirstFault axes axis ⌝ }
-{
-    if axes <= 1 {
-        return answer::refuse(16, 0, 0);
-    }
-    if axis == 0 {
-        answer::pass()
-    } else {
-        answer::refuse(16, 0, 0)
-    }
 }
 
 // The less of two.

@@ -1,8 +1,36 @@
 // The orders of checks that stand before a slice: one function each, total. What follows them judges the one reading and the room.
 ghost use mathlib.Core.Path.{_≡_};
-ghost use Rattle.fronts.specs.Fronts.{nearestFront, stepFront, linearFront, linearUniformFront};
+ghost use Rattle.fronts.specs.Fronts.{noAxisFault, notFirstFault, nearestFront, stepFront, linearFront, linearUniformFront};
 use answer::Answer;
 use shapes::Shape;
+
+// 16: no second axis, or no such axis.
+fn no_axis_fault(axes: usize, axis: usize) -> Answer
+    ensures { λ r. ⌜ r ≡ noAxisFault axes axis ⌝ }
+{
+    if axes <= 1 {
+        return answer::refuse(16, 0, 0);
+    }
+    if axis < axes {
+        answer::pass()
+    } else {
+        answer::refuse(16, 0, 0)
+    }
+}
+
+// 16 of the two linears: no second axis, or not the first.
+fn not_first_fault(axes: usize, axis: usize) -> Answer
+    ensures { λ r. ⌜ r ≡ notFirstFault axes axis ⌝ }
+{
+    if axes <= 1 {
+        return answer::refuse(16, 0, 0);
+    }
+    if axis == 0 {
+        answer::pass()
+    } else {
+        answer::refuse(16, 0, 0)
+    }
+}
 
 // 1, 2, 3; 16; 4, 5, 6; 7.
 pub fn nearest_front(shape: Shape, nodes: &[f64], values: &[f64], axis: usize) -> Answer
@@ -12,7 +40,7 @@ pub fn nearest_front(shape: Shape, nodes: &[f64], values: &[f64], axis: usize) -
     if fault.number != 0 {
         return fault;
     }
-    let absent = counts::no_axis_fault(shape.axes, axis);
+    let absent = no_axis_fault(shape.axes, axis);
     if absent.number != 0 {
         return absent;
     }
@@ -33,11 +61,11 @@ pub fn step_front(
     if fault.number != 0 {
         return fault;
     }
-    let fault = counts::length_fault(3, shape.axes, directions.len());
+    let fault = lent::length_fault(3, shape.axes, directions.len());
     if fault.number != 0 {
         return fault;
     }
-    let fault = counts::no_axis_fault(shape.axes, axis);
+    let fault = no_axis_fault(shape.axes, axis);
     if fault.number != 0 {
         return fault;
     }
@@ -56,7 +84,7 @@ pub fn linear_front(shape: Shape, nodes: &[f64], values: &[f64], axis: usize) ->
     if fault.number != 0 {
         return fault;
     }
-    let fault = counts::not_first_fault(shape.axes, axis);
+    let fault = not_first_fault(shape.axes, axis);
     if fault.number != 0 {
         return fault;
     }

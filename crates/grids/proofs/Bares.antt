@@ -1,9 +1,8 @@
 -- No answer of the uniform check gives a value, and a success is 0, 0, 0. Assumes nothing.
 use mathlib.Core.List.{List}
 use lib.Ieee.{Float}
-use Rattle.numbers.specs.Numbers.{toleranceFault}
 use Rattle.grids.specs.Uniform.{gapFault, uniformFault}
-use Rattle.grids.specs.Calls.{lentFault, validateUniformGridEpsilon}
+use Rattle.grids.specs.Calls.{lentFault, validateUniformGridEpsilon, toleranceFault}
 use Rattle.grids.specs.declared.Tolerance.{Tolerance}
 use Rattle.grids.specs.declared.Tolerance.the-variants.{Lent, Default}
 use Rattle.judge.proofs.Bares.{bare-axis}

@@ -1,3 +1,4 @@
+pub mod Rows
 pub mod Primitives
 pub mod Unique
 pub mod Bares

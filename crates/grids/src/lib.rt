@@ -4,7 +4,7 @@ ghost use mathlib.Core.Path.{_≡_};
 ghost use Prim.Native.Nat.{_+_, _<_, _≤_};
 ghost use lib.ListN.{length};
 ghost use Rattle.grids.specs.Uniform.{apart, gapFault, uniformFault, toleranceOf, defaultFault};
-ghost use Rattle.grids.specs.Calls.{lentFault, validateUniformGrid, validateUniformGridEpsilon};
+ghost use Rattle.grids.specs.Calls.{toleranceFault, lentFault, validateUniformGrid, validateUniformGridEpsilon};
 use answer::Answer;
 
 // The tolerance of a uniform grid: a lent one, or the default. The Rust's Option<f64>.
@@ -66,12 +66,27 @@ fn tolerance_of(grid: &[f64], tolerance: Tolerance) -> f64
     }
 }
 
+// 8: a lent tolerance not finite or below 0.
+fn tolerance_fault(tolerance: f64) -> Answer
+    ensures { λ r. ⌜ r ≡ toleranceFault tolerance ⌝ }
+{
+    if binary64::is_finite(tolerance) {
+        if tolerance < 0.0 {
+            answer::refuse(8, 0, 0)
+        } else {
+            answer::pass()
+        }
+    } else {
+        answer::refuse(8, 0, 0)
+    }
+}
+
 // 8 of a lent tolerance.
 fn lent_fault(tolerance: Tolerance) -> Answer
     ensures { λ r. ⌜ r ≡ lentFault tolerance ⌝ }
 {
     match tolerance {
-        Tolerance::Lent(lent) => numbers::tolerance_fault(lent),
+        Tolerance::Lent(lent) => tolerance_fault(lent),
         Tolerance::Default => answer::pass(),
     }
 }

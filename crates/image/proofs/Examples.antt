@@ -6,7 +6,8 @@ use Prim.Native.Nat.{ℕ}
 use lib.IntN.{pos}
 use lib.Ieee.{fin, ofBits, sub, lt}
 use Rattle.answer.specs.Answer.{refused, answered, fine, good, when, firstOf, given, _or_}
-use Rattle.counts.specs.Counts.{axesCountFault, countFault, roomFault}
+use Rattle.counts.specs.Counts.{axesCountFault, countFault}
+use Rattle.lent.specs.Lent.{roomFault}
 use Rattle.numbers.specs.Numbers.{finiteFault}
 use Rattle.judge.specs.Check.{riseFault, nodeFault, nodesFault}
 use Rattle.shapes.specs.Shape.{size, total}

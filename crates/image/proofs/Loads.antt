@@ -17,8 +17,8 @@ use Rattle.image.specs.Load.{headFault, areasFault, roomsFault, loadFaul
 use Rattle.image.specs.declared.LoadAnswer.{LoadAnswer}
 use Rattle.image.proofs.Heads.{head-shape}
 use Rattle.image.proofs.Floats.{nodes-total, values-size, sets-front}
-use Rattle.counts.specs.Counts.{roomFault}
-use Rattle.counts.proofs.Rows.{room-passed}
+use Rattle.lent.specs.Lent.{roomFault}
+use Rattle.lent.proofs.Rows.{room-passed}
 
 module _ (img : List ℕ) (nodes values : ℕ) (r : Answer) (e : r ≡ loadFault img nodes values) where
   pub load-refused : (r .number ≡ 0 → ⊥) → (z : Shape) → z ≡ noShape → _≡_ {A = LoadAnswer} (record { answer = r; shape = z }) (loadAnswer img nodes values)

@@ -8,7 +8,8 @@ use Rattle.answer.specs.Answer.{good}
 use Rattle.answer.proofs.Orders as orders
 use Rattle.answer.proofs.Tests.{either}
 use Rattle.answer.proofs.Bares.{Bare, bare-or, bare-first, row}
-use Rattle.counts.specs.Counts.{axesCountFault, countFault, roomFault}
+use Rattle.counts.specs.Counts.{axesCountFault, countFault}
+use Rattle.lent.specs.Lent.{roomFault}
 use Rattle.values.proofs.Bares.{bare-values}
 use Rattle.table.proofs.Bares.{bare-axes}
 use Rattle.image.specs.Image.{axesField, countField, shapeOf}

@@ -6,7 +6,8 @@ use lib.Dec.{leb, ltb, eqb}
 use lib.ListN.{length}
 use Rattle.answer.specs.Answer.{refused, when, _or_, firstOf, given}
 use Rattle.answer.specs.declared.Answer.{Answer}
-use Rattle.counts.specs.Counts.{axesCountFault, countFault, roomFault}
+use Rattle.counts.specs.Counts.{axesCountFault, countFault}
+use Rattle.lent.specs.Lent.{roomFault}
 use Rattle.shapes.specs.Shape.{countsOf, size, total, noShape}
 use Rattle.shapes.specs.Frame.{productRow}
 use Rattle.table.specs.Table.{axesFault}

@@ -65,9 +65,9 @@ pub(crate) fn rooms_fault(img: &[u8], nodes: usize, values: usize) -> Answer
     ensures { λ r. ⌜ r ≡ roomsFault (shapeOf (now (img .entry))) nodes values ⌝ }
 {
     let held = shapes::sizes(header::shape_of(img));
-    let fault = counts::room_fault(0, held.nodes, nodes);
+    let fault = lent::room_fault(0, held.nodes, nodes);
     if fault.number != 0 {
         return fault;
     }
-    counts::room_fault(1, held.values, values)
+    lent::room_fault(1, held.values, values)
 }

@@ -2,7 +2,7 @@
 use mathlib.Core.List.{List}
 use Prim.Native.Nat.{ℕ}
 use lib.Ieee.{Float}
-use Rattle.counts.specs.Counts.{directionFault}
+use Rattle.lent.specs.Lent.{directionFault}
 use Rattle.numbers.proofs.Bares.{bare-reading}
 use Rattle.lists.specs.Lists.{directionsFault, readingsFault, rangeFault}
 use Rattle.answer.proofs.Bares.{Bare, bare-or, bare-first, row}

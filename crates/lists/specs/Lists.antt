@@ -6,7 +6,7 @@ use lib.Ieee.{Float, nan, lt}
 use Rattle.answer.specs.Answer.{refused, when, _or_, firstOf}
 use Rattle.answer.specs.declared.Answer.{Answer}
 use Rattle.judge.specs.Check.{node}
-use Rattle.counts.specs.Counts.{directionFault}
+use Rattle.lent.specs.Lent.{directionFault}
 use Rattle.numbers.specs.Numbers.{readingFault}
 
 -- "9 for Step, all axes"

@@ -13,7 +13,7 @@ pub fn directions_fault(directions: &[u8]) -> Answer
 {
     let mut a: usize = 0;
     while a < directions.len() {
-        let fault = counts::direction_fault(a, directions[a]);
+        let fault = lent::direction_fault(a, directions[a]);
         if fault.number != 0 {
             return fault;
         }

@@ -14,9 +14,9 @@ use Rattle.answer.proofs.Orders as orders
 use Rattle.binary64.proofs.Order as order
 use Rattle.judge.specs.Check.{node, Axis}
 use Rattle.numbers.specs.Numbers.{readingFault}
-use Rattle.counts.specs.Counts.{directionFault, lengthFault}
+use Rattle.lent.specs.Lent.{directionFault, lengthFault}
 use Rattle.numbers.proofs.Rows.{reading-fine}
-use Rattle.counts.proofs.Rows.{direction-fine, length-same}
+use Rattle.lent.proofs.Rows.{direction-fine, length-same}
 use Rattle.shapes.specs.Shape.{countsOf}
 use Rattle.table.specs.Layout.{axesOf, table, axisOf}
 use Rattle.shapes.specs.Frame.{frameFault}

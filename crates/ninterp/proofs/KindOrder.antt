@@ -12,8 +12,8 @@ use Rattle.answer.specs.Answer.{refused, answered, good, when, _or_}
 use Rattle.answer.specs.declared.Answer.{Answer}
 use Rattle.answer.proofs.Orders as orders
 use Rattle.words.specs.Words.{floatAt}
-use Rattle.counts.specs.Counts.{directionFault, lengthFault}
-use Rattle.counts.proofs.Rows.{direction-fine, length-same}
+use Rattle.lent.specs.Lent.{directionFault, lengthFault}
+use Rattle.lent.proofs.Rows.{direction-fine, length-same}
 use Rattle.shapes.specs.Shape.{countsOf}
 use Rattle.shapes.specs.Frame.{frameFault}
 use Rattle.table.specs.Table.{axesFault, rangesFault}

@@ -15,7 +15,7 @@ use Rattle.numbers.proofs.Rows.{result-wild, result-fine}
 use Rattle.shapes.specs.Shape.{countsOf, size}
 use Rattle.table.specs.Layout.{axesOf, place, table, tabulate, axisOf}
 use Rattle.shapes.specs.Frame.{frameFault}
-use Rattle.counts.specs.Counts.{lengthFault}
+use Rattle.lent.specs.Lent.{lengthFault}
 use Rattle.table.specs.Table.{axesFault, rangesFault}
 use Rattle.values.specs.Values.{valuesFault}
 use Rattle.lists.specs.Lists.{readingsFault}

@@ -10,8 +10,8 @@ use lib.Ieee.{Float, nan}
 use Rattle.answer.specs.Answer.{good, _or_}
 use Rattle.answer.specs.declared.Answer.{Answer}
 use Rattle.answer.proofs.Orders as orders
-use Rattle.counts.specs.Counts.{directionFault, lengthFault}
-use Rattle.counts.proofs.Rows.{direction-passed, length-passed}
+use Rattle.lent.specs.Lent.{directionFault, lengthFault}
+use Rattle.lent.proofs.Rows.{direction-passed, length-passed}
 use Rattle.shapes.specs.Shape.{countsOf}
 use Rattle.table.specs.Layout.{axesOf, place, table}
 use Rattle.shapes.specs.Frame.{frameFault}

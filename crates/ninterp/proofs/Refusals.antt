@@ -19,7 +19,7 @@ use Rattle.axis.specs.Utils.{axisLocation}
 use Rattle.axis.specs.Locations.{uniformLocation}
 use Rattle.ninterp.specs.Linears.{interpolated, linearAnswer, linearUniformAnswer}
 use Rattle.spacing.proofs.Bares.{bare-uniform}
-use Rattle.counts.proofs.Bares.{bare-length}
+use Rattle.lent.proofs.Bares.{bare-length}
 use Rattle.shapes.proofs.Bares.{bare-frame}
 use Rattle.table.proofs.Bares.{bare-axes, bare-ranges}
 use Rattle.values.proofs.Bares.{bare-values}

@@ -3,19 +3,11 @@ use mathlib.Core.Path.{_≡_}
 use Rattle.answer.proofs.Outcome.{one-outcome}
 use Rattle.answer.specs.declared.Answer.{Answer}
 use Rattle.numbers.proofs.finite_fault.Reads as finite-fault
-use Rattle.numbers.proofs.lent_step_fault.Reads as lent-step-fault
-use Rattle.numbers.proofs.tolerance_fault.Reads as tolerance-fault
 use Rattle.numbers.proofs.reading_fault.Reads as reading-fault
 use Rattle.numbers.proofs.result_fault.Reads as result-fault
 
 pub finite-fault-unique : (κs : _) (a : _) (r s : Answer) (x y : _) → finite-fault.Post κs a r x → finite-fault.Post κs a s y → r ≡ s
 finite-fault-unique κs a r s x y p q = one-outcome r s _ p q
-
-pub lent-step-fault-unique : (κs : _) (a : _) (r s : Answer) (x y : _) → lent-step-fault.Post κs a r x → lent-step-fault.Post κs a s y → r ≡ s
-lent-step-fault-unique κs a r s x y p q = one-outcome r s _ p q
-
-pub tolerance-fault-unique : (κs : _) (a : _) (r s : Answer) (x y : _) → tolerance-fault.Post κs a r x → tolerance-fault.Post κs a s y → r ≡ s
-tolerance-fault-unique κs a r s x y p q = one-outcome r s _ p q
 
 pub reading-fault-unique : (κs : _) (a : _) (r s : Answer) (x y : _) → reading-fault.Post κs a r x → reading-fault.Post κs a s y → r ≡ s
 reading-fault-unique κs a r s x y p q = one-outcome r s _ p q

@@ -1,9 +1,9 @@
-// The rows of the table of numbers that judge one float, one function each: a node, a step, a tolerance, a reading, a result.
+// The rows of the table of numbers that judge one float, one function each: a node, a reading, a result.
 ghost use mathlib.Core.Path.{_≡_};
 ghost use mathlib.Core.Bool.{not};
 ghost use lib.Ieee.Scale.{finite};
 ghost use Rattle.answer.specs.Answer.{refused, when};
-ghost use Rattle.numbers.specs.Numbers.{finiteFault, lentStepFault, toleranceFault, readingFault, resultFault};
+ghost use Rattle.numbers.specs.Numbers.{finiteFault, readingFault, resultFault};
 use answer::Answer;
 
 // A number that is not finite.
@@ -22,36 +22,6 @@ pub fn finite_fault(axis: usize, i: usize, node: f64) -> Answer
     ensures { λ r. ⌜ r ≡ finiteFault axis i node ⌝ }
 {
     wild_fault(4, axis, i, node)
-}
-
-// 8: a lent step not finite or not above 0.
-pub fn lent_step_fault(step: f64) -> Answer
-    ensures { λ r. ⌜ r ≡ lentStepFault step ⌝ }
-{
-    if binary64::is_finite(step) {
-        if 0.0 < step {
-            answer::pass()
-        } else {
-            answer::refuse(8, 0, 0)
-        }
-    } else {
-        answer::refuse(8, 0, 0)
-    }
-}
-
-// 8: a lent tolerance not finite or below 0.
-pub fn tolerance_fault(tolerance: f64) -> Answer
-    ensures { λ r. ⌜ r ≡ toleranceFault tolerance ⌝ }
-{
-    if binary64::is_finite(tolerance) {
-        if tolerance < 0.0 {
-            answer::refuse(8, 0, 0)
-        } else {
-            answer::pass()
-        }
-    } else {
-        answer::refuse(8, 0, 0)
-    }
 }
 
 // 10: a reading NaN or infinite.

@@ -3,7 +3,7 @@ ghost use mathlib.Core.Path.{_≡_};
 ghost use Rattle.answer.specs.Answer.{_or_};
 ghost use Rattle.shapes.specs.Shape.{countsOf};
 ghost use Rattle.shapes.specs.Frame.{frameFault};
-ghost use Rattle.counts.specs.Counts.{lengthFault};
+ghost use Rattle.lent.specs.Lent.{lengthFault};
 ghost use Rattle.table.specs.Table.{axesFault, rangesFault};
 ghost use Rattle.values.specs.Values.{valuesFault};
 ghost use Rattle.lists.specs.Lists.{readingsFault};
@@ -21,7 +21,7 @@ fn lengths_fault(shape: Shape, nodes: usize, values: usize, point: usize) -> Ans
     if fault.number != 0 {
         return fault;
     }
-    counts::length_fault(2, shape.axes, point)
+    lent::length_fault(2, shape.axes, point)
 }
 
 // 4, 5, 6; 7.
@@ -77,7 +77,7 @@ pub fn step_fault(
     if fault.number != 0 {
         return fault;
     }
-    let lent = counts::length_fault(3, shape.axes, directions.len());
+    let lent = lent::length_fault(3, shape.axes, directions.len());
     if lent.number != 0 {
         return lent;
     }

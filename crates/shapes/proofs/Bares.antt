@@ -4,7 +4,7 @@ use Rattle.counts.specs.Counts.{axesCountFault, countFault}
 use Rattle.shapes.specs.Frame.{shapeFault, frameFault, productRow}
 use Rattle.shapes.specs.declared.Shape.{Shape}
 use Rattle.answer.proofs.Bares.{Bare, bare-or, bare-first, row}
-use Rattle.counts.proofs.Bares.{bare-length}
+use Rattle.lent.proofs.Bares.{bare-length}
 
 pub bare-shape : (s : Shape) → Bare (shapeFault s)
 unfolding shapeFault axesCountFault countFault productRow

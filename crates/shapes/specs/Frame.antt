@@ -4,7 +4,8 @@ use lib.Dec.{ltb}
 use lib.ListN.{getD}
 use Rattle.answer.specs.Answer.{refused, when, _or_, firstOf, given}
 use Rattle.answer.specs.declared.Answer.{Answer}
-use Rattle.counts.specs.Counts.{axesCountFault, countFault, lengthFault}
+use Rattle.counts.specs.Counts.{axesCountFault, countFault}
+use Rattle.lent.specs.Lent.{lengthFault}
 use Rattle.shapes.specs.Shape.{countsOf, size, total}
 use Rattle.shapes.specs.declared.Shape.{Shape}
 use Rattle.shapes.specs.declared.Holding.{Holding}

@@ -125,9 +125,9 @@ pub fn frame_fault(shape: Shape, nodes: usize, values: usize) -> Answer
     if fault.number != 0 {
         return fault;
     }
-    let fault = counts::length_fault(0, total_of(shape), nodes);
+    let fault = lent::length_fault(0, total_of(shape), nodes);
     if fault.number != 0 {
         return fault;
     }
-    counts::length_fault(1, size_of(shape), values)
+    lent::length_fault(1, size_of(shape), values)
 }

@@ -10,7 +10,7 @@ use lib.Ieee.Scale.{finite}
 use Rattle.answer.specs.Answer.{good}
 use Rattle.shapes.specs.Shape.{countsOf, size}
 use Rattle.table.specs.Layout.{axesOf, tabulate, without, sliceValues, nodesWithout, axisOf}
-use Rattle.counts.specs.Counts.{lengthFault}
+use Rattle.lent.specs.Lent.{lengthFault}
 use Rattle.lists.specs.Lists.{directionsFault, rangeFault}
 use Rattle.shapes.specs.declared.Shape.{Shape}
 use Rattle.table.proofs.Removals.{without-comm, getD-without, getD-without-below, slices-comm, nodes-comm}

@@ -15,9 +15,11 @@ use Rattle.answer.specs.Answer.{refused, fine, good, when, _or_, firstOf}
 use Rattle.answer.specs.declared.Answer.{Answer}
 use Rattle.answer.proofs.Orders as orders
 use Rattle.judge.specs.Check.{node, Axis, nodesFault}
-use Rattle.counts.specs.Counts.{countFault, lengthFault}
+use Rattle.counts.specs.Counts.{countFault}
+use Rattle.lent.specs.Lent.{lengthFault}
 use Rattle.numbers.specs.Numbers.{readingFault}
-use Rattle.counts.proofs.Rows.{axes-right, count-fine, length-same, length-passed}
+use Rattle.counts.proofs.Rows.{axes-right, count-fine}
+use Rattle.lent.proofs.Rows.{length-same, length-passed}
 use Rattle.judge.proofs.Rows.{nodes-fine}
 use Rattle.numbers.proofs.Rows.{reading-fine}
 use Rattle.shapes.specs.Shape.{countsOf, size, total}

@@ -25,8 +25,7 @@ use Rattle.table.proofs.Removals.{indices-back, tabulate-insert, length-without
 use Rattle.grids.specs.Uniform.{apart, gapFault, uniformFault, toleranceOf, defaultFault}
 use Rattle.spacing.specs.Uniform.{axesUniformFault}
 use Rattle.grids.specs.declared.Tolerance.the-variants.{Default}
-use Rattle.counts.specs.Counts.{notFirstFault}
-use Rattle.fronts.specs.Fronts.{linearFront, linearUniformFront}
+use Rattle.fronts.specs.Fronts.{linearFront, linearUniformFront, notFirstFault}
 use Rattle.blend.specs.Blend.{blended, sliced, linear, computed}
 use Rattle.runs.specs.Runs.{resultsFault}
 use Rattle.blend.specs.declared.AxisLocation.{AxisLocation}

@@ -11,9 +11,10 @@ use Rattle.answer.specs.Answer.{good, _or_}
 use Rattle.answer.specs.declared.Answer.{Answer}
 use Rattle.answer.proofs.Orders as orders
 use Rattle.numbers.specs.Numbers.{readingFault}
-use Rattle.counts.specs.Counts.{roomFault, lengthFault, noAxisFault, notFirstFault}
+use Rattle.lent.specs.Lent.{roomFault, lengthFault}
 use Rattle.numbers.proofs.Rows.{reading-fine}
-use Rattle.counts.proofs.Rows.{room-enough, axis-there, first-there}
+use Rattle.lent.proofs.Rows.{room-enough}
+use Rattle.fronts.proofs.Rows.{axis-there, first-there}
 use Rattle.values.specs.Values.{valuesFault}
 use Rattle.lists.specs.Lists.{directionsFault, rangeFault}
 use Rattle.shapes.specs.Shape.{countsOf, size}
@@ -26,7 +27,7 @@ use Rattle.runs.specs.Runs.{resultsFault}
 use Rattle.blend.specs.declared.AxisLocation.{AxisLocation}
 use Rattle.axis.specs.Utils.{axisLocation}
 use Rattle.axis.specs.Locations.{uniformLocation}
-use Rattle.fronts.specs.Fronts.{nearestFront, stepFront, linearFront, linearUniformFront}
+use Rattle.fronts.specs.Fronts.{nearestFront, stepFront, linearFront, linearUniformFront, noAxisFault, notFirstFault}
 use Rattle.ninterp.proofs.Demands.{Accepted}
 use Rattle.slices.specs.Slices.{pointFault, nearestSliceFault, stepSliceFault}
 use Rattle.slices.specs.LinearSlices.{linearValues, linearRest, linearSliceFault, linearUniformSliceFault}

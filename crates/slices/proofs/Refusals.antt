@@ -8,8 +8,8 @@ use Rattle.answer.specs.Answer.{good}
 use Rattle.answer.specs.declared.Answer.{Answer}
 use Rattle.answer.proofs.Orders as orders
 use Rattle.shapes.specs.declared.Shape.{Shape}
-use Rattle.counts.specs.Counts.{noAxisFault, notFirstFault, roomFault}
-use Rattle.fronts.specs.Fronts.{nearestFront, stepFront, linearFront, linearUniformFront}
+use Rattle.lent.specs.Lent.{roomFault}
+use Rattle.fronts.specs.Fronts.{nearestFront, stepFront, linearFront, linearUniformFront, noAxisFault, notFirstFault}
 use Rattle.runs.specs.Runs.{resultsFault}
 use Rattle.numbers.specs.Numbers.{resultFault}
 use Rattle.blend.specs.declared.AxisLocation.{AxisLocation}
@@ -19,7 +19,7 @@ use Rattle.slices.specs.LinearSlices.{linearValues, linearRest, linearSl
 use Rattle.slices.specs.Slices.{shapeWithout, pointFault, nearestSliceFault, stepSliceFault, sliceAnswer}
 use Rattle.shapes.specs.Shape.{noShape}
 use Rattle.spacing.proofs.Bares.{bare-uniform}
-use Rattle.counts.proofs.Bares.{bare-length}
+use Rattle.lent.proofs.Bares.{bare-length}
 use Rattle.shapes.proofs.Bares.{bare-frame}
 use Rattle.table.proofs.Bares.{bare-axes}
 use Rattle.values.proofs.Bares.{bare-values}

@@ -13,8 +13,8 @@ use Rattle.answer.specs.Answer.{answered, good, _or_}
 use Rattle.answer.specs.declared.Answer.{Answer}
 use Rattle.answer.proofs.Orders as orders
 use Rattle.judge.specs.Check.{Axis}
-use Rattle.counts.specs.Counts.{directionFault, lengthFault, noAxisFault}
-use Rattle.counts.proofs.Rows.{direction-fine, direction-passed, length-same}
+use Rattle.lent.specs.Lent.{directionFault, lengthFault}
+use Rattle.lent.proofs.Rows.{direction-fine, direction-passed, length-same}
 use Rattle.shapes.specs.Shape.{countsOf, size}
 use Rattle.table.specs.Layout.{axesOf, place, table, indicesAt, tabulate, Inside, insert, without, sliceValues, nodesWithout, axisOf}
 use Rattle.shapes.specs.Frame.{frameFault}
@@ -31,7 +31,7 @@ use Rattle.picks.specs.Utils.{stepIndex}
 use Rattle.order.specs.Lookups.{stepFault}
 use Rattle.picks.specs.Picks.{nearestIndex}
 use Rattle.ninterp.specs.Tables.{indices, picked, nearestRule, stepRule, nearestAnswer, stepAnswer}
-use Rattle.fronts.specs.Fronts.{nearestFront, stepFront}
+use Rattle.fronts.specs.Fronts.{nearestFront, stepFront, noAxisFault}
 use Rattle.slices.specs.Slices.{shapeWithout, pointFault, nearestSliceFault, stepSliceFault, ruleSlice, lowered}
 use Rattle.picks.proofs.Picks.{step-fits, nearest-fits}
 use Rattle.ninterp.proofs.Picks.{list-inside}

@@ -10,9 +10,10 @@ use Rattle.answer.specs.Answer.{good, _or_, filledInto}
 use Rattle.answer.specs.declared.Answer.{Answer}
 use Rattle.answer.proofs.Orders as orders
 use lib.Ieee.Scale.{finite}
-use Rattle.counts.specs.Counts.{directionFault, roomFault, lengthFault, noAxisFault, notFirstFault}
+use Rattle.lent.specs.Lent.{directionFault, roomFault, lengthFault}
 use Rattle.numbers.specs.Numbers.{readingFault}
-use Rattle.counts.proofs.Rows.{direction-passed, room-passed, length-passed, axis-many, axis-in, first-many, first-axis}
+use Rattle.lent.proofs.Rows.{direction-passed, room-passed, length-passed}
+use Rattle.fronts.proofs.Rows.{axis-many, axis-in, first-many, first-axis}
 use Rattle.numbers.proofs.Rows.{reading-finite}
 use Rattle.shapes.specs.Shape.{countsOf, size, noShape}
 use Rattle.table.specs.Layout.{without, axisOf}
@@ -24,7 +25,7 @@ use Rattle.shapes.specs.declared.Shape.{Shape}
 use Rattle.table.proofs.Grids.{frame-shape, frame-values, grid-of}
 use Rattle.values.proofs.Rows.{values-finite}
 use Rattle.shapes.proofs.Frames.{shape-four}
-use Rattle.fronts.specs.Fronts.{nearestFront, stepFront, linearFront, linearUniformFront}
+use Rattle.fronts.specs.Fronts.{nearestFront, stepFront, linearFront, linearUniformFront, noAxisFault, notFirstFault}
 use Rattle.spacing.specs.Uniform.{axesUniformFault}
 use Rattle.slices.specs.Slices.{shapeWithout, pointFault, sliceAnswer}
 use Rattle.slices.specs.declared.SliceAnswer.{SliceAnswer}

@@ -8,7 +8,7 @@ use lib.Ieee.{Float}
 use Rattle.answer.specs.Answer.{_or_, given, filledInto}
 use Rattle.answer.specs.declared.Answer.{Answer}
 use Rattle.numbers.specs.Numbers.{readingFault}
-use Rattle.counts.specs.Counts.{roomFault}
+use Rattle.lent.specs.Lent.{roomFault}
 use Rattle.shapes.specs.Shape.{countsOf, size, noShape}
 use Rattle.table.specs.Layout.{tabulate, without, sliceValues, axisOf}
 use Rattle.lists.specs.Lists.{rangeFault}

@@ -95,5 +95,5 @@ pub(crate) fn point_fault(
     if fault.number != 0 {
         return fault;
     }
-    counts::room_fault(1, values / n, room)
+    lent::room_fault(1, values / n, room)
 }

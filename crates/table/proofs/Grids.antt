@@ -14,12 +14,12 @@ use Rattle.judge.proofs.Rows.{nodes-axis}
 use Rattle.shapes.specs.Shape.{countsOf, size, total}
 use Rattle.table.specs.Layout.{axesOf}
 use Rattle.shapes.specs.Frame.{shapeFault, frameFault}
-use Rattle.counts.specs.Counts.{lengthFault}
+use Rattle.lent.specs.Lent.{lengthFault}
 use Rattle.table.specs.Table.{axesFault, rangesFault, Grid}
 use Rattle.lists.specs.Lists.{rangeFault}
 use Rattle.shapes.specs.declared.Shape.{Shape}
 use Rattle.shapes.proofs.Frames.{shape-four, shape-enough, shape-few, shape-size}
-use Rattle.counts.proofs.Rows.{length-passed}
+use Rattle.lent.proofs.Rows.{length-passed}
 
 pub length-axis : (counts : List ℕ) (nodes : List Float) → length nodes ≡ total counts → (a : ℕ) → a < length counts → length (getD (axesOf counts nodes) a []) ≡ getD counts a 0
 unfolding axesOf total

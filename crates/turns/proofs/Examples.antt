@@ -9,7 +9,8 @@ use lib.ListN.{drop}
 use lib.Ieee.{ofBits, toBits, lt, le, eq, add, sub, mul, div}
 use Rattle.answer.specs.Answer.{refused, answered, fine, good, when, _or_, firstOf, given}
 use Rattle.judge.specs.Check.{gap, riseFault, nodeFault, nodesFault}
-use Rattle.counts.specs.Counts.{axesCountFault, countFault, roomFault, lengthFault}
+use Rattle.counts.specs.Counts.{axesCountFault, countFault}
+use Rattle.lent.specs.Lent.{roomFault, lengthFault}
 use Rattle.numbers.specs.Numbers.{finiteFault, readingFault, resultFault}
 use Rattle.shapes.specs.Shape.{size, total}
 use Rattle.table.specs.Layout.{axesOf, strides, placeBy, table}

@@ -3,8 +3,8 @@ use Prim.Native.Nat.{ℕ}
 use lib.Ieee.{Float}
 use Rattle.answer.specs.Answer.{indexAnswer}
 use Rattle.counts.specs.Counts.{countFault}
-use Rattle.numbers.specs.Numbers.{finiteFault, lentStepFault}
-use Rattle.uniform.specs.Calls.{uniformReadFault, locateLowerIndexUniform}
+use Rattle.numbers.specs.Numbers.{finiteFault}
+use Rattle.uniform.specs.Calls.{uniformReadFault, locateLowerIndexUniform, lentStepFault}
 use Rattle.numbers.proofs.Bares.{bare-reading}
 use Rattle.answer.proofs.Bares.{Bare, bare-or, row}
 

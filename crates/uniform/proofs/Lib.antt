@@ -1,3 +1,4 @@
+pub mod Rows
 pub mod Wholes
 pub mod Unique
 pub mod Bares

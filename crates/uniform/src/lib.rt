@@ -2,7 +2,7 @@
 // with the others. And the index alone, for tables that are judged.
 ghost use mathlib.Core.Path.{_≡_};
 ghost use Rattle.uniform.specs.Uniform.{uniformCell, uniformIndex};
-ghost use Rattle.uniform.specs.Calls.{uniformReadFault, locateLowerIndexUniform};
+ghost use Rattle.uniform.specs.Calls.{lentStepFault, uniformReadFault, locateLowerIndexUniform};
 use answer::Answer;
 use answer::IndexAnswer;
 
@@ -33,6 +33,21 @@ pub fn uniform_index(first: f64, step: f64, n: usize, point: f64) -> usize
 
 // ---- the primitive
 
+// 8: a lent step not finite or not above 0.
+fn lent_step_fault(step: f64) -> Answer
+    ensures { λ r. ⌜ r ≡ lentStepFault step ⌝ }
+{
+    if binary64::is_finite(step) {
+        if 0.0 < step {
+            answer::pass()
+        } else {
+            answer::refuse(8, 0, 0)
+        }
+    } else {
+        answer::refuse(8, 0, 0)
+    }
+}
+
 // 2, then 4 of the first node, then 8 of the step, then 10.
 fn uniform_read_fault(first: f64, step: f64, n: usize, point: f64) -> Answer
     ensures { λ r. ⌜ r ≡ uniformReadFault first step n point ⌝ }
@@ -45,7 +60,7 @@ fn uniform_read_fault(first: f64, step: f64, n: usize, point: f64) -> Answer
     if fault.number != 0 {
         return fault;
     }
-    let fault = numbers::lent_step_fault(step);
+    let fault = lent_step_fault(step);
     if fault.number != 0 {
         return fault;
     }

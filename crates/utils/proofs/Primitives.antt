@@ -12,7 +12,7 @@ use Rattle.answer.specs.Answer.{refused, fine, good, _or_}
 use Rattle.answer.specs.declared.Answer.{Answer}
 use Rattle.answer.proofs.Orders as orders
 use Rattle.judge.specs.Check.{axisFault, Axis}
-use Rattle.counts.specs.Counts.{directionFault}
+use Rattle.lent.specs.Lent.{directionFault}
 use Rattle.numbers.specs.Numbers.{readingFault}
 use Rattle.utils.specs.Calls.{exactAnswer, axisAnswer, axisReadingFault, directedFault, lowerFault}
 use Rattle.exact.specs.declared.MaybeIndex.{MaybeIndex}
@@ -23,7 +23,7 @@ use Rattle.utils.specs.declared.ExactAnswer.{ExactAnswer}
 use Rattle.utils.specs.declared.AxisAnswer.{AxisAnswer}
 use Rattle.judge.proofs.Rows.{axis-of}
 use Rattle.numbers.proofs.Rows.{reading-finite}
-use Rattle.counts.proofs.Rows.{direction-passed}
+use Rattle.lent.proofs.Rows.{direction-passed}
 use Rattle.axis.specs.Utils.{axisLocation}
 use Rattle.picks.specs.Utils.{stepIndex}
 use Rattle.picks.specs.Picks.{pickFound}

@@ -9,7 +9,7 @@ use Rattle.answer.specs.Answer.{plusZero, refused, when, _or_, given, indexAnsw
 use Rattle.answer.specs.declared.Answer.{Answer}
 use Rattle.answer.specs.declared.IndexAnswer.{IndexAnswer}
 use Rattle.judge.specs.Check.{axisFault}
-use Rattle.counts.specs.Counts.{directionFault}
+use Rattle.lent.specs.Lent.{directionFault}
 use Rattle.numbers.specs.Numbers.{readingFault, resultFault}
 use Rattle.picks.specs.Utils.{stepIndex}
 use Rattle.cells.specs.Cells.{lowerIndex}

@@ -118,7 +118,7 @@ fn directed_fault(direction: u8, grid: &[f64], point: f64) -> Answer
     if fault.number != 0 {
         return fault;
     }
-    let fault = counts::direction_fault(0, direction);
+    let fault = lent::direction_fault(0, direction);
     if fault.number != 0 {
         return fault;
     }

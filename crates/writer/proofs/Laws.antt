@@ -14,8 +14,8 @@ use Rattle.values.specs.Values.{valuesFault}
 use Rattle.shapes.specs.declared.Shape.{Shape}
 use Rattle.writer.specs.Made.{imageLength}
 use Rattle.writer.specs.Write.{writeFault}
-use Rattle.counts.specs.Counts.{roomFault}
-use Rattle.counts.proofs.Rows.{room-enough, room-passed}
+use Rattle.lent.specs.Lent.{roomFault}
+use Rattle.lent.proofs.Rows.{room-enough, room-passed}
 
 -- "it checks 1 to 7, then 15"
 pub record Writable (s : Shape) (nodes values : List Float) (room : ℕ) : Type 0 where

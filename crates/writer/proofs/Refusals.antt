@@ -7,7 +7,7 @@ use lib.Ieee.{Float}
 use Rattle.answer.specs.Answer.{good}
 use Rattle.answer.proofs.Orders as orders
 use Rattle.answer.proofs.Bares.{Bare, bare-or, row}
-use Rattle.counts.specs.Counts.{roomFault}
+use Rattle.lent.specs.Lent.{roomFault}
 use Rattle.values.proofs.Bares.{bare-values}
 use Rattle.shapes.specs.declared.Shape.{Shape}
 use Rattle.shapes.proofs.Bares.{bare-frame}

@@ -13,11 +13,13 @@ use lib.Ieee.Fits.{nan-fits}
 use Rattle.answer.specs.Answer.{fine, good, _or_, firstOf, given, filledInto}
 use Rattle.answer.specs.declared.Answer.{Answer}
 use Rattle.answer.proofs.Orders as orders
-use Rattle.counts.proofs.Rows.{axes-right, count-fine, room-enough, length-same}
+use Rattle.counts.proofs.Rows.{axes-right, count-fine}
+use Rattle.lent.proofs.Rows.{room-enough, length-same}
 use Rattle.shapes.specs.Shape.{countsOf, size, total, noShape}
 use Rattle.table.specs.Layout.{tabulate}
 use Rattle.shapes.specs.Frame.{shapeFault, frameFault, productRow}
-use Rattle.counts.specs.Counts.{axesCountFault, lengthFault, roomFault}
+use Rattle.counts.specs.Counts.{axesCountFault}
+use Rattle.lent.specs.Lent.{lengthFault, roomFault}
 use Rattle.table.specs.Table.{axesFault}
 use Rattle.values.specs.Values.{valueFault, valuesFault}
 use Rattle.shapes.specs.declared.Shape.{Shape}

@@ -19,8 +19,8 @@ use Rattle.writer.specs.Made.{imageLength, imageOf}
 use Rattle.writer.specs.Write.{writeFault, writeAnswer}
 use Rattle.writer.specs.declared.WriteAnswer.{WriteAnswer}
 use Rattle.writer.proofs.Images.{length-image}
-use Rattle.counts.specs.Counts.{roomFault}
-use Rattle.counts.proofs.Rows.{room-passed}
+use Rattle.lent.specs.Lent.{roomFault}
+use Rattle.lent.proofs.Rows.{room-passed}
 
 module _ (s : Shape) (nodes values : List Float) (room : ℕ) where
   abbrev fault : Answer

@@ -13,7 +13,7 @@ use Rattle.values.specs.Values.{valuesFault}
 use Rattle.shapes.specs.declared.Shape.{Shape}
 use Rattle.writer.specs.Made.{imageLength, countIn, imageOf}
 use Rattle.writer.specs.declared.WriteAnswer.{WriteAnswer}
-use Rattle.counts.specs.Counts.{roomFault}
+use Rattle.lent.specs.Lent.{roomFault}
 
 -- "it checks 1 to 7, then 15": "place .. 2 image"
 unfoldable pub writeFault : Shape → List Float → List Float → ℕ → Answer

@@ -46,7 +46,7 @@ fn write_fault(shape: Shape, nodes: &[f64], values: &[f64], room: usize) -> Answ
     if fault.number != 0 {
         return fault;
     }
-    counts::room_fault(2, image_length(shape), room)
+    lent::room_fault(2, image_length(shape), room)
 }
 
 fn put_image(shape: Shape, nodes: &[f64], values: &[f64], img: &mut [u8])

@@ -7,7 +7,7 @@ use borrow.Author.Needs.{needs}
 use Rattle.answer.specs.Answer.{firstOf}
 use Rattle.answer.proofs.Orders.{passes, fails, first-begin, first-step, first-stop, first-end}
 use Rattle.lists.specs.Lists.{directionsFault}
-use Rattle.counts.specs.Counts.{directionFault}
+use Rattle.lent.specs.Lent.{directionFault}
 use Rattle.lists.proofs.directions_fault.Statement.{statement}
 use Rattle.lists.proofs.directions_fault.Tie as tie
 

@@ -3,7 +3,7 @@ use Prim.Native.Nat.{ℕ}
 use Rattle.answer.proofs.Orders.{passes, or-stops, or-goes-on}
 use Rattle.shapes.proofs.Frames.{shape-four, shape-few}
 use Rattle.shapes.specs.Frame.{frameFault}
-use Rattle.counts.specs.Counts.{lengthFault}
+use Rattle.lent.specs.Lent.{lengthFault}
 use borrow.Author.Needs.{needs}
 use Rattle.shapes.proofs.frame_fault.Statement.{statement}
 use Rattle.shapes.proofs.frame_fault.Tie as tie

@@ -4,7 +4,7 @@ use Rattle.answer.specs.declared.Answer.{Answer}
 use Rattle.answer.proofs.Orders.{passes, or-stops, or-goes-on, first-passed}
 use Rattle.shapes.specs.Shape.{countsOf}
 use Rattle.shapes.specs.Frame.{shapeFault, frameFault}
-use Rattle.counts.specs.Counts.{roomFault}
+use Rattle.lent.specs.Lent.{roomFault}
 use Rattle.table.specs.Table.{axesFault}
 use Rattle.writer.specs.Write.{writeFault}
 use mathlib.Core.Path.{_≡_, ap, _∙_}

@@ -10,7 +10,7 @@ use denote.Ref.{now}
 use borrow.Author.Needs.{needs}
 use Rattle.image.proofs.areas.rooms_fault.Statement.{statement}
 use Rattle.image.proofs.areas.rooms_fault.Tie as tie
-use Rattle.counts.specs.Counts.{roomFault}
+use Rattle.lent.specs.Lent.{roomFault}
 
 abbrev start : tie.After-sizes → tie.Start
 start z = z .before .before .before

@@ -12,7 +12,7 @@ use Rattle.slices.proofs.Slices.{few-at, some-at, axis-ends, axis-lies,
 use borrow.Author.Needs.{needs}
 use Rattle.slices.proofs.remaining.point_fault.Statement.{statement}
 use Rattle.slices.proofs.remaining.point_fault.Tie as tie
-use Rattle.counts.specs.Counts.{roomFault}
+use Rattle.lent.specs.Lent.{roomFault}
 
 abbrev C : tie.Start → List ℕ
 C s = s .args .shape .counts

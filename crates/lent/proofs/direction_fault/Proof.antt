@@ -1,8 +1,8 @@
 use mathlib.Core.Path.{_∙_}
-use Rattle.counts.proofs.Rows.{direction-other, direction-fine}
+use Rattle.lent.proofs.Rows.{direction-other, direction-fine}
 use borrow.Author.Needs.{needs}
-use Rattle.counts.proofs.direction_fault.Statement.{statement}
-use Rattle.counts.proofs.direction_fault.Tie as tie
+use Rattle.lent.proofs.direction_fault.Statement.{statement}
+use Rattle.lent.proofs.direction_fault.Tie as tie
 
 refuse-requires : tie.Need-refuse-requires
 refuse-requires c κs = search needs

@@ -1,6 +1,6 @@
 -- Each row of a length has value +0.0. Assumes nothing.
 use Prim.Native.Nat.{ℕ}
-use Rattle.counts.specs.Counts.{lengthFault}
+use Rattle.lent.specs.Lent.{lengthFault}
 use Rattle.answer.proofs.Bares.{Bare, row}
 
 pub bare-length : (place wanted lent : ℕ) → Bare (lengthFault place wanted lent)

@@ -1,8 +1,8 @@
 use mathlib.Core.Path.{_∙_}
-use Rattle.counts.proofs.Rows.{first-alone, first-not, first-there}
+use Rattle.fronts.proofs.Rows.{first-alone, first-not, first-there}
 use borrow.Author.Needs.{needs}
-use Rattle.counts.proofs.not_first_fault.Statement.{statement}
-use Rattle.counts.proofs.not_first_fault.Tie as tie
+use Rattle.fronts.proofs.not_first_fault.Statement.{statement}
+use Rattle.fronts.proofs.not_first_fault.Tie as tie
 
 refuse-requires : tie.Need-refuse-requires
 refuse-requires c κs = search needs

@@ -1,8 +1,8 @@
 use mathlib.Core.Path.{_∙_}
-use Rattle.counts.proofs.Rows.{axis-alone, axis-none, axis-there}
+use Rattle.fronts.proofs.Rows.{axis-alone, axis-none, axis-there}
 use borrow.Author.Needs.{needs}
-use Rattle.counts.proofs.no_axis_fault.Statement.{statement}
-use Rattle.counts.proofs.no_axis_fault.Tie as tie
+use Rattle.fronts.proofs.no_axis_fault.Statement.{statement}
+use Rattle.fronts.proofs.no_axis_fault.Tie as tie
 
 refuse-requires : tie.Need-refuse-requires
 refuse-requires c κs = search needs

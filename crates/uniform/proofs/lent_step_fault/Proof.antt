@@ -1,9 +1,9 @@
 use mathlib.Core.Path.{sym, _∙_}
 use lib.Ieee.{ofBits}
-use Rattle.numbers.proofs.Rows.{step-wild, step-down, step-fine}
+use Rattle.uniform.proofs.Rows.{step-wild, step-down, step-fine}
 use borrow.Author.Needs.{needs}
-use Rattle.numbers.proofs.lent_step_fault.Statement.{statement}
-use Rattle.numbers.proofs.lent_step_fault.Tie as tie
+use Rattle.uniform.proofs.lent_step_fault.Statement.{statement}
+use Rattle.uniform.proofs.lent_step_fault.Tie as tie
 
 is-finite-requires : tie.Need-is-finite-requires
 is-finite-requires c κs = search needs

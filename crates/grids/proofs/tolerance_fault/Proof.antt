@@ -1,9 +1,9 @@
 use mathlib.Core.Path.{sym, _∙_}
 use lib.Ieee.{ofBits}
-use Rattle.numbers.proofs.Rows.{tolerance-wild, tolerance-below, tolerance-fine}
+use Rattle.grids.proofs.Rows.{tolerance-wild, tolerance-below, tolerance-fine}
 use borrow.Author.Needs.{needs}
-use Rattle.numbers.proofs.tolerance_fault.Statement.{statement}
-use Rattle.numbers.proofs.tolerance_fault.Tie as tie
+use Rattle.grids.proofs.tolerance_fault.Statement.{statement}
+use Rattle.grids.proofs.tolerance_fault.Tie as tie
 
 is-finite-requires : tie.Need-is-finite-requires
 is-finite-requires c κs = search needs

@@ -1,8 +1,8 @@
 use mathlib.Core.Path.{_∙_}
-use Rattle.counts.proofs.Rows.{length-same, length-differs}
+use Rattle.lent.proofs.Rows.{length-same, length-differs}
 use borrow.Author.Needs.{needs}
-use Rattle.counts.proofs.length_fault.Statement.{statement}
-use Rattle.counts.proofs.length_fault.Tie as tie
+use Rattle.lent.proofs.length_fault.Statement.{statement}
+use Rattle.lent.proofs.length_fault.Tie as tie
 
 pass-requires : tie.Need-pass-requires
 pass-requires c κs = search needs

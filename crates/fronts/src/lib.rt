@@ -8,7 +8,7 @@ use shapes::Shape;
 pub fn nearest_front(shape: Shape, nodes: &[f64], values: &[f64], axis: usize) -> Answer
     ensures { λ r. ⌜ r ≡ nearestFront shape (now (nodes .entry)) (now (values .entry)) axis ⌝ }
 {
-    let fault = shapes::frame_fault(shape, nodes.len(), values.len());
+    let fault = frames::frame_fault(shape, nodes.len(), values.len());
     if fault.number != 0 {
         return fault;
     }
@@ -29,7 +29,7 @@ pub fn step_front(
 ) -> Answer
     ensures { λ r. ⌜ r ≡ stepFront shape (now (nodes .entry)) (now (values .entry)) (now (directions .entry)) axis ⌝ }
 {
-    let fault = shapes::frame_fault(shape, nodes.len(), values.len());
+    let fault = frames::frame_fault(shape, nodes.len(), values.len());
     if fault.number != 0 {
         return fault;
     }
@@ -52,7 +52,7 @@ pub fn step_front(
 pub fn linear_front(shape: Shape, nodes: &[f64], values: &[f64], axis: usize) -> Answer
     ensures { λ r. ⌜ r ≡ linearFront shape (now (nodes .entry)) (now (values .entry)) axis ⌝ }
 {
-    let fault = shapes::frame_fault(shape, nodes.len(), values.len());
+    let fault = frames::frame_fault(shape, nodes.len(), values.len());
     if fault.number != 0 {
         return fault;
     }

@@ -28,7 +28,7 @@ use shapes::Shape;
 pub(crate) fn table_fault(shape: Shape, nodes: &[f64], values: &[f64]) -> Answer
     ensures { λ r. ⌜ r ≡ tableFault shape (now (nodes .entry)) (now (values .entry)) ⌝ }
 {
-    let fault = shapes::frame_fault(shape, nodes.len(), values.len());
+    let fault = frames::frame_fault(shape, nodes.len(), values.len());
     if fault.number != 0 {
         return fault;
     }

@@ -17,7 +17,7 @@ use shapes::Shape;
 fn lengths_fault(shape: Shape, nodes: usize, values: usize, point: usize) -> Answer
     ensures { λ r. ⌜ r ≡ (frameFault shape nodes values or lengthFault 2 (shape .axes) point) ⌝ }
 {
-    let fault = shapes::frame_fault(shape, nodes, values);
+    let fault = frames::frame_fault(shape, nodes, values);
     if fault.number != 0 {
         return fault;
     }

@@ -17,7 +17,7 @@ use Rattle.axis.specs.Utils.{axisLocation}
 use Rattle.axis.specs.Locations.{uniformLocation}
 use Rattle.slices.specs.LinearSlices.{linearValues, linearRest, linearSliceFault, linearUniformSliceFault}
 use Rattle.slices.specs.Slices.{shapeWithout, pointFault, nearestSliceFault, stepSliceFault, sliceAnswer}
-use Rattle.shapes.specs.Shape.{noShape}
+use Rattle.frames.specs.None.{noShape}
 use Rattle.spacing.proofs.Bares.{bare-uniform}
 use Rattle.counts.proofs.Bares.{bare-length}
 use Rattle.shapes.proofs.Bares.{bare-frame}

@@ -14,7 +14,8 @@ use Rattle.counts.specs.Counts.{directionFault, roomFault, lengthFault, noAxisF
 use Rattle.numbers.specs.Numbers.{readingFault}
 use Rattle.counts.proofs.Rows.{direction-passed, room-passed, length-passed, axis-many, axis-in, first-many, first-axis}
 use Rattle.numbers.proofs.Rows.{reading-finite}
-use Rattle.shapes.specs.Shape.{countsOf, size, noShape}
+use Rattle.shapes.specs.Shape.{countsOf, size}
+use Rattle.frames.specs.None.{noShape}
 use Rattle.table.specs.Layout.{without, axisOf}
 use Rattle.shapes.specs.Frame.{frameFault}
 use Rattle.table.specs.Table.{axesFault, Grid}

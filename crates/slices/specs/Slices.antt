@@ -9,7 +9,8 @@ use Rattle.answer.specs.Answer.{_or_, given, filledInto}
 use Rattle.answer.specs.declared.Answer.{Answer}
 use Rattle.numbers.specs.Numbers.{readingFault}
 use Rattle.counts.specs.Counts.{roomFault}
-use Rattle.shapes.specs.Shape.{countsOf, size, noShape}
+use Rattle.shapes.specs.Shape.{countsOf, size}
+use Rattle.frames.specs.None.{noShape}
 use Rattle.table.specs.Layout.{tabulate, without, sliceValues, axisOf}
 use Rattle.lists.specs.Lists.{rangeFault}
 use Rattle.shapes.specs.declared.Shape.{Shape}

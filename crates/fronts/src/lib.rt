@@ -16,7 +16,7 @@ pub fn nearest_front(shape: Shape, nodes: &[f64], values: &[f64], axis: usize) -
     if absent.number != 0 {
         return absent;
     }
-    order::stored_fault(shape, nodes, values)
+    stages::stored_fault(shape, nodes, values)
 }
 
 // The same with 3 and 9 of the directions.
@@ -41,7 +41,7 @@ pub fn step_front(
     if fault.number != 0 {
         return fault;
     }
-    let fault = order::stored_fault(shape, nodes, values);
+    let fault = stages::stored_fault(shape, nodes, values);
     if fault.number != 0 {
         return fault;
     }
@@ -60,7 +60,7 @@ pub fn linear_front(shape: Shape, nodes: &[f64], values: &[f64], axis: usize) ->
     if fault.number != 0 {
         return fault;
     }
-    order::stored_fault(shape, nodes, values)
+    stages::stored_fault(shape, nodes, values)
 }
 
 // The same with 8 of all axes.

@@ -15,7 +15,8 @@ use Rattle.counts.specs.Counts.{roomFault, lengthFault, noAxisFault, notFirstFa
 use Rattle.numbers.proofs.Rows.{reading-fine}
 use Rattle.counts.proofs.Rows.{room-enough, axis-there, first-there}
 use Rattle.values.specs.Values.{valuesFault}
-use Rattle.lists.specs.Lists.{directionsFault, rangeFault}
+use Rattle.lists.specs.Lists.{directionsFault}
+use Rattle.ranges.specs.Ranges.{rangeFault}
 use Rattle.shapes.specs.Shape.{countsOf, size}
 use Rattle.table.specs.Layout.{without, axisOf}
 use Rattle.shapes.specs.Frame.{frameFault}

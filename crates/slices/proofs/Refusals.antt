@@ -23,7 +23,8 @@ use Rattle.counts.proofs.Bares.{bare-length}
 use Rattle.shapes.proofs.Bares.{bare-frame}
 use Rattle.table.proofs.Bares.{bare-axes}
 use Rattle.values.proofs.Bares.{bare-values}
-use Rattle.lists.proofs.Bares.{bare-directions, bare-range}
+use Rattle.lists.proofs.Bares.{bare-directions}
+use Rattle.ranges.proofs.Bares.{bare-range}
 use Rattle.numbers.proofs.Bares.{bare-reading}
 use Rattle.answer.proofs.Bares.{Bare, bare-or, bare-first, row}
 

@@ -20,7 +20,8 @@ use Rattle.table.specs.Layout.{without, axisOf}
 use Rattle.shapes.specs.Frame.{frameFault}
 use Rattle.table.specs.Table.{axesFault, Grid}
 use Rattle.values.specs.Values.{valuesFault}
-use Rattle.lists.specs.Lists.{directionsFault, rangeFault}
+use Rattle.lists.specs.Lists.{directionsFault}
+use Rattle.ranges.specs.Ranges.{rangeFault}
 use Rattle.shapes.specs.declared.Shape.{Shape}
 use Rattle.table.proofs.Grids.{frame-shape, frame-values, grid-of}
 use Rattle.values.proofs.Rows.{values-finite}

@@ -12,7 +12,7 @@ use Rattle.counts.specs.Counts.{roomFault}
 use Rattle.shapes.specs.Shape.{countsOf, size}
 use Rattle.frames.specs.None.{noShape}
 use Rattle.table.specs.Layout.{tabulate, without, sliceValues, axisOf}
-use Rattle.lists.specs.Lists.{rangeFault}
+use Rattle.ranges.specs.Ranges.{rangeFault}
 use Rattle.shapes.specs.declared.Shape.{Shape}
 use Rattle.fronts.specs.Fronts.{nearestFront, stepFront}
 use Rattle.ninterp.specs.Tables.{nearestRule, stepRule}

@@ -32,7 +32,8 @@ use Rattle.table.specs.Layout.{axesOf, strides, placeBy, table, indicesAt}
 use Rattle.shapes.specs.Frame.{shapeFault, frameFault, productRow}
 use Rattle.table.specs.Table.{axesFault, rangesFault}
 use Rattle.values.specs.Values.{valueFault, valuesFault}
-use Rattle.lists.specs.Lists.{readingsFault, rangeFault}
+use Rattle.lists.specs.Lists.{readingsFault}
+use Rattle.ranges.specs.Ranges.{rangeFault}
 use Rattle.shapes.specs.declared.Shape.{Shape}
 use Rattle.order.specs.Lookups.{lookupFault}
 use Rattle.fronts.specs.Fronts.{linearFront, notFirstFault}

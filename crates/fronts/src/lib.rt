@@ -36,7 +36,7 @@ fn not_first_fault(axes: usize, axis: usize) -> Answer
 pub fn nearest_front(shape: Shape, nodes: &[f64], values: &[f64], axis: usize) -> Answer
     ensures { λ r. ⌜ r ≡ nearestFront shape (now (nodes .entry)) (now (values .entry)) axis ⌝ }
 {
-    let fault = shapes::frame_fault(shape, nodes.len(), values.len());
+    let fault = frames::frame_fault(shape, nodes.len(), values.len());
     if fault.number != 0 {
         return fault;
     }
@@ -44,7 +44,7 @@ pub fn nearest_front(shape: Shape, nodes: &[f64], values: &[f64], axis: usize) -
     if absent.number != 0 {
         return absent;
     }
-    order::stored_fault(shape, nodes, values)
+    stages::stored_fault(shape, nodes, values)
 }
 
 // The same with 3 and 9 of the directions.
@@ -57,7 +57,7 @@ pub fn step_front(
 ) -> Answer
     ensures { λ r. ⌜ r ≡ stepFront shape (now (nodes .entry)) (now (values .entry)) (now (directions .entry)) axis ⌝ }
 {
-    let fault = shapes::frame_fault(shape, nodes.len(), values.len());
+    let fault = frames::frame_fault(shape, nodes.len(), values.len());
     if fault.number != 0 {
         return fault;
     }
@@ -69,7 +69,7 @@ pub fn step_front(
     if fault.number != 0 {
         return fault;
     }
-    let fault = order::stored_fault(shape, nodes, values);
+    let fault = stages::stored_fault(shape, nodes, values);
     if fault.number != 0 {
         return fault;
     }
@@ -80,7 +80,7 @@ pub fn step_front(
 pub fn linear_front(shape: Shape, nodes: &[f64], values: &[f64], axis: usize) -> Answer
     ensures { λ r. ⌜ r ≡ linearFront shape (now (nodes .entry)) (now (values .entry)) axis ⌝ }
 {
-    let fault = shapes::frame_fault(shape, nodes.len(), values.len());
+    let fault = frames::frame_fault(shape, nodes.len(), values.len());
     if fault.number != 0 {
         return fault;
     }
@@ -88,7 +88,7 @@ pub fn linear_front(shape: Shape, nodes: &[f64], values: &[f64], axis: usize) ->
     if fault.number != 0 {
         return fault;
     }
-    order::stored_fault(shape, nodes, values)
+    stages::stored_fault(shape, nodes, values)
 }
 
 // The same with 8 of all axes.

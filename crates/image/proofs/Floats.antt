@@ -9,33 +9,21 @@ use lib.ListN.{length, take, drop, getD, set, length-append, length-take}
 use lib.Seq.{sets, sets-eq, take-at, getD-take}
 use lib.Ieee.{Float}
 use Rattle.answer.specs.Answer.{good}
-use Rattle.answer.proofs.Orders as orders
 use Rattle.shapes.specs.Shape.{countsOf, size, total}
 use Rattle.table.specs.Layout.{tabulate}
-use Rattle.shapes.specs.Frame.{shapeFault, sizesOf}
+use Rattle.shapes.specs.Frame.{shapeFault}
 use Rattle.shapes.specs.declared.Shape.{Shape}
-use Rattle.shapes.specs.declared.Holding.{Holding}
 use Rattle.table.proofs.Layouts.{tabulate-same}
 use Rattle.shapes.proofs.Frames.{shape-four, shape-few, shape-size}
 use Rattle.words.specs.Words.{floatAt}
 use Rattle.image.specs.Image.{axesField, countField, offsetField, shapeOf, floatsAt, nodesFrom, nodesIn, valuesIn}
 
--- ---- what a judged shape holds
-module _ (s : Shape) (h : good (shapeFault s) ≡ true) (r : Holding) (e : r ≡ sizesOf s) where
-  pub holds-nodes : r .nodes ≡ total (countsOf s)
-  unfolding sizesOf
-  holds-nodes = ap (λ (x : Holding). x .nodes) e ∙ orders.given-good (shapeFault s) (total (countsOf s)) 0 h
-
-  pub holds-values : r .values ≡ size (countsOf s)
-  unfolding sizesOf
-  holds-values = ap (λ (x : Holding). x .values) e ∙ orders.given-good (shapeFault s) (size (countsOf s)) 0 h
-
+-- ---- a judged shape's nodes are few
 total-few : (cs : List ℕ) → ((a : ℕ) → a < length cs → getD cs a 0 ≤ 64) → total cs ≤ 64 * length cs
 unfolding total
 total-few [] h = omega arith
 total-few (c ∷ cs) h = let x : c ≤ 64 = h 0 (omega arith) in omega (arith, x, total-few cs (λ a l. h (suc a) (omega arith)))
 
--- its nodes are few
 module _ (s : Shape) (h : good (shapeFault s) ≡ true) where
   pub total-small : total (countsOf s) ≤ 256
   total-small =

@@ -6,7 +6,8 @@ use Prim.Native.Nat.{ℕ, _≤_}
 use native.Mathlib.Omega.{arith}
 use Rattle.answer.specs.Answer.{good, given}
 use Rattle.answer.proofs.Orders as orders
-use Rattle.shapes.specs.Shape.{countsOf, noShape}
+use Rattle.shapes.specs.Shape.{countsOf}
+use Rattle.frames.specs.None.{noShape}
 use Rattle.shapes.specs.Frame.{shapeFault}
 use Rattle.table.specs.Table.{axesFault}
 use Rattle.values.specs.Values.{valuesFault}

@@ -9,7 +9,8 @@ use lib.Seq.{sets}
 use Rattle.answer.specs.Answer.{good, filledInto}
 use Rattle.answer.specs.declared.Answer.{Answer}
 use Rattle.answer.proofs.Orders as orders
-use Rattle.shapes.specs.Shape.{countsOf, size, total, noShape}
+use Rattle.shapes.specs.Shape.{countsOf, size, total}
+use Rattle.frames.specs.None.{noShape}
 use Rattle.shapes.specs.Frame.{shapeFault}
 use Rattle.shapes.specs.declared.Shape.{Shape}
 use Rattle.image.specs.Image.{shapeOf, nodesIn, valuesIn}

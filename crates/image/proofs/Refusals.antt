@@ -15,7 +15,7 @@ use Rattle.table.proofs.Bares.{bare-axes}
 use Rattle.image.specs.Image.{axesField, countField, shapeOf}
 use Rattle.image.specs.Load.{fieldFault, shortFault, lengthRow, startFault, countRow, offsetRow, headFault, areaFault, areasFault, roomsFault, contentsFault, loadFault, loadAnswer}
 use Rattle.shapes.specs.Frame.{productRow}
-use Rattle.shapes.specs.Shape.{noShape}
+use Rattle.frames.specs.None.{noShape}
 
 bare-count : (img : List ℕ) (a : ℕ) → Bare (countRow img a)
 unfolding countRow countFault fieldFault

@@ -8,7 +8,8 @@ use Rattle.answer.specs.Answer.{refused, when, _or_, firstOf, given}
 use Rattle.answer.specs.declared.Answer.{Answer}
 use Rattle.counts.specs.Counts.{axesCountFault, countFault}
 use Rattle.lent.specs.Lent.{roomFault}
-use Rattle.shapes.specs.Shape.{countsOf, size, total, noShape}
+use Rattle.shapes.specs.Shape.{countsOf, size, total}
+use Rattle.frames.specs.None.{noShape}
 use Rattle.shapes.specs.Frame.{productRow}
 use Rattle.table.specs.Table.{axesFault}
 use Rattle.values.specs.Values.{valuesFault}

@@ -45,7 +45,7 @@ pub fn load(img: &[u8], nodes: &mut [f64], values: &mut [f64]) -> LoadAnswer
     if answer.number != 0 {
         return LoadAnswer {
             answer,
-            shape: shapes::no_shape(),
+            shape: frames::no_shape(),
         };
     }
     contents::read_nodes(img, nodes);

@@ -4,16 +4,12 @@ use Prim.Native.Nat.{ℕ}
 use lib.Ieee.{Float}
 use Rattle.lent.specs.Lent.{directionFault}
 use Rattle.numbers.proofs.Bares.{bare-reading}
-use Rattle.lists.specs.Lists.{directionsFault, readingsFault, rangeFault}
-use Rattle.answer.proofs.Bares.{Bare, bare-or, bare-first, row}
+use Rattle.lists.specs.Lists.{directionsFault, readingsFault}
+use Rattle.answer.proofs.Bares.{Bare, bare-first, row}
 
 pub bare-directions : (directions : List ℕ) → Bare (directionsFault directions)
 unfolding directionsFault directionFault
 bare-directions directions = bare-first _ (λ a. row _ 8 a 0) 0 _
-
-pub bare-range : (axis : ℕ) (nodes : List Float) (p : Float) → Bare (rangeFault axis nodes p)
-unfolding rangeFault
-bare-range axis nodes p = bare-or _ _ (row _ 10 axis 0) (row _ 10 axis 1)
 
 pub bare-readings : (readings : List Float) → Bare (readingsFault readings)
 unfolding readingsFault

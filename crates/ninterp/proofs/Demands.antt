@@ -22,11 +22,12 @@ use Rattle.table.specs.Layout.{axesOf, table, axisOf}
 use Rattle.shapes.specs.Frame.{frameFault}
 use Rattle.table.specs.Table.{axesFault, rangesFault}
 use Rattle.values.specs.Values.{valuesFault}
-use Rattle.lists.specs.Lists.{directionsFault, readingsFault, rangeFault}
+use Rattle.lists.specs.Lists.{directionsFault, readingsFault}
+use Rattle.ranges.specs.Ranges.{rangeFault}
 use Rattle.shapes.specs.declared.Shape.{Shape}
 use Rattle.table.proofs.Walks.{length-axes}
 use Rattle.table.proofs.Layouts.{tabulate-same}
-use Rattle.lists.proofs.Rows.{range-inside}
+use Rattle.ranges.proofs.Rows.{range-inside}
 use Rattle.table.proofs.Grids.{frame-axes, grid-of}
 use Rattle.order.specs.Lookups.{lookupFault, stepFault}
 use Rattle.ninterp.specs.Tables.{indices, picked, nearestRule, stepRule, nearestAnswer, stepAnswer}

@@ -28,11 +28,11 @@ use shapes::Shape;
 pub(crate) fn table_fault(shape: Shape, nodes: &[f64], values: &[f64]) -> Answer
     ensures { λ r. ⌜ r ≡ tableFault shape (now (nodes .entry)) (now (values .entry)) ⌝ }
 {
-    let fault = shapes::frame_fault(shape, nodes.len(), values.len());
+    let fault = frames::frame_fault(shape, nodes.len(), values.len());
     if fault.number != 0 {
         return fault;
     }
-    order::stored_fault(shape, nodes, values)
+    stages::stored_fault(shape, nodes, values)
 }
 
 // 8, of LinearUniform alone.
@@ -81,7 +81,7 @@ fn point_answer(kind: u8, shape: Shape, nodes: &[f64], values: &[f64], point: &[
     requires { ⌜ (good (tableFault shape (now nodes) (now values)) ≡ true) × (length (now point) ≡ shape .axes) ⌝ }
     ensures { λ r. ⌜ r ≡ ((readingsFault (now (point .entry)) or rangesFault (countsOf shape) (now (nodes .entry)) (now (point .entry))) or kindFound kind shape (now (nodes .entry)) (now (values .entry)) (now (point .entry))) ⌝ }
 {
-    let fault = order::inside_fault(shape, nodes, point);
+    let fault = stages::inside_fault(shape, nodes, point);
     if fault.number != 0 {
         return fault;
     }

@@ -2,17 +2,9 @@
 use mathlib.Core.Path.{_≡_}
 use Rattle.answer.proofs.Outcome.{one-outcome}
 use Rattle.answer.specs.declared.Answer.{Answer}
-use Rattle.order.proofs.stored_fault.Reads as stored-fault
-use Rattle.order.proofs.inside_fault.Reads as inside-fault
 use Rattle.order.proofs.lookup_fault.Reads as lookup-fault
 use Rattle.order.proofs.step_fault.Reads as step-fault
 use Rattle.order.proofs.linear_uniform_fault.Reads as linear-uniform-fault
-
-pub stored-fault-unique : (κs : _) (a : _) (r s : Answer) (x y : _) → stored-fault.Post κs a r x → stored-fault.Post κs a s y → r ≡ s
-stored-fault-unique κs a r s x y p q = one-outcome r s _ p q
-
-pub inside-fault-unique : (κs : _) (a : _) (r s : Answer) (x y : _) → inside-fault.Post κs a r x → inside-fault.Post κs a s y → r ≡ s
-inside-fault-unique κs a r s x y p q = one-outcome r s _ p q
 
 pub lookup-fault-unique : (κs : _) (a : _) (r s : Answer) (x y : _) → lookup-fault.Post κs a r x → lookup-fault.Post κs a s y → r ≡ s
 lookup-fault-unique κs a r s x y p q = one-outcome r s _ p q

@@ -1,52 +1,22 @@
 // The orders of checks that stand before a lookup: one function each, total.
 ghost use mathlib.Core.Path.{_≡_};
 ghost use Rattle.answer.specs.Answer.{_or_};
-ghost use Rattle.shapes.specs.Shape.{countsOf};
 ghost use Rattle.shapes.specs.Frame.{frameFault};
 ghost use Rattle.lent.specs.Lent.{lengthFault};
-ghost use Rattle.table.specs.Table.{axesFault, rangesFault};
-ghost use Rattle.values.specs.Values.{valuesFault};
-ghost use Rattle.lists.specs.Lists.{readingsFault};
 ghost use Rattle.order.specs.Lookups.{lookupFault, stepFault, linearUniformFault};
 use answer::Answer;
 use shapes::Shape;
-
-// ---- what the orders share
 
 // 1, 2, 3 of a table and a reading.
 fn lengths_fault(shape: Shape, nodes: usize, values: usize, point: usize) -> Answer
     ensures { λ r. ⌜ r ≡ (frameFault shape nodes values or lengthFault 2 (shape .axes) point) ⌝ }
 {
-    let fault = shapes::frame_fault(shape, nodes, values);
+    let fault = frames::frame_fault(shape, nodes, values);
     if fault.number != 0 {
         return fault;
     }
     lent::length_fault(2, shape.axes, point)
 }
-
-// 4, 5, 6; 7.
-pub fn stored_fault(shape: Shape, nodes: &[f64], values: &[f64]) -> Answer
-    ensures { λ r. ⌜ r ≡ (axesFault (countsOf shape) (now (nodes .entry)) or valuesFault (now (values .entry))) ⌝ }
-{
-    let fault = table::axes_fault(shape, nodes);
-    if fault.number != 0 {
-        return fault;
-    }
-    values::values_fault(values)
-}
-
-// 10; 11.
-pub fn inside_fault(shape: Shape, nodes: &[f64], point: &[f64]) -> Answer
-    ensures { λ r. ⌜ r ≡ (readingsFault (now (point .entry)) or rangesFault (countsOf shape) (now (nodes .entry)) (now (point .entry))) ⌝ }
-{
-    let fault = lists::readings_fault(point);
-    if fault.number != 0 {
-        return fault;
-    }
-    table::ranges_fault(shape, nodes, point)
-}
-
-// ---- before a lookup
 
 // 1, 2, 3; 4, 5, 6; 7; 10; 11.
 pub fn lookup_fault(shape: Shape, nodes: &[f64], values: &[f64], point: &[f64]) -> Answer
@@ -56,11 +26,11 @@ pub fn lookup_fault(shape: Shape, nodes: &[f64], values: &[f64], point: &[f64]) 
     if found.number != 0 {
         return found;
     }
-    let found = stored_fault(shape, nodes, values);
+    let found = stages::stored_fault(shape, nodes, values);
     if found.number != 0 {
         return found;
     }
-    inside_fault(shape, nodes, point)
+    stages::inside_fault(shape, nodes, point)
 }
 
 // The same with 3 and 9 of the directions.
@@ -81,7 +51,7 @@ pub fn step_fault(
     if lent.number != 0 {
         return lent;
     }
-    let fault = stored_fault(shape, nodes, values);
+    let fault = stages::stored_fault(shape, nodes, values);
     if fault.number != 0 {
         return fault;
     }
@@ -89,7 +59,7 @@ pub fn step_fault(
     if fault.number != 0 {
         return fault;
     }
-    inside_fault(shape, nodes, point)
+    stages::inside_fault(shape, nodes, point)
 }
 
 // The same with 8 of all axes.
@@ -100,7 +70,7 @@ pub fn linear_uniform_fault(shape: Shape, nodes: &[f64], values: &[f64], point: 
     if fault.number != 0 {
         return fault;
     }
-    let fault = stored_fault(shape, nodes, values);
+    let fault = stages::stored_fault(shape, nodes, values);
     if fault.number != 0 {
         return fault;
     }
@@ -108,5 +78,5 @@ pub fn linear_uniform_fault(shape: Shape, nodes: &[f64], values: &[f64], point: 
     if fault.number != 0 {
         return fault;
     }
-    inside_fault(shape, nodes, point)
+    stages::inside_fault(shape, nodes, point)
 }

@@ -98,3 +98,13 @@ module _ (s : Shape) (r : Answer) (e : r ≡ shapeFault s) where
   given-sizes h n v p q =
       ap (λ (a : Answer). record { answer = a; nodes = n; values = v }) e
       ∙ ap₂ (λ (n v : ℕ). record { answer = shapeFault s; nodes = n; values = v }) (orders.given-kept r (shapeFault s) e (total (countsOf s)) 0 n h p) (orders.given-kept r (shapeFault s) e (size (countsOf s)) 0 v h q)
+
+-- ---- what a judged shape holds
+module _ (s : Shape) (h : good (shapeFault s) ≡ true) (r : Holding) (e : r ≡ sizesOf s) where
+  pub holds-nodes : r .nodes ≡ total (countsOf s)
+  unfolding sizesOf
+  holds-nodes = ap (λ (x : Holding). x .nodes) e ∙ orders.given-good (shapeFault s) (total (countsOf s)) 0 h
+
+  pub holds-values : r .values ≡ size (countsOf s)
+  unfolding sizesOf
+  holds-values = ap (λ (x : Holding). x .values) e ∙ orders.given-good (shapeFault s) (size (countsOf s)) 0 h

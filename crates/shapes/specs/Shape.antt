@@ -17,7 +17,3 @@ size (n ∷ ns) = n * size ns
 unfoldable pub total : List ℕ → ℕ
 total [] = 0
 total (n ∷ ns) = n + total ns
-
--- "any .. shape it would give is zero"
-abbrev pub noShape : Shape
-noShape = record { axes = 0; counts = 0 ∷ 0 ∷ 0 ∷ 0 ∷ [] }

@@ -1,27 +1,17 @@
-// A table's shape, and 1, 2, 3: what is judged before any node or value is looked at.
+// A table's shape, 1 and 2, which judge it, and how many nodes and values it has.
 ghost use mathlib.Core.Path.{_≡_};
 ghost use Prim.Native.Nat.{ℕ, _<_, _≤_};
 ghost use lib.ListN.{getD};
 ghost use Rattle.answer.specs.Answer.{firstOf};
 ghost use Rattle.counts.specs.Counts.{countFault};
-ghost use Rattle.shapes.specs.Shape.{countsOf, noShape, size, total};
-ghost use Rattle.shapes.specs.Frame.{shapeFault, sizesOf, frameFault};
+ghost use Rattle.shapes.specs.Shape.{countsOf, size, total};
+ghost use Rattle.shapes.specs.Frame.{shapeFault, sizesOf};
 use answer::Answer;
 
 // A lent shape: how many axes, and the count of nodes of each. Counts past the axes are not looked at.
 pub struct Shape {
     pub axes: usize,
     pub counts: [usize; 4],
-}
-
-// The shape that a refusal gives.
-pub fn no_shape() -> Shape
-    ensures { λ r. ⌜ r ≡ noShape ⌝ }
-{
-    Shape {
-        axes: 0,
-        counts: [0; 4],
-    }
 }
 
 // 2 of the first bad count.
@@ -115,19 +105,4 @@ pub fn sizes(shape: Shape) -> Holding
         nodes,
         values,
     }
-}
-
-// 1, 2, 3 of a shape and the lengths of its nodes and values.
-pub fn frame_fault(shape: Shape, nodes: usize, values: usize) -> Answer
-    ensures { λ r. ⌜ r ≡ frameFault shape nodes values ⌝ }
-{
-    let fault = shape_fault(shape);
-    if fault.number != 0 {
-        return fault;
-    }
-    let fault = lent::length_fault(0, total_of(shape), nodes);
-    if fault.number != 0 {
-        return fault;
-    }
-    lent::length_fault(1, size_of(shape), values)
 }

@@ -11,7 +11,8 @@ use Rattle.answer.specs.Answer.{good}
 use Rattle.shapes.specs.Shape.{countsOf, size}
 use Rattle.table.specs.Layout.{axesOf, tabulate, without, sliceValues, nodesWithout, axisOf}
 use Rattle.lent.specs.Lent.{lengthFault}
-use Rattle.lists.specs.Lists.{directionsFault, rangeFault}
+use Rattle.lists.specs.Lists.{directionsFault}
+use Rattle.ranges.specs.Ranges.{rangeFault}
 use Rattle.shapes.specs.declared.Shape.{Shape}
 use Rattle.table.proofs.Removals.{without-comm, getD-without, getD-without-below, slices-comm, nodes-comm}
 use Rattle.ninterp.specs.Tables.{nearestRule, stepRule}

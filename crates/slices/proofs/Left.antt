@@ -27,7 +27,8 @@ use Rattle.table.specs.Layout.{axesOf, tabulate, insert, without, nodesWithout,
 use Rattle.shapes.specs.Frame.{shapeFault, frameFault}
 use Rattle.table.specs.Table.{axesFault, rangesFault}
 use Rattle.values.specs.Values.{valuesFault}
-use Rattle.lists.specs.Lists.{readingsFault, rangeFault}
+use Rattle.lists.specs.Lists.{readingsFault}
+use Rattle.ranges.specs.Ranges.{rangeFault}
 use Rattle.shapes.specs.declared.Shape.{Shape}
 use Rattle.shapes.proofs.Frames.{product-fine}
 use Rattle.table.proofs.Layouts.{length-tabulate, getD-tabulate}

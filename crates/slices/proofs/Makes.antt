@@ -16,7 +16,8 @@ use Rattle.numbers.proofs.Rows.{reading-fine}
 use Rattle.lent.proofs.Rows.{room-enough}
 use Rattle.fronts.proofs.Rows.{axis-there, first-there}
 use Rattle.values.specs.Values.{valuesFault}
-use Rattle.lists.specs.Lists.{directionsFault, rangeFault}
+use Rattle.lists.specs.Lists.{directionsFault}
+use Rattle.ranges.specs.Ranges.{rangeFault}
 use Rattle.shapes.specs.Shape.{countsOf, size}
 use Rattle.table.specs.Layout.{without, axisOf}
 use Rattle.shapes.specs.Frame.{frameFault}

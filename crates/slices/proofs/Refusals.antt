@@ -17,13 +17,14 @@ use Rattle.axis.specs.Utils.{axisLocation}
 use Rattle.axis.specs.Locations.{uniformLocation}
 use Rattle.slices.specs.LinearSlices.{linearValues, linearRest, linearSliceFault, linearUniformSliceFault}
 use Rattle.slices.specs.Slices.{shapeWithout, pointFault, nearestSliceFault, stepSliceFault, sliceAnswer}
-use Rattle.shapes.specs.Shape.{noShape}
+use Rattle.frames.specs.None.{noShape}
 use Rattle.spacing.proofs.Bares.{bare-uniform}
 use Rattle.lent.proofs.Bares.{bare-length}
 use Rattle.shapes.proofs.Bares.{bare-frame}
 use Rattle.table.proofs.Bares.{bare-axes}
 use Rattle.values.proofs.Bares.{bare-values}
-use Rattle.lists.proofs.Bares.{bare-directions, bare-range}
+use Rattle.lists.proofs.Bares.{bare-directions}
+use Rattle.ranges.proofs.Bares.{bare-range}
 use Rattle.numbers.proofs.Bares.{bare-reading}
 use Rattle.answer.proofs.Bares.{Bare, bare-or, bare-first, row}
 

@@ -20,7 +20,8 @@ use Rattle.table.specs.Layout.{axesOf, place, table, indicesAt, tabulate, Insid
 use Rattle.shapes.specs.Frame.{frameFault}
 use Rattle.table.specs.Table.{axesFault, rangesFault}
 use Rattle.values.specs.Values.{valueFault, valuesFault}
-use Rattle.lists.specs.Lists.{directionsFault, readingsFault, rangeFault}
+use Rattle.lists.specs.Lists.{directionsFault, readingsFault}
+use Rattle.ranges.specs.Ranges.{rangeFault}
 use Rattle.shapes.specs.declared.Shape.{Shape}
 use Rattle.table.proofs.Walks.{length-axes}
 use Rattle.values.proofs.Rows.{value-good, values-finite}

@@ -15,12 +15,14 @@ use Rattle.numbers.specs.Numbers.{readingFault}
 use Rattle.lent.proofs.Rows.{direction-passed, room-passed, length-passed}
 use Rattle.fronts.proofs.Rows.{axis-many, axis-in, first-many, first-axis}
 use Rattle.numbers.proofs.Rows.{reading-finite}
-use Rattle.shapes.specs.Shape.{countsOf, size, noShape}
+use Rattle.shapes.specs.Shape.{countsOf, size}
+use Rattle.frames.specs.None.{noShape}
 use Rattle.table.specs.Layout.{without, axisOf}
 use Rattle.shapes.specs.Frame.{frameFault}
 use Rattle.table.specs.Table.{axesFault, Grid}
 use Rattle.values.specs.Values.{valuesFault}
-use Rattle.lists.specs.Lists.{directionsFault, rangeFault}
+use Rattle.lists.specs.Lists.{directionsFault}
+use Rattle.ranges.specs.Ranges.{rangeFault}
 use Rattle.shapes.specs.declared.Shape.{Shape}
 use Rattle.table.proofs.Grids.{frame-shape, frame-values, grid-of}
 use Rattle.values.proofs.Rows.{values-finite}

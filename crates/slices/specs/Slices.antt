@@ -9,9 +9,10 @@ use Rattle.answer.specs.Answer.{_or_, given, filledInto}
 use Rattle.answer.specs.declared.Answer.{Answer}
 use Rattle.numbers.specs.Numbers.{readingFault}
 use Rattle.lent.specs.Lent.{roomFault}
-use Rattle.shapes.specs.Shape.{countsOf, size, noShape}
+use Rattle.shapes.specs.Shape.{countsOf, size}
+use Rattle.frames.specs.None.{noShape}
 use Rattle.table.specs.Layout.{tabulate, without, sliceValues, axisOf}
-use Rattle.lists.specs.Lists.{rangeFault}
+use Rattle.ranges.specs.Ranges.{rangeFault}
 use Rattle.shapes.specs.declared.Shape.{Shape}
 use Rattle.fronts.specs.Fronts.{nearestFront, stepFront}
 use Rattle.ninterp.specs.Tables.{nearestRule, stepRule}

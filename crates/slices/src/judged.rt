@@ -64,7 +64,7 @@ pub(crate) fn pick_judged(
     if answer.number != 0 {
         return SliceAnswer {
             answer,
-            shape: shapes::no_shape(),
+            shape: frames::no_shape(),
         };
     }
     pick_slice(shape, nodes, values, pick, axis, point, out);
@@ -115,14 +115,14 @@ pub(crate) fn linear_judged(
     if fault.number != 0 {
         return SliceAnswer {
             answer: fault,
-            shape: shapes::no_shape(),
+            shape: frames::no_shape(),
         };
     }
     let answer = along_first(uniform, shape, nodes, values, point, out);
     if answer.number != 0 {
         return SliceAnswer {
             answer,
-            shape: shapes::no_shape(),
+            shape: frames::no_shape(),
         };
     }
     SliceAnswer {

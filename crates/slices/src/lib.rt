@@ -32,7 +32,7 @@ pub fn nearest(
     if answer.number != 0 {
         return SliceAnswer {
             answer,
-            shape: shapes::no_shape(),
+            shape: frames::no_shape(),
         };
     }
     judged::pick_judged(shape, nodes, values, 2, axis, point, out)
@@ -54,7 +54,7 @@ pub fn step(
     if answer.number != 0 {
         return SliceAnswer {
             answer,
-            shape: shapes::no_shape(),
+            shape: frames::no_shape(),
         };
     }
     let pick = directions[axis];
@@ -76,7 +76,7 @@ pub fn linear(
     if answer.number != 0 {
         return SliceAnswer {
             answer,
-            shape: shapes::no_shape(),
+            shape: frames::no_shape(),
         };
     }
     judged::linear_judged(false, shape, nodes, values, point, out)
@@ -97,7 +97,7 @@ pub fn linear_uniform(
     if answer.number != 0 {
         return SliceAnswer {
             answer,
-            shape: shapes::no_shape(),
+            shape: frames::no_shape(),
         };
     }
     judged::linear_judged(true, shape, nodes, values, point, out)

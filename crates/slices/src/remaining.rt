@@ -91,7 +91,7 @@ pub(crate) fn point_fault(
     let n = counts[axis];
     let start = axis_start(counts, axis);
     let end = start + n;
-    let fault = lists::range_fault(axis, &nodes[start..end], point);
+    let fault = ranges::range_fault(axis, &nodes[start..end], point);
     if fault.number != 0 {
         return fault;
     }

@@ -8,7 +8,7 @@ use Rattle.table.specs.Layout.{axesOf}
 use Rattle.table.specs.Table.{axesFault, rangesFault}
 use Rattle.answer.proofs.Bares.{Bare, bare-first}
 use Rattle.judge.proofs.Bares.{bare-node}
-use Rattle.lists.proofs.Bares.{bare-range}
+use Rattle.ranges.proofs.Bares.{bare-range}
 
 pub bare-axes : (counts : List ℕ) (nodes : List Float) → Bare (axesFault counts nodes)
 unfolding axesFault nodesFault

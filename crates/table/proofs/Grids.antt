@@ -16,7 +16,7 @@ use Rattle.table.specs.Layout.{axesOf}
 use Rattle.shapes.specs.Frame.{shapeFault, frameFault}
 use Rattle.lent.specs.Lent.{lengthFault}
 use Rattle.table.specs.Table.{axesFault, rangesFault, Grid}
-use Rattle.lists.specs.Lists.{rangeFault}
+use Rattle.ranges.specs.Ranges.{rangeFault}
 use Rattle.shapes.specs.declared.Shape.{Shape}
 use Rattle.shapes.proofs.Frames.{shape-four, shape-enough, shape-few, shape-size}
 use Rattle.lent.proofs.Rows.{length-passed}

@@ -9,7 +9,7 @@ use Rattle.answer.specs.declared.Answer.{Answer}
 use Rattle.judge.specs.Check.{nodesFault, Axis}
 use Rattle.shapes.specs.Shape.{size, total}
 use Rattle.table.specs.Layout.{axesOf}
-use Rattle.lists.specs.Lists.{rangeFault}
+use Rattle.ranges.specs.Ranges.{rangeFault}
 
 -- "then each axis node by node (4, 5, 6 at each node)"
 unfoldable pub axesFault : List ℕ → List Float → Answer

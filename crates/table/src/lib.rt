@@ -48,8 +48,8 @@ pub fn ranges_fault(shape: Shape, nodes: &[f64], readings: &[f64]) -> Answer
     let mut a: usize = 0;
     while a < axes {
         let end = axis_end(at, counts[a], nodes.len());
-        let reading = lists::at_or_nan(readings, a);
-        let fault = lists::range_fault(a, &nodes[at..end], reading);
+        let reading = ranges::at_or_nan(readings, a);
+        let fault = ranges::range_fault(a, &nodes[at..end], reading);
         if fault.number != 0 {
             return fault;
         }

@@ -17,7 +17,8 @@ use Rattle.table.specs.Layout.{axesOf, strides, placeBy, table}
 use Rattle.shapes.specs.Frame.{shapeFault, frameFault, productRow}
 use Rattle.table.specs.Table.{axesFault, rangesFault}
 use Rattle.values.specs.Values.{valueFault, valuesFault}
-use Rattle.lists.specs.Lists.{readingsFault, rangeFault}
+use Rattle.lists.specs.Lists.{readingsFault}
+use Rattle.ranges.specs.Ranges.{rangeFault}
 use Rattle.words.specs.Words.{ofBytes, wordAt, floatAt}
 use Rattle.order.specs.Lookups.{lookupFault}
 use Rattle.blend.specs.Blend.{blended, computed}

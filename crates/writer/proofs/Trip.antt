@@ -15,7 +15,8 @@ use Rattle.answer.specs.declared.Answer.{Answer}
 use Rattle.answer.proofs.Orders as orders
 use Rattle.counts.proofs.Rows.{axes-right, count-fine}
 use Rattle.lent.proofs.Rows.{room-enough, length-same}
-use Rattle.shapes.specs.Shape.{countsOf, size, total, noShape}
+use Rattle.shapes.specs.Shape.{countsOf, size, total}
+use Rattle.frames.specs.None.{noShape}
 use Rattle.table.specs.Layout.{tabulate}
 use Rattle.shapes.specs.Frame.{shapeFault, frameFault, productRow}
 use Rattle.counts.specs.Counts.{axesCountFault}

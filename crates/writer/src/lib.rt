@@ -34,7 +34,7 @@ fn image_length(shape: Shape) -> usize
 fn write_fault(shape: Shape, nodes: &[f64], values: &[f64], room: usize) -> Answer
     ensures { λ r. ⌜ r ≡ writeFault shape (now (nodes .entry)) (now (values .entry)) room ⌝ }
 {
-    let fault = shapes::frame_fault(shape, nodes.len(), values.len());
+    let fault = frames::frame_fault(shape, nodes.len(), values.len());
     if fault.number != 0 {
         return fault;
     }

@@ -10,7 +10,7 @@ use lib.Seq.{length-take-le}
 use lib.Ieee.{nan}
 use Rattle.answer.proofs.Orders.{passes, fails, first-begin, first-step, first-stop, first-end}
 use Rattle.table.specs.Layout.{axesOf}
-use Rattle.lists.specs.Lists.{rangeFault}
+use Rattle.ranges.specs.Ranges.{rangeFault}
 use Rattle.table.specs.Table.{rangesFault}
 use Rattle.shapes.proofs.Totals.{length-ids, counts-least}
 use Rattle.table.proofs.Walks.{Walk, walk-axis, walk-on}

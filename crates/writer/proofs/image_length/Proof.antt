@@ -1,6 +1,6 @@
 use Rattle.shapes.specs.Shape.{countsOf, size, total}
-use Rattle.shapes.proofs.Frames.{shape-size}
-use Rattle.image.proofs.Floats.{holds-nodes, holds-values, total-small}
+use Rattle.shapes.proofs.Frames.{shape-size, holds-nodes, holds-values}
+use Rattle.image.proofs.Floats.{total-small}
 use Rattle.writer.specs.Made.{imageLength, valuesAt}
 use mathlib.Core.Path.{_≡_}
 use Prim.Native.Nat.{_-_, _≤_}

@@ -4,7 +4,8 @@ use Rattle.shapes.specs.Shape.{countsOf, size}
 use Rattle.shapes.specs.Frame.{sizesOf}
 use Rattle.image.specs.Image.{axesField, countField, offsetField, shapeOf}
 use Rattle.image.specs.Load.{areaFault, areasFault}
-use Rattle.image.proofs.Floats.{axes-four, size-small, holds-values}
+use Rattle.image.proofs.Floats.{axes-four, size-small}
+use Rattle.shapes.proofs.Frames.{holds-values}
 use mathlib.Core.Path.{_≡_, ap, ap₂, _∙_}
 use Prim.Native.Nat.{ℕ}
 use native.Mathlib.Omega.{arith}

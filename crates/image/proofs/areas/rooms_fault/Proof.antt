@@ -3,7 +3,7 @@ use Rattle.shapes.specs.Frame.{sizesOf}
 use Rattle.answer.proofs.Orders.{or-stops, or-goes-on}
 use Rattle.image.specs.Image.{shapeOf}
 use Rattle.image.specs.Load.{roomsFault}
-use Rattle.image.proofs.Floats.{holds-nodes, holds-values}
+use Rattle.shapes.proofs.Frames.{holds-nodes, holds-values}
 use mathlib.Core.Path.{_≡_, ap, _∙_}
 use Prim.Native.Nat.{ℕ}
 use denote.Ref.{now}

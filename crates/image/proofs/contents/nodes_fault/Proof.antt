@@ -3,7 +3,8 @@ use Rattle.shapes.specs.Shape.{countsOf, total}
 use Rattle.shapes.specs.Frame.{sizesOf}
 use Rattle.table.specs.Table.{axesFault}
 use Rattle.image.specs.Image.{shapeOf, nodesIn}
-use Rattle.image.proofs.Floats.{holds-nodes, nodes-total, front-read}
+use Rattle.image.proofs.Floats.{nodes-total, front-read}
+use Rattle.shapes.proofs.Frames.{holds-nodes}
 use mathlib.Core.Path.{_≡_, sym, ap, ap₂, _∙_}
 use mathlib.Core.List.{List}
 use Prim.Native.Nat.{_-_}

@@ -1,7 +1,8 @@
 use lib.Seq.{sets}
 use Rattle.shapes.specs.Frame.{sizesOf}
 use Rattle.image.specs.Image.{floatsAt, valuesIn}
-use Rattle.image.proofs.Floats.{size-small, holds-values}
+use Rattle.image.proofs.Floats.{size-small}
+use Rattle.shapes.proofs.Frames.{holds-values}
 use mathlib.Core.Path.{ap, ap₂, _∙_}
 use Prim.Native.Nat.{ℕ}
 use native.Mathlib.Omega.{arith}

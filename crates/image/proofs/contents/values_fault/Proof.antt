@@ -3,7 +3,8 @@ use Rattle.shapes.specs.Shape.{countsOf, size}
 use Rattle.shapes.specs.Frame.{sizesOf}
 use Rattle.values.specs.Values.{valuesFault}
 use Rattle.image.specs.Image.{shapeOf, valuesIn}
-use Rattle.image.proofs.Floats.{holds-values, values-size, front-read}
+use Rattle.image.proofs.Floats.{values-size, front-read}
+use Rattle.shapes.proofs.Frames.{holds-values}
 use mathlib.Core.Path.{_≡_, sym, ap, _∙_}
 use mathlib.Core.List.{List}
 use Prim.Native.Nat.{_-_}

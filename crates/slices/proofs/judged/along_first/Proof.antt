@@ -3,7 +3,8 @@ use Rattle.answer.specs.declared.Answer.{Answer}
 use Rattle.answer.proofs.Orders.{fine-number}
 use Prim.Native.Nat.{_/_}
 use Rattle.judge.specs.Check.{Axis}
-use Rattle.shapes.specs.Shape.{countsOf, size, total, noShape}
+use Rattle.shapes.specs.Shape.{countsOf, size, total}
+use Rattle.frames.specs.None.{noShape}
 use Rattle.table.specs.Layout.{without, axisOf}
 use Rattle.shapes.proofs.Totals.{length-ids}
 use Rattle.runs.specs.Runs.{resultsFault}

@@ -5,7 +5,7 @@ use lib.ListN.{length}
 use denote.Ref.{now}
 use mathlib.Core.List.{List}
 use Rattle.answer.proofs.Orders.{or-stops, or-goes-on}
-use Rattle.lists.specs.Lists.{rangeFault}
+use Rattle.ranges.specs.Ranges.{rangeFault}
 use Rattle.shapes.proofs.Totals.{length-ids}
 use Rattle.slices.specs.Slices.{pointFault}
 use Rattle.slices.proofs.Slices.{few-at, some-at, axis-ends, axis-lies, slice-count}

@@ -1,7 +1,7 @@
 use lib.ListN.{length-drop}
 use lib.Seq.{length-take-le}
 use Rattle.runs.specs.Runs.{blends, resultsFault, blendedInto}
-use Rattle.shapes.specs.Shape.{noShape}
+use Rattle.frames.specs.None.{noShape}
 use Rattle.slices.proofs.Sliced.{out-kept, out-written}
 use Rattle.slices.proofs.Alongs.{into-blends, length-blends}
 use mathlib.Core.Path.{_≡_, sym, ap₂, _∙_}

@@ -1,6 +1,5 @@
 use Rattle.shapes.specs.Shape.{countsOf, size}
-use Rattle.shapes.proofs.Frames.{shape-size}
-use Rattle.image.proofs.Floats.{holds-values}
+use Rattle.shapes.proofs.Frames.{shape-size, holds-values}
 use Rattle.writer.proofs.Headers.{fields-made}
 use mathlib.Core.Path.{_≡_, refl}
 use Prim.Native.Nat.{_-_, _≤_}

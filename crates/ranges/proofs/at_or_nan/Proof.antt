@@ -7,8 +7,8 @@ use native.Mathlib.Omega.{arith}
 use lib.ListN.{length, getD}
 use lib.Ieee.{Float, nan}
 use borrow.Author.Needs.{needs}
-use Rattle.lists.proofs.at_or_nan.Statement.{statement}
-use Rattle.lists.proofs.at_or_nan.Tie as tie
+use Rattle.ranges.proofs.at_or_nan.Statement.{statement}
+use Rattle.ranges.proofs.at_or_nan.Tie as tie
 
 none : (l : List Float) (i : ℕ) → length l ≤ i → getD l i nan ≡ nan
 none [] i h = refl

@@ -1,12 +1,12 @@
 use mathlib.Core.Path.{_≡_, sym, ap, _∙_}
-use Rattle.lists.proofs.Rows.{range-under, range-over, range-inside}
+use Rattle.ranges.proofs.Rows.{range-under, range-over, range-inside}
 use lib.ListN.{getD, length}
 use lib.Ieee.{Float, nan, lt}
 use Prim.Native.Nat.{ℕ, _-_}
 use denote.Ref.{now}
 use borrow.Author.Needs.{needs}
-use Rattle.lists.proofs.range_fault.Statement.{statement}
-use Rattle.lists.proofs.range_fault.Tie as tie
+use Rattle.ranges.proofs.range_fault.Statement.{statement}
+use Rattle.ranges.proofs.range_fault.Tie as tie
 
 -- the last node, as the code reads it
 last : (z : tie.After-at-or-nan2) → getD (now (z .before .before .before .before .before .args .nodes)) (length (now (z .before .before .before .before .before .args .nodes)) - 1) nan ≡ z .at-or-nan2 .result

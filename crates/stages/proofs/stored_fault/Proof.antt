@@ -1,7 +1,7 @@
 use Rattle.answer.proofs.Orders.{or-goes-on, or-stops}
 use borrow.Author.Needs.{needs}
-use Rattle.order.proofs.stored_fault.Statement.{statement}
-use Rattle.order.proofs.stored_fault.Tie as tie
+use Rattle.stages.proofs.stored_fault.Statement.{statement}
+use Rattle.stages.proofs.stored_fault.Tie as tie
 
 axes-fault-requires : tie.Need-axes-fault-requires
 axes-fault-requires c κs = search needs

@@ -1,7 +1,7 @@
 use Rattle.answer.proofs.Orders.{or-goes-on, or-stops}
 use borrow.Author.Needs.{needs}
-use Rattle.order.proofs.inside_fault.Statement.{statement}
-use Rattle.order.proofs.inside_fault.Tie as tie
+use Rattle.stages.proofs.inside_fault.Statement.{statement}
+use Rattle.stages.proofs.inside_fault.Tie as tie
 
 readings-fault-requires : tie.Need-readings-fault-requires
 readings-fault-requires c κs = search needs

@@ -1,12 +1,9 @@
 // The slices of the table of the list.
 ghost use Prim.Native.Nat.{_≤_};
 ghost use lib.ListN.{length};
-ghost use Rattle.io.specs.Counts.{Counts};
 ghost use Rattle.replay.specs.Room.{Room};
 use crate::calls;
 use crate::line;
-use crate::line::Kept;
-use crate::line::Reply;
 use crate::list;
 use crate::list::Header;
 use crate::tables;
@@ -99,74 +96,36 @@ fn make_of_fronts(call: Header, table: Table, floats: &[f64], sliced: &mut [f64]
     )
 }
 
-fn say_values(values: &[f64], count: usize, out: &mut [u8], kept: Kept) -> Kept
-    requires { ⌜ (count ≤ length (now values)) × Counts (kept .held) (now out) ⌝ }
-    ensures { λ r. ⌜ Counts (r .held) (now (out .exit)) ⌝ }
+fn say_values(values: &[f64], count: usize)
+    requires { ⌜ count ≤ length (now values) ⌝ }
 {
-    let mut kept = kept;
     let mut i: usize = 0;
     while i < count {
-        kept = line::say(Reply::Bits(values[i]), out, kept);
+        line::say_bits(values[i]);
         i += 1;
     }
-    kept
 }
 
-// Holds the answer, the values up to the last changed place, and how many places come after it.
-fn say_made(made: SliceAnswer, sliced: &[f64], out: &mut [u8], held: usize) -> Kept
-    requires { ⌜ Counts held (now out) ⌝ }
-    ensures { λ r. ⌜ Counts (r .held) (now (out .exit)) ⌝ }
-{
-    let count = changed(sliced);
-    let kept = line::say_slice(made, out, held);
-    let kept = say_values(sliced, count, out, kept);
-    line::say(Reply::Kept(sliced.len() - count), out, kept)
-}
-
-// Makes the slice in an output whose places are marked first.
-fn say_slice(
-    call: Header,
-    table: Table,
-    floats: &[f64],
-    sliced: &mut [f64],
-    out: &mut [u8],
-    kept: Kept,
-) -> Kept
+// Makes the slice in an output whose places are marked first; says the answer, the values up to the last changed place, and how many
+// places come after it.
+fn say_made(call: Header, table: Table, floats: &[f64], sliced: &mut [f64]) -> bool
     requires { ⌜ Room table (now floats) ⌝ }
-    requires { ⌜ Counts (kept .held) (now out) ⌝ }
-    ensures { λ r. ⌜ Counts (r .held) (now (out .exit)) ⌝ }
 {
     mark_all(sliced);
-    let made = make_of_fronts(call, table, floats, sliced);
-    say_made(made, sliced, out, kept.held)
+    line::say_slice(make_of_fronts(call, table, floats, sliced));
+    let count = changed(sliced);
+    say_values(sliced, count);
+    line::say_kept(sliced.len() - count)
 }
 
-// Makes the slice in the room that a header gives it.
-fn say_in_room(
-    call: Header,
-    table: Table,
-    floats: &[f64],
-    sliced: &mut [f64],
-    out: &mut [u8],
-    kept: Kept,
-) -> Kept
+// Makes the slice that a header asks for, in the room that it gives, says its lines, and tells whether to go on.
+pub(crate) fn say(call: Header, table: Table, floats: &[f64]) -> bool
     requires { ⌜ Room table (now floats) ⌝ }
-    requires { ⌜ Counts (kept .held) (now out) ⌝ }
-    ensures { λ r. ⌜ Counts (r .held) (now (out .exit)) ⌝ }
-{
-    let room = list::lower_half(call.third);
-    if room > sliced.len() {
-        return line::say(Reply::Bad, out, kept);
-    }
-    say_slice(call, table, floats, &mut sliced[..room], out, kept)
-}
-
-// Makes the slice that a header asks for, and holds its lines for output.
-pub(crate) fn say(call: Header, table: Table, floats: &[f64], out: &mut [u8], kept: Kept) -> Kept
-    requires { ⌜ Room table (now floats) ⌝ }
-    requires { ⌜ Counts (kept .held) (now out) ⌝ }
-    ensures { λ r. ⌜ Counts (r .held) (now (out .exit)) ⌝ }
 {
     let mut space = [0.0f64; tables::MOST_VALUES];
-    say_in_room(call, table, floats, &mut space, out, kept)
+    let room = list::lower_half(call.third);
+    if room > tables::MOST_VALUES {
+        return line::bad();
+    }
+    say_made(call, table, floats, &mut space[..room])
 }

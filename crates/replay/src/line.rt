@@ -1,260 +1,133 @@
-// A reply as a line of text, and the lines held for output.
-ghost use Prim.Native.Nat.{_≤_};
-ghost use lib.ListN.{length};
-ghost use Rattle.io.specs.Counts.{Counts};
+// The lines, written to standard output. What says a line tells whether to go on: whether the line's end could be written.
 use answer::Answer;
+use answer::IndexAnswer;
 use blend::AxisLocation;
 use exact::MaybeIndex;
+use exact::MaybeIndex;
 use libc::STDOUT_FILENO;
+use shapes::Shape;
 use slices::SliceAnswer;
+use utils::AxisAnswer;
+use utils::ExactAnswer;
 
-// The reply to a record, or one line of it.
-pub enum Reply {
-    // What a check answers, and a lookup.
-    Checked(Answer),
-    Answered(Answer),
-    Found(MaybeIndex),
-    Located(AxisLocation),
-    Bits(f64),
-    Kept(usize),
-    Bad,
+fn put(text: &[u8]) {
+    io::write_all(STDOUT_FILENO, text);
 }
 
-// How many bytes are held for output, and whether to go on.
-pub struct Kept {
-    pub held: usize,
-    pub go: bool,
+// Writes a text and a number.
+fn put_number(text: &[u8], number: usize) {
+    put(text);
+    io::print_decimal(STDOUT_FILENO, number as u64);
 }
 
-// Puts as many bytes as there is room for, and gives the place past them.
-fn put(bytes: &[u8], line: &mut [u8], at: usize) -> usize
-    requires { ⌜ at ≤ length (now line) ⌝ }
-    ensures { λ r. ⌜ Counts r (now (line .exit)) ⌝ }
-{
-    let count = counts::least(bytes.len(), line.len() - at);
-    let mut i: usize = 0;
-    while i < count {
-        line[at + i] = bytes[i];
-        i += 1;
-    }
-    at + count
+// Writes a text and the bits of a float.
+fn put_bits(text: &[u8], x: f64) {
+    put(text);
+    io::print_hex(STDOUT_FILENO, binary64::bits_of_float(x), 16);
 }
 
-fn put_decimal(n: u64, line: &mut [u8], at: usize) -> usize
-    requires { ⌜ at ≤ length (now line) ⌝ }
-    ensures { λ r. ⌜ Counts r (now (line .exit)) ⌝ }
-{
-    let mut digits = [0u8; 20];
-    let count = io::decimal(n, &mut digits);
-    put(&digits[..count], line, at)
+fn put_refusal(no: Answer) {
+    put_number(b"no ", no.number as usize);
+    put_number(b" ", no.axis);
+    put_number(b" ", no.place);
 }
 
-fn put_bits(x: f64, line: &mut [u8], at: usize) -> usize
-    requires { ⌜ at ≤ length (now line) ⌝ }
-    ensures { λ r. ⌜ Counts r (now (line .exit)) ⌝ }
-{
-    let mut digits = [0u8; 16];
-    let count = io::hex(binary64::bits_of_float(x), 16, &mut digits);
-    put(&digits[..count], line, at)
-}
-
-fn put_named(name: &[u8], index: usize, line: &mut [u8]) -> usize
-    ensures { λ r. ⌜ Counts r (now (line .exit)) ⌝ }
-{
-    let at = put(name, line, 0);
-    put_decimal(index as u64, line, at)
-}
-
-fn put_between(lower: usize, frac: f64, line: &mut [u8]) -> usize
-    ensures { λ r. ⌜ Counts r (now (line .exit)) ⌝ }
-{
-    let at = put_named(b"ok between ", lower, line);
-    let at = put(b" ", line, at);
-    put_bits(frac, line, at)
-}
-
-fn put_location(location: AxisLocation, line: &mut [u8]) -> usize
-    ensures { λ r. ⌜ Counts r (now (line .exit)) ⌝ }
-{
-    match location {
-        AxisLocation::Exact(index) => put_named(b"ok exact ", index, line),
-        AxisLocation::Between { lower, frac } => put_between(lower, frac, line),
-    }
-}
-
-fn put_index(index: MaybeIndex, line: &mut [u8]) -> usize
-    ensures { λ r. ⌜ Counts r (now (line .exit)) ⌝ }
-{
-    match index {
-        MaybeIndex::Some(index) => put_named(b"ok ", index, line),
-        MaybeIndex::None => put(b"ok none", line, 0),
-    }
-}
-
-fn put_count(count: usize, line: &mut [u8], at: usize) -> usize
-    requires { ⌜ at ≤ length (now line) ⌝ }
-    ensures { λ r. ⌜ Counts r (now (line .exit)) ⌝ }
-{
-    let at = put(b" ", line, at);
-    put_decimal(count as u64, line, at)
-}
-
-fn put_refusal(no: Answer, line: &mut [u8]) -> usize
-    ensures { λ r. ⌜ Counts r (now (line .exit)) ⌝ }
-{
-    let at = put_named(b"no ", no.number as usize, line);
-    let at = put_count(no.axis, line, at);
-    put_count(no.place, line, at)
-}
-
-fn put_check(answer: Answer, line: &mut [u8]) -> usize
-    ensures { λ r. ⌜ Counts r (now (line .exit)) ⌝ }
-{
+// Writes whether a call is accepted, and tells it.
+fn put_check(answer: Answer) -> bool {
     if answer.number == 0 {
-        put(b"ok", line, 0)
-    } else {
-        put_refusal(answer, line)
+        put(b"ok");
+        return true;
+    }
+    put_refusal(answer);
+    false
+}
+
+fn put_index(index: MaybeIndex) {
+    match index {
+        MaybeIndex::Some(index) => put_number(b" ", index),
+        MaybeIndex::None => put(b" none"),
     }
 }
 
-fn put_answer(answer: Answer, line: &mut [u8]) -> usize
-    ensures { λ r. ⌜ Counts r (now (line .exit)) ⌝ }
-{
-    let at = put_check(answer, line);
-    if answer.number != 0 {
-        return at;
-    }
-    let at = put(b" ", line, at);
-    put_bits(answer.value, line, at)
+fn put_between(lower: usize, frac: f64) {
+    put_number(b" between ", lower);
+    put_bits(b" ", frac);
 }
 
-fn put_counts(counts: [usize; 4], line: &mut [u8], at: usize) -> usize
-    requires { ⌜ Counts at (now line) ⌝ }
-    ensures { λ r. ⌜ Counts r (now (line .exit)) ⌝ }
-{
-    let mut end = at;
-    let mut i: usize = 0;
-    while i < 4 {
-        end = put_count(counts[i], line, end);
-        i += 1;
+fn put_location(location: AxisLocation) {
+    match location {
+        AxisLocation::Exact(index) => put_number(b" exact ", index),
+        AxisLocation::Between { lower, frac } => put_between(lower, frac),
     }
-    end
 }
 
-fn put_slice(made: SliceAnswer, line: &mut [u8]) -> usize
-    ensures { λ r. ⌜ Counts r (now (line .exit)) ⌝ }
-{
-    let at = put_check(made.answer, line);
-    let at = put(b" shape", line, at);
-    let shape = made.shape;
+fn put_shape(shape: Shape) {
     let counts = shape.counts;
-    let at = put_count(shape.axes, line, at);
-    put_counts(counts, line, at)
+    put_number(b" shape ", shape.axes);
+    put_number(b" ", counts[0]);
+    put_number(b" ", counts[1]);
+    put_number(b" ", counts[2]);
+    put_number(b" ", counts[3]);
 }
 
-fn put_rest(said: Reply, line: &mut [u8]) -> usize
-    ensures { λ r. ⌜ Counts r (now (line .exit)) ⌝ }
-{
-    match said {
-        Reply::Bits(x) => put_bits(x, line, 0),
-        Reply::Kept(count) => put_named(b"kept ", count, line),
-        _ => put(b"bad list", line, 0),
+fn end() -> bool {
+    io::write_all(STDOUT_FILENO, b"\n")
+}
+
+pub(crate) fn say_check(answer: Answer) -> bool {
+    put_check(answer);
+    end()
+}
+
+pub(crate) fn say_value(answer: Answer) -> bool {
+    if put_check(answer) {
+        put_bits(b" ", answer.value);
     }
+    end()
 }
 
-fn put_reply(said: Reply, line: &mut [u8]) -> usize
-    ensures { λ r. ⌜ Counts r (now (line .exit)) ⌝ }
-{
-    match said {
-        Reply::Checked(answer) => put_check(answer, line),
-        Reply::Answered(answer) => put_answer(answer, line),
-        Reply::Found(index) => put_index(index, line),
-        Reply::Located(location) => put_location(location, line),
-        _ => put_rest(said, line),
+pub(crate) fn say_index(found: IndexAnswer) -> bool {
+    if put_check(found.answer) {
+        put_number(b" ", found.index);
     }
+    end()
 }
 
-// Writes what is held, and tells whether it went well.
-pub(crate) fn write(out: &[u8], held: usize) -> bool
-    requires { ⌜ Counts held (now out) ⌝ }
-{
-    io::write_all(STDOUT_FILENO, &out[..held])
-}
-
-// Holds a line for output, after a write of what is held where the line has no room.
-fn hold(line: &[u8], out: &mut [u8], held: usize) -> Kept
-    requires { ⌜ Counts held (now out) ⌝ }
-    ensures { λ r. ⌜ Counts (r .held) (now (out .exit)) ⌝ }
-{
-    if line.len() <= out.len() - held {
-        let next = put(line, out, held);
-        return Kept {
-            held: next,
-            go: true,
-        };
+pub(crate) fn say_exact(found: ExactAnswer) -> bool {
+    let index = found.index;
+    if put_check(found.answer) {
+        put_index(index);
     }
-    if write(out, held) {
-        let next = put(line, out, 0);
-        Kept {
-            held: next,
-            go: true,
-        }
-    } else {
-        Kept { held: 0, go: false }
+    end()
+}
+
+pub(crate) fn say_location(found: AxisAnswer) -> bool {
+    let location = found.location;
+    if put_check(found.answer) {
+        put_location(location);
     }
+    end()
 }
 
-// Ends a line, and holds it.
-fn end(line: &mut [u8], at: usize, out: &mut [u8], held: usize) -> Kept
-    requires { ⌜ at ≤ length (now line) ⌝ }
-    requires { ⌜ Counts held (now out) ⌝ }
-    ensures { λ r. ⌜ Counts (r .held) (now (out .exit)) ⌝ }
-{
-    let end = put(b"\n", line, at);
-    hold(&line[..end], out, held)
+// Says the first line of a slice.
+pub(crate) fn say_slice(made: SliceAnswer) -> bool {
+    put_check(made.answer);
+    put_shape(made.shape);
+    end()
 }
 
-fn add(said: Reply, out: &mut [u8], held: usize) -> Kept
-    requires { ⌜ Counts held (now out) ⌝ }
-    ensures { λ r. ⌜ Counts (r .held) (now (out .exit)) ⌝ }
-{
-    let mut space = [0u8; 64];
-    let line: &mut [u8] = &mut space;
-    let at = put_reply(said, line);
-    end(line, at, out, held)
+pub(crate) fn say_bits(x: f64) -> bool {
+    put_bits(b"", x);
+    end()
 }
 
-// Holds the first line of a slice.
-pub(crate) fn say_slice(made: SliceAnswer, out: &mut [u8], held: usize) -> Kept
-    requires { ⌜ Counts held (now out) ⌝ }
-    ensures { λ r. ⌜ Counts (r .held) (now (out .exit)) ⌝ }
-{
-    // The longest line, of a slice that is refused, has 167 bytes.
-    let mut space = [0u8; 192];
-    let line: &mut [u8] = &mut space;
-    let at = put_slice(made, line);
-    end(line, at, out, held)
+pub(crate) fn say_kept(count: usize) -> bool {
+    put_number(b"kept ", count);
+    end()
 }
 
-// A bad list is not read on.
-fn goes_on(said: Reply, go: bool) -> bool {
-    match said {
-        Reply::Bad => false,
-        _ => go,
-    }
-}
-
-// Holds the line of a reply, where no line before it stopped.
-pub(crate) fn say(said: Reply, out: &mut [u8], kept: Kept) -> Kept
-    requires { ⌜ Counts (kept .held) (now out) ⌝ }
-    ensures { λ r. ⌜ Counts (r .held) (now (out .exit)) ⌝ }
-{
-    if !kept.go {
-        return kept;
-    }
-    let next = add(said, out, kept.held);
-    Kept {
-        held: next.held,
-        go: goes_on(said, next.go),
-    }
+// What stands at the end where the list is not one; it is not read on.
+pub(crate) fn bad() -> bool {
+    put(b"bad list\n");
+    false
 }

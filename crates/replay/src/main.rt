@@ -8,10 +8,7 @@ mod tables;
 ghost use mathlib.Core.Path.{_≡_};
 ghost use Prim.Native.Nat.{_≤_};
 ghost use lib.ListN.{length};
-ghost use Rattle.io.specs.Counts.{Counts};
 ghost use Rattle.replay.specs.Room.{Room};
-use line::Kept;
-use line::Reply;
 use list::Header;
 use tables::Table;
 
@@ -23,9 +20,9 @@ struct Lent {
 }
 
 fn lend_axis(call: Header, floats: &mut [f64], table: Table) -> Lent
-    requires { ⌜ 128 ≤ length (now floats) ⌝ }
+    requires { ⌜ Room table (now floats) ⌝ }
     ensures { λ r. ⌜ r .count ≤ 128 ⌝ }
-    ensures { λ r. ⌜ (r .table .nodes ≡ table .nodes) × (r .table .values ≡ table .values) ⌝ }
+    ensures { λ r. ⌜ Room (r .table) (now (floats .exit)) ⌝ }
 {
     let count = call.a as usize;
     if count > calls::MOST_NODES {
@@ -43,18 +40,6 @@ fn lend_axis(call: Header, floats: &mut [f64], table: Table) -> Lent
     }
 }
 
-// No table, where the one that a header names does not fit.
-fn lend_none(count: usize) -> Lent
-    ensures { λ r. ⌜ r .count ≡ count ⌝ }
-    ensures { λ r. ⌜ (r .table .nodes ≡ 0) × (r .table .values ≡ 0) ⌝ }
-{
-    Lent {
-        count,
-        table: tables::none(),
-        whole: false,
-    }
-}
-
 fn lend_table(call: Header, count: usize, floats: &mut [f64]) -> Lent
     requires { ⌜ 128 ≤ length (now floats) ⌝ }
     ensures { λ r. ⌜ r .count ≡ count ⌝ }
@@ -63,7 +48,11 @@ fn lend_table(call: Header, count: usize, floats: &mut [f64]) -> Lent
     let table = tables::of_header(call);
     let size = table.nodes + table.values;
     if size > floats.len() - calls::MOST_NODES {
-        return lend_none(count);
+        return Lent {
+            count,
+            table: tables::none(),
+            whole: false,
+        };
     }
     let whole = list::read_floats(size, &mut floats[calls::MOST_NODES..]);
     Lent {
@@ -88,78 +77,53 @@ fn lend(call: Header, floats: &mut [f64], lent: Lent) -> Lent
     }
 }
 
-fn answer(call: Header, floats: &[f64], count: usize) -> Reply
+// Says what a call of an axis primitive answers.
+fn say_by_axis(call: Header, floats: &[f64], count: usize) -> bool
     requires { ⌜ count ≤ length (now floats) ⌝ }
 {
-    calls::answer(&floats[..count], call)
-}
-
-// What a call answers, by the axis or by the table.
-fn reply(call: Header, lent: Lent, floats: &[f64]) -> Reply
-    requires { ⌜ lent .count ≤ 128 ⌝ }
-    requires { ⌜ Room (lent .table) (now floats) ⌝ }
-{
-    let op = call.op;
-    match op {
-        9 | 10 | 11 | 12 => tables::answer(call, lent.table, floats),
-        _ => answer(call, floats, lent.count),
-    }
+    calls::say(&floats[..count], call)
 }
 
 // A record that lends has no line, unless the list ends within it.
-fn tell_lent(whole: bool, out: &mut [u8], kept: Kept) -> Kept
-    requires { ⌜ Counts (kept .held) (now out) ⌝ }
-    ensures { λ r. ⌜ Counts (r .held) (now (out .exit)) ⌝ }
-{
+fn say_lent(whole: bool) -> bool {
     if whole {
-        return kept;
+        return true;
     }
-    line::say(Reply::Bad, out, kept)
+    line::bad()
 }
 
-// Holds what a record has to say; a slice is made here.
-fn tell(call: Header, lent: Lent, floats: &[f64], out: &mut [u8], kept: Kept) -> Kept
+// Says what a record has to say, and tells whether to go on.
+fn say(call: Header, lent: Lent, floats: &[f64]) -> bool
     requires { ⌜ lent .count ≤ 128 ⌝ }
     requires { ⌜ Room (lent .table) (now floats) ⌝ }
-    requires { ⌜ Counts (kept .held) (now out) ⌝ }
-    ensures { λ r. ⌜ Counts (r .held) (now (out .exit)) ⌝ }
 {
     let op = call.op;
     match op {
-        0 | 8 => tell_lent(lent.whole, out, kept),
-        13 | 14 | 15 | 16 => cut::say(call, lent.table, floats, out, kept),
-        256 => Kept {
-            held: kept.held,
-            go: false,
-        },
-        _ => line::say(reply(call, lent, floats), out, kept),
+        0 | 8 => say_lent(lent.whole),
+        9 | 10 | 11 | 12 => tables::say(call, lent.table, floats),
+        13 | 14 | 15 | 16 => cut::say(call, lent.table, floats),
+        256 => false,
+        _ => say_by_axis(call, floats, lent.count),
     }
 }
 
-// Answers the list, with room for what it lends and for lines: an axis lies in the first MOST_NODES places, the nodes and the values of a
-// table after them.
-fn answer_all(floats: &mut [f64], out: &mut [u8])
-    requires { ⌜ 128 ≤ length (now floats) ⌝ }
-{
+// Answers the list, with room for what it lends: an axis lies in the first MOST_NODES places, the nodes and the values of a table after
+// them.
+fn main() {
+    let mut room = [0.0f64; calls::MOST_NODES + tables::MOST_NODES + tables::MOST_VALUES];
+    let floats: &mut [f64] = &mut room;
     let mut lent = Lent {
         count: 0,
         table: tables::none(),
         whole: true,
     };
-    let mut kept = Kept { held: 0, go: true };
+    let mut go = true;
     // A proved loop has to end: more turns than any list has records.
     let mut turns = u64::MAX;
-    while turns > 0 && kept.go {
+    while turns > 0 && go {
         let call = list::read_header();
         lent = lend(call, floats, lent);
-        kept = tell(call, lent, floats, out, kept);
+        go = say(call, lent, floats);
         turns -= 1;
     }
-    line::write(out, kept.held);
-}
-
-fn main() {
-    let mut floats = [0.0f64; calls::MOST_NODES + tables::MOST_NODES + tables::MOST_VALUES];
-    let mut out = [0u8; 4096];
-    answer_all(&mut floats, &mut out);
 }

@@ -4,7 +4,7 @@ ghost use Prim.Native.Nat.{_≤_, _<_};
 ghost use lib.ListN.{length};
 ghost use Rattle.replay.specs.Room.{Room};
 use crate::calls;
-use crate::line::Reply;
+use crate::line;
 use crate::list;
 use crate::list::Header;
 use answer::Answer;
@@ -74,16 +74,9 @@ fn look_up(call: Header, shape: Shape, nodes: &[f64], values: &[f64], point: &[f
     }
 }
 
-// Looks up in the nodes and the values of the table, at the front of the readings.
-fn look_up_fronts(
-    call: Header,
-    table: Table,
-    floats: &[f64],
-    readings: &[f64],
-    count: usize,
-) -> Answer
+// Looks up in the nodes and the values of the table.
+fn look_up_fronts(call: Header, table: Table, floats: &[f64], point: &[f64]) -> Answer
     requires { ⌜ Room table (now floats) ⌝ }
-    requires { ⌜ count ≤ length (now readings) ⌝ }
 {
     let from = calls::MOST_NODES + table.nodes;
     let to = from + table.values;
@@ -92,27 +85,21 @@ fn look_up_fronts(
         table.shape,
         &floats[calls::MOST_NODES..from],
         &floats[from..to],
-        &readings[..count],
+        point,
     )
 }
 
-// Reads the readings that follow a header, and looks up.
-fn read_and_look_up(call: Header, table: Table, floats: &[f64], readings: &mut [f64]) -> Reply
-    requires { ⌜ Room table (now floats) ⌝ }
-{
-    let count = call.a as usize;
-    if count > readings.len() {
-        return Reply::Bad;
-    }
-    if !list::read_floats(count, readings) {
-        return Reply::Bad;
-    }
-    Reply::Answered(look_up_fronts(call, table, floats, readings, count))
-}
-
-pub(crate) fn answer(call: Header, table: Table, floats: &[f64]) -> Reply
+// Reads the readings that follow a header, says what the lookup answers, and tells whether to go on.
+pub(crate) fn say(call: Header, table: Table, floats: &[f64]) -> bool
     requires { ⌜ Room table (now floats) ⌝ }
 {
     let mut readings = [0.0f64; MOST_READINGS];
-    read_and_look_up(call, table, floats, &mut readings)
+    let count = call.a as usize;
+    if count > MOST_READINGS {
+        return line::bad();
+    }
+    if !list::read_floats(count, &mut readings) {
+        return line::bad();
+    }
+    line::say_value(look_up_fronts(call, table, floats, &readings[..count]))
 }

@@ -1,28 +1,25 @@
-use mathlib.Core.Path.{_≡_}
 use Prim.Native.Nat.{_-_}
-use lib.ListN.{length}
-use Rattle.io.specs.Counts.{Counts}
 use borrow.Author.Needs.{needs}
 use Rattle.replay.proofs.cut.say_values.Statement.{statement}
 use Rattle.replay.proofs.cut.say_values.Tie as tie
 
 abbrev Inv-loop : tie.InvT-loop
-Inv-loop values count out₀ kept₀ i₀ out kept i = (length out ≡ length out₀) × Counts (kept .held) out
+Inv-loop values count i₀ i = Unit {0}
 
 abbrev μ-loop : tie.MeasureT-loop
-μ-loop values count out₀ kept₀ i₀ out kept i = count - i
+μ-loop values count i₀ i = count - i
 
 loop-holds : tie.Need-loop-holds Inv-loop μ-loop
 loop-holds c = search needs
 
-mul-t8 : tie.Need-mul-t8 Inv-loop μ-loop
-mul-t8 c = search needs
+mul-say-bits : tie.Need-mul-say-bits Inv-loop μ-loop
+mul-say-bits c = search needs
 
-shared-slice-read-t10 : tie.Need-shared-slice-read-t10 Inv-loop μ-loop
-shared-slice-read-t10 c = search needs
+shared-slice-read-say-bits : tie.Need-shared-slice-read-say-bits Inv-loop μ-loop
+shared-slice-read-say-bits c = search needs
 
-say-requires : tie.Need-say-requires Inv-loop μ-loop
-say-requires c κs = search needs
+say-bits-requires : tie.Need-say-bits-requires Inv-loop μ-loop
+say-bits-requires c κs = search needs
 
 add-i : tie.Need-add-i Inv-loop μ-loop
 add-i c = search needs
@@ -32,9 +29,6 @@ loop-less c = search needs
 
 loop-again : tie.Need-loop-again Inv-loop μ-loop
 loop-again c = search needs
-
-same-length : tie.Need-same-length Inv-loop μ-loop
-same-length c = search needs
 
 returns : tie.Need-returns Inv-loop μ-loop
 returns c = search needs
@@ -46,11 +40,10 @@ say-values-spec =
     Inv-loop
     μ-loop
     loop-holds
-    mul-t8
-    shared-slice-read-t10
-    say-requires
+    mul-say-bits
+    shared-slice-read-say-bits
+    say-bits-requires
     add-i
     loop-less
     loop-again
-    same-length
     returns)

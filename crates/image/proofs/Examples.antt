@@ -16,8 +16,10 @@ use Rattle.table.specs.Table.{axesFault}
 use Rattle.shapes.specs.Frame.{productRow}
 use Rattle.values.specs.Values.{valueFault, valuesFault}
 use Rattle.words.specs.Words.{ofBytes, wordAt, floatAt}
-use Rattle.image.specs.Image.{axesField, countField, offsetField, valuesField, shapeOf, floatsAt, nodesFrom, nodesIn, valuesIn}
-use Rattle.image.specs.Load.{fieldFault, shortFault, lengthRow, startFault, countRow, offsetRow, headFault, areaFault, areasFault, roomsFault, contentsFault, loadFault}
+use Rattle.image.specs.Image.{floatsAt, nodesFrom, nodesIn, valuesIn}
+use Rattle.headers.specs.Fields.{axesField, countField, offsetField, valuesField, shapeOf}
+use Rattle.image.specs.Load.{areaFault, areasFault, roomsFault, contentsFault, loadFault}
+use Rattle.headers.specs.Head.{fieldFault, shortFault, lengthRow, startFault, countRow, offsetRow, headFault}
 
 -- 01 01 0000; length 72; counts 2 0 0 0; offsets 40 0 0 0; values at 56; zero; nodes 0.0, 2.0; values 10.0, 20.0
 abbrev pub img : List ℕ

@@ -16,7 +16,8 @@ use Rattle.shapes.specs.declared.Shape.{Shape}
 use Rattle.table.proofs.Layouts.{tabulate-same}
 use Rattle.shapes.proofs.Frames.{shape-four, shape-few, shape-size}
 use Rattle.words.specs.Words.{floatAt}
-use Rattle.image.specs.Image.{axesField, countField, offsetField, shapeOf, floatsAt, nodesFrom, nodesIn, valuesIn}
+use Rattle.image.specs.Image.{floatsAt, nodesFrom, nodesIn, valuesIn}
+use Rattle.headers.specs.Fields.{axesField, countField, offsetField, shapeOf}
 
 -- ---- a judged shape's nodes are few
 total-few : (cs : List ℕ) → ((a : ℕ) → a < length cs → getD cs a 0 ≤ 64) → total cs ≤ 64 * length cs

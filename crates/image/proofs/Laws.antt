@@ -13,9 +13,11 @@ use Rattle.table.specs.Table.{axesFault}
 use Rattle.values.specs.Values.{valuesFault}
 use Rattle.shapes.specs.declared.Shape.{Shape}
 use Rattle.shapes.proofs.Frames.{shape-four}
-use Rattle.image.specs.Image.{shapeOf, nodesIn, valuesIn}
-use Rattle.image.specs.Load.{headFault, areasFault, roomsFault, contentsFault, loadFault, loadAnswer}
-use Rattle.image.proofs.Heads.{head-shape}
+use Rattle.image.specs.Image.{nodesIn, valuesIn}
+use Rattle.headers.specs.Fields.{shapeOf}
+use Rattle.image.specs.Load.{areasFault, roomsFault, contentsFault, loadFault, loadAnswer}
+use Rattle.headers.specs.Head.{headFault}
+use Rattle.headers.proofs.Heads.{head-shape}
 
 -- every condition of the paper, in its order
 pub record Loadable (img : List ℕ) (nodes values : ℕ) : Type 0 where

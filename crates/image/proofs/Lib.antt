@@ -1,5 +1,4 @@
 pub mod Rows
-pub mod Heads
 pub mod Floats
 pub mod Loads
 pub mod Laws

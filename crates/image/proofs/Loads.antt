@@ -13,10 +13,12 @@ use Rattle.shapes.specs.Shape.{countsOf, size, total}
 use Rattle.frames.specs.None.{noShape}
 use Rattle.shapes.specs.Frame.{shapeFault}
 use Rattle.shapes.specs.declared.Shape.{Shape}
-use Rattle.image.specs.Image.{shapeOf, nodesIn, valuesIn}
-use Rattle.image.specs.Load.{headFault, areasFault, roomsFault, loadFault, loadAnswer}
+use Rattle.image.specs.Image.{nodesIn, valuesIn}
+use Rattle.headers.specs.Fields.{shapeOf}
+use Rattle.image.specs.Load.{areasFault, roomsFault, loadFault, loadAnswer}
+use Rattle.headers.specs.Head.{headFault}
 use Rattle.image.specs.declared.LoadAnswer.{LoadAnswer}
-use Rattle.image.proofs.Heads.{head-shape}
+use Rattle.headers.proofs.Heads.{head-shape}
 use Rattle.image.proofs.Floats.{nodes-total, values-size, sets-front}
 use Rattle.lent.specs.Lent.{roomFault}
 use Rattle.lent.proofs.Rows.{room-passed}

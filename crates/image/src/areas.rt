@@ -5,9 +5,8 @@ ghost use Prim.Native.Nat.{_+_, _*_, _<_, _≤_};
 ghost use lib.ListN.{length};
 ghost use Rattle.answer.specs.Answer.{good, firstOf};
 ghost use Rattle.shapes.specs.Frame.{shapeFault};
-ghost use Rattle.image.specs.Image.{countField, offsetField, shapeOf};
+ghost use Rattle.headers.specs.Fields.{countField, offsetField, shapeOf};
 ghost use Rattle.image.specs.Load.{areaFault, areasFault, roomsFault};
-use crate::header;
 use answer::Answer;
 
 // 14: an area that starts in the header or off a multiple of 8, or ends outside.
@@ -36,7 +35,12 @@ fn axes_areas_fault(img: &[u8], axes: usize) -> Answer
     let len = img.len();
     let mut a: usize = 0;
     while a < axes {
-        let fault = area_fault(len, a, header::offset_of(img, a), header::count_of(img, a));
+        let fault = area_fault(
+            len,
+            a,
+            headers::offset_of(img, a),
+            headers::count_of(img, a),
+        );
         if fault.number != 0 {
             return fault;
         }
@@ -50,13 +54,13 @@ pub(crate) fn areas_fault(img: &[u8]) -> Answer
     requires { ⌜ good (shapeFault (shapeOf (now img))) ≡ true ⌝ }
     ensures { λ r. ⌜ r ≡ areasFault (now (img .entry)) ⌝ }
 {
-    let axes = header::axes_of(img);
+    let axes = headers::axes_of(img);
     let fault = axes_areas_fault(img, axes);
     if fault.number != 0 {
         return fault;
     }
-    let held = shapes::sizes(header::shape_of(img));
-    area_fault(img.len(), axes, header::values_at(img), held.values)
+    let held = shapes::sizes(headers::shape_of(img));
+    area_fault(img.len(), axes, headers::values_at(img), held.values)
 }
 
 // 15: an output that is too short.
@@ -64,7 +68,7 @@ pub(crate) fn rooms_fault(img: &[u8], nodes: usize, values: usize) -> Answer
     requires { ⌜ good (shapeFault (shapeOf (now img))) ≡ true ⌝ }
     ensures { λ r. ⌜ r ≡ roomsFault (shapeOf (now (img .entry))) nodes values ⌝ }
 {
-    let held = shapes::sizes(header::shape_of(img));
+    let held = shapes::sizes(headers::shape_of(img));
     let fault = lent::room_fault(0, held.nodes, nodes);
     if fault.number != 0 {
         return fault;

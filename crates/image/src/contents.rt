@@ -9,9 +9,9 @@ ghost use Rattle.shapes.specs.Shape.{countsOf, size, total};
 ghost use Rattle.shapes.specs.Frame.{shapeFault};
 ghost use Rattle.table.specs.Table.{axesFault};
 ghost use Rattle.values.specs.Values.{valuesFault};
-ghost use Rattle.image.specs.Image.{shapeOf, floatsAt, nodesIn, valuesIn};
+ghost use Rattle.image.specs.Image.{floatsAt, nodesIn, valuesIn};
+ghost use Rattle.headers.specs.Fields.{shapeOf};
 ghost use Rattle.image.specs.Load.{contentsFault};
-use crate::header;
 use answer::Answer;
 
 // Reads so many floats into a part of an output.
@@ -32,12 +32,12 @@ pub(crate) fn read_nodes(img: &[u8], out: &mut [f64])
     requires { ⌜ (good (shapeFault (shapeOf (now img))) ≡ true) × (total (countsOf (shapeOf (now img))) ≤ length (now out)) ⌝ }
     ensures { λ _. ⌜ now (out .exit) ≡ sets (now (out .entry)) 0 (nodesIn (now (img .entry))) ⌝ }
 {
-    let axes = header::axes_of(img);
+    let axes = headers::axes_of(img);
     let mut to: usize = 0;
     let mut a: usize = 0;
     while a < axes {
-        let count = header::count_of(img, a);
-        let at = header::offset_of(img, a);
+        let count = headers::count_of(img, a);
+        let at = headers::offset_of(img, a);
         read_floats(img, at, out, to, count);
         to = to + count;
         a += 1;
@@ -48,8 +48,8 @@ pub(crate) fn read_values(img: &[u8], out: &mut [f64])
     requires { ⌜ (good (shapeFault (shapeOf (now img))) ≡ true) × (size (countsOf (shapeOf (now img))) ≤ length (now out)) ⌝ }
     ensures { λ _. ⌜ now (out .exit) ≡ sets (now (out .entry)) 0 (valuesIn (now (img .entry))) ⌝ }
 {
-    let held = shapes::sizes(header::shape_of(img));
-    read_floats(img, header::values_at(img), out, 0, held.values);
+    let held = shapes::sizes(headers::shape_of(img));
+    read_floats(img, headers::values_at(img), out, 0, held.values);
 }
 
 // 4, 5, 6 of the nodes, read into the front of a space.
@@ -58,7 +58,7 @@ fn nodes_fault(img: &[u8], space: &mut [f64]) -> Answer
     ensures { λ r. ⌜ r ≡ axesFault (countsOf (shapeOf (now (img .entry)))) (nodesIn (now (img .entry))) ⌝ }
 {
     read_nodes(img, space);
-    let shape = header::shape_of(img);
+    let shape = headers::shape_of(img);
     let held = shapes::sizes(shape);
     let count = held.nodes;
     let nodes: &[f64] = space;
@@ -71,7 +71,7 @@ fn values_fault(img: &[u8], space: &mut [f64]) -> Answer
     ensures { λ r. ⌜ r ≡ valuesFault (valuesIn (now (img .entry))) ⌝ }
 {
     read_values(img, space);
-    let held = shapes::sizes(header::shape_of(img));
+    let held = shapes::sizes(headers::shape_of(img));
     let count = held.values;
     let values: &[f64] = space;
     values::values_fault(&values[0..count])

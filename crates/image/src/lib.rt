@@ -7,7 +7,6 @@ ghost use Rattle.answer.specs.Answer.{filledInto};
 
 pub(crate) mod areas;
 pub(crate) mod contents;
-pub(crate) mod header;
 
 use answer::Answer;
 use shapes::Shape;
@@ -22,7 +21,7 @@ pub struct LoadAnswer {
 fn load_fault(img: &[u8], nodes: usize, values: usize) -> Answer
     ensures { λ r. ⌜ r ≡ loadFault (now (img .entry)) nodes values ⌝ }
 {
-    let fault = header::head_fault(img);
+    let fault = headers::head_fault(img);
     if fault.number != 0 {
         return fault;
     }
@@ -52,6 +51,6 @@ pub fn load(img: &[u8], nodes: &mut [f64], values: &mut [f64]) -> LoadAnswer
     contents::read_values(img, values);
     LoadAnswer {
         answer,
-        shape: header::shape_of(img),
+        shape: headers::shape_of(img),
     }
 }

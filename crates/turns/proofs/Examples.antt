@@ -23,8 +23,10 @@ use Rattle.words.specs.Words.{ofBytes, wordAt, floatAt}
 use Rattle.order.specs.Lookups.{lookupFault}
 use Rattle.blend.specs.Blend.{blended, computed}
 use Rattle.image.proofs.Examples.{img}
-use Rattle.image.specs.Image.{axesField, countField, offsetField, valuesField, shapeOf, floatsAt, nodesFrom, nodesIn, valuesIn}
-use Rattle.image.specs.Load.{fieldFault, shortFault, lengthRow, startFault, countRow, offsetRow, headFault, areaFault, areasFault, roomsFault, contentsFault, loadFault}
+use Rattle.image.specs.Image.{floatsAt, nodesFrom, nodesIn, valuesIn}
+use Rattle.headers.specs.Fields.{axesField, countField, offsetField, valuesField, shapeOf}
+use Rattle.image.specs.Load.{areaFault, areasFault, roomsFault, contentsFault, loadFault}
+use Rattle.headers.specs.Head.{fieldFault, shortFault, lengthRow, startFault, countRow, offsetRow, headFault}
 use Rattle.lines.specs.Digit.{glyphOf, digits, places, decimal}
 use Rattle.lines.specs.Line.{okLine, noLine, lineOf}
 use Rattle.lines.specs.Stream.{Rule, linesFirst, linesOf}

@@ -10,9 +10,11 @@ use Rattle.answer.specs.Answer.{good}
 use Rattle.lines.specs.Line.{lineOf}
 use Rattle.lines.specs.Stream.{linesOf}
 use Rattle.words.specs.Words.{wordAt}
-use Rattle.image.specs.Image.{shapeOf, nodesIn, valuesIn}
-use Rattle.image.specs.Load.{headFault, loadFault}
-use Rattle.image.proofs.Heads.{stated-length}
+use Rattle.image.specs.Image.{nodesIn, valuesIn}
+use Rattle.headers.specs.Fields.{shapeOf}
+use Rattle.image.specs.Load.{loadFault}
+use Rattle.headers.specs.Head.{headFault}
+use Rattle.headers.proofs.Heads.{stated-length}
 use Rattle.image.proofs.Laws.{load-means}
 use Rattle.ninterp.specs.Records.{recordRule}
 use Rattle.input.specs.Input.{imageSize, imageIn}

@@ -7,7 +7,8 @@ use Rattle.answer.specs.Answer.{good}
 use Rattle.lines.specs.Line.{lineOf}
 use Rattle.lines.specs.Stream.{linesOf}
 use Rattle.input.specs.Input.{imageSize, imageIn}
-use Rattle.image.specs.Image.{shapeOf, nodesIn, valuesIn}
+use Rattle.image.specs.Image.{nodesIn, valuesIn}
+use Rattle.headers.specs.Fields.{shapeOf}
 use Rattle.image.specs.Load.{loadFault}
 use Rattle.ninterp.specs.Records.{recordRule}
 

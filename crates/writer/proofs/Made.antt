@@ -15,7 +15,8 @@ use Rattle.table.specs.Layout.{tabulate}
 use Rattle.shapes.specs.Frame.{shapeFault}
 use Rattle.shapes.specs.declared.Shape.{Shape}
 use Rattle.shapes.proofs.Frames.{shape-four}
-use Rattle.image.specs.Image.{axesField, countField, offsetField, valuesField, shapeOf, floatsAt, nodesFrom, nodesIn, valuesIn}
+use Rattle.image.specs.Image.{floatsAt, nodesFrom, nodesIn, valuesIn}
+use Rattle.headers.specs.Fields.{axesField, countField, offsetField, valuesField, shapeOf}
 use Rattle.words.specs.Words.{wordAt}
 use Rattle.writer.specs.Made.{axisAt, valuesAt, imageLength, countIn, offsetIn, headerFields, fieldBytes, floatBytes, imageOf}
 use Rattle.writer.specs.Write.{plain}

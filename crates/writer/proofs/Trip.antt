@@ -27,12 +27,15 @@ use Rattle.shapes.specs.declared.Shape.{Shape}
 use Rattle.table.proofs.Layouts.{getD-tabulate, tabulate-same}
 use Rattle.shapes.proofs.Frames.{shape-some, shape-four, shape-enough, shape-few, shape-size}
 use Rattle.words.specs.Words.{wordAt}
-use Rattle.image.specs.Image.{axesField, countField, offsetField, valuesField, shapeOf, floatsAt, nodesFrom, nodesIn, valuesIn}
-use Rattle.image.specs.Load.{fieldFault, shortFault, startFault, countRow, offsetRow, headFault, areaFault, areasFault, roomsFault, contentsFault, loadFault, loadAnswer}
+use Rattle.image.specs.Image.{floatsAt, nodesFrom, nodesIn, valuesIn}
+use Rattle.headers.specs.Fields.{axesField, countField, offsetField, valuesField, shapeOf}
+use Rattle.image.specs.Load.{areaFault, areasFault, roomsFault, contentsFault, loadFault, loadAnswer}
+use Rattle.headers.specs.Head.{fieldFault, shortFault, startFault, countRow, offsetRow, headFault}
 use Rattle.image.proofs.Floats.{nodes-total, values-size}
-use Rattle.image.proofs.Heads.{unused-zero}
+use Rattle.headers.proofs.Heads.{unused-zero}
 use Rattle.image.proofs.Laws.{Loadable, load-means, loaded-shape}
-use Rattle.image.proofs.Rows.{field-right, short-right, length-right, area-right, count-used, count-unused}
+use Rattle.image.proofs.Rows.{area-right}
+use Rattle.headers.proofs.Rows.{field-right, short-right, length-right, count-used, count-unused}
 use Rattle.writer.specs.Made.{axisAt, imageLength, countIn, imageOf}
 use Rattle.writer.specs.Write.{writeFault, writeAnswer, plain, written}
 use Rattle.writer.proofs.Headers.{first-at, next-at, axis-after, at-before, values-after, values-end, values-before, length-small, count-in}

@@ -3,9 +3,10 @@ use Rattle.answer.specs.Answer.{good, _or_}
 use Rattle.answer.specs.declared.Answer.{Answer}
 use Rattle.answer.proofs.Orders.{passes, or-stops, or-goes-on}
 use Rattle.shapes.specs.Frame.{shapeFault}
-use Rattle.image.specs.Image.{shapeOf}
-use Rattle.image.specs.Load.{headFault, areasFault, loadFault}
-use Rattle.image.proofs.Heads.{head-shape}
+use Rattle.headers.specs.Fields.{shapeOf}
+use Rattle.image.specs.Load.{areasFault, loadFault}
+use Rattle.headers.specs.Head.{headFault}
+use Rattle.headers.proofs.Heads.{head-shape}
 use mathlib.Core.Path.{_≡_}
 use Prim.Native.Nat.{_-_}
 use denote.Ref.{now}

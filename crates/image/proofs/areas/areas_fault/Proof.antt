@@ -2,7 +2,7 @@ use Rattle.answer.specs.Answer.{firstOf}
 use Rattle.answer.proofs.Orders.{or-stops, or-goes-on}
 use Rattle.shapes.specs.Shape.{countsOf, size}
 use Rattle.shapes.specs.Frame.{sizesOf}
-use Rattle.image.specs.Image.{axesField, countField, offsetField, shapeOf}
+use Rattle.headers.specs.Fields.{axesField, countField, offsetField, shapeOf}
 use Rattle.image.specs.Load.{areaFault, areasFault}
 use Rattle.image.proofs.Floats.{axes-four, size-small}
 use Rattle.shapes.proofs.Frames.{holds-values}

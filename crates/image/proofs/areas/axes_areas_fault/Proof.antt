@@ -1,7 +1,7 @@
 use Rattle.answer.specs.Answer.{firstOf}
 use Rattle.answer.specs.declared.Answer.{Answer}
 use Rattle.answer.proofs.Orders.{passes, fails, first-begin, first-step, first-stop, first-end}
-use Rattle.image.specs.Image.{countField, offsetField}
+use Rattle.headers.specs.Fields.{countField, offsetField}
 use Rattle.image.specs.Load.{areaFault}
 use mathlib.Core.Path.{_≡_, sym, ap₂, _∙_}
 use mathlib.Core.List.{List}

@@ -1,7 +1,7 @@
 use Rattle.shapes.specs.Shape.{countsOf, total}
 use Rattle.shapes.specs.Frame.{sizesOf}
 use Rattle.answer.proofs.Orders.{or-stops, or-goes-on}
-use Rattle.image.specs.Image.{shapeOf}
+use Rattle.headers.specs.Fields.{shapeOf}
 use Rattle.image.specs.Load.{roomsFault}
 use Rattle.shapes.proofs.Frames.{holds-nodes, holds-values}
 use mathlib.Core.Path.{_≡_, ap, _∙_}

@@ -2,7 +2,8 @@ use lib.Seq.{length-sets}
 use Rattle.shapes.specs.Shape.{countsOf, total}
 use Rattle.shapes.specs.Frame.{sizesOf}
 use Rattle.table.specs.Table.{axesFault}
-use Rattle.image.specs.Image.{shapeOf, nodesIn}
+use Rattle.image.specs.Image.{nodesIn}
+use Rattle.headers.specs.Fields.{shapeOf}
 use Rattle.image.proofs.Floats.{nodes-total, front-read}
 use Rattle.shapes.proofs.Frames.{holds-nodes}
 use mathlib.Core.Path.{_≡_, sym, ap, ap₂, _∙_}

@@ -3,8 +3,9 @@ use lib.Seq.{sets, length-sets}
 use Rattle.answer.specs.Answer.{good}
 use Rattle.shapes.specs.Shape.{countsOf, total}
 use Rattle.shapes.specs.Frame.{shapeFault}
-use Rattle.image.specs.Image.{axesField, shapeOf, floatsAt, nodesFrom, nodesIn}
-use Rattle.image.proofs.Floats.{axes-four, nodes-total, nodes-length, nodes-step, nodes-end}
+use Rattle.image.specs.Image.{floatsAt, nodesFrom, nodesIn}
+use Rattle.headers.specs.Fields.{axesField, shapeOf}
+use Rattle.image.proofs.Floats.{nodes-total, nodes-length, nodes-step, nodes-end}
 use mathlib.Core.Path.{_≡_, refl, sym, ap, _∙_}
 use mathlib.Core.List.{List}
 use Prim.Native.Nat.{ℕ, _+_, _-_, _≤_}
@@ -25,9 +26,6 @@ whole : (img : List ℕ) → good (shapeFault (shapeOf img)) ≡ true → length
 unfolding nodesIn
 whole img h = nodes-total img h
 
-few : (l : tie.At-loop Inv-loop μ-loop) → l .before .axes-of .result ≤ 4
-few l = omega (arith, l .before .axes-of .ensures .0, axes-four _ (l .before .before .before .before .pre .0))
-
 -- src/contents.rt:33:9
 axes-of-requires : tie.Need-axes-of-requires Inv-loop μ-loop
 axes-of-requires c κs = search needs
@@ -42,11 +40,11 @@ loop-holds c =
 
 -- src/contents.rt:37:13
 count-of-requires : tie.Need-count-of-requires Inv-loop μ-loop
-count-of-requires c κs = omega (arith, few (c .before), c .loop-test .taken)
+count-of-requires c κs = search needs
 
 -- src/contents.rt:38:13
 offset-of-requires : tie.Need-offset-of-requires Inv-loop μ-loop
-offset-of-requires c κs = omega (arith, few (c .before .before), c .before .loop-test .taken)
+offset-of-requires c κs = search needs
 
 -- src/contents.rt:39:9
 read-floats-requires : tie.Need-read-floats-requires Inv-loop μ-loop

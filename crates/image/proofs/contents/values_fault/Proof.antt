@@ -2,7 +2,8 @@ use lib.Seq.{length-sets}
 use Rattle.shapes.specs.Shape.{countsOf, size}
 use Rattle.shapes.specs.Frame.{sizesOf}
 use Rattle.values.specs.Values.{valuesFault}
-use Rattle.image.specs.Image.{shapeOf, valuesIn}
+use Rattle.image.specs.Image.{valuesIn}
+use Rattle.headers.specs.Fields.{shapeOf}
 use Rattle.image.proofs.Floats.{values-size, front-read}
 use Rattle.shapes.proofs.Frames.{holds-values}
 use mathlib.Core.Path.{_≡_, sym, ap, _∙_}

@@ -1,7 +1,7 @@
 // The lines, written to standard output. What says a line tells whether to go on: whether the line's end could be written.
 use answer::Answer;
 use answer::IndexAnswer;
-use exact::MaybeIndex;
+use blend::AxisLocation;
 use exact::MaybeIndex;
 use libc::STDOUT_FILENO;
 use shapes::Shape;

@@ -13,13 +13,18 @@ use Rattle.answer.specs.Answer.{plusZero}
 use Rattle.judge.specs.Check.{node, gap, Axis}
 use Rattle.uniform.specs.Uniform.{uniformCell, uniformIndex}
 use Rattle.blend.specs.declared.AxisLocation.{AxisLocation}
-use Rattle.blend.specs.declared.AxisLocation.the-variants.{Between}
+use Rattle.blend.specs.declared.AxisLocation.the-variants.{Exact, Between}
 use Rattle.cells.specs.Cells.{lowerIndex}
 use Rattle.cells.proofs.Cells.{cell-inside}
 use Rattle.axis.specs.Utils.{exactOr, fraction, axisLocation}
 use Rattle.exact.specs.Exact.{exactNode}
 use Rattle.exact.specs.declared.MaybeIndex.the-variants.{Some, None}
-use Rattle.axis.specs.Locations.{uniformLocation, locationBy, locationFound, upperOf}
+use Rattle.axis.specs.Locations.{uniformLocation, locationBy, locationFound, locationIndex, upperOf}
+
+-- ---- of any location
+pub lower-upper : (p : AxisLocation) → locationIndex p ≤ upperOf p
+lower-upper (Exact node) = omega arith
+lower-upper (Between lower frac) = omega arith
 
 -- ---- on one axis
 pub cell-fits : (n : ℕ) (t : Float) → 2 ≤ n → uniformCell n t + 1 < n

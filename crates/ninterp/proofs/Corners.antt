@@ -23,13 +23,10 @@ use Rattle.blend.specs.declared.AxisLocation.the-variants.{Exact, Between}
 use Rattle.blend.proofs.Bits.{power-suc, low-corner, high-corner, fold-linear, butterfly-same}
 use Rattle.blend.proofs.Counts.{few-diffs, few-corners, more-power}
 use Rattle.axis.specs.Locations.{locationIndex, upperOf}
+use Rattle.axis.proofs.Located.{lower-upper}
 use Rattle.ninterp.specs.Locations.{Within, cornerPlace}
 
 -- ---- locations on their axes
-pub lower-upper : (p : AxisLocation) → locationIndex p ≤ upperOf p
-lower-upper (Exact node) = omega arith
-lower-upper (Between lower frac) = omega arith
-
 pub corner-inside : (ps : List AxisLocation) (cs : List ℕ) (m : ℕ) → Within ps cs → Inside (cornerAt ps m) cs
 corner-inside [] [] m w = tt
 corner-inside [] (c ∷ cs) m w = w

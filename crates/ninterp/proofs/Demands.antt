@@ -30,7 +30,8 @@ use Rattle.table.proofs.Layouts.{tabulate-same}
 use Rattle.ranges.proofs.Rows.{range-inside}
 use Rattle.table.proofs.Grids.{frame-axes, grid-of}
 use Rattle.order.specs.Lookups.{lookupFault, stepFault}
-use Rattle.ninterp.specs.Tables.{indices, picked, nearestRule, stepRule, nearestAnswer, stepAnswer}
+use Rattle.ninterp.specs.Tables.{indices, picked, nearestAnswer, stepAnswer}
+use Rattle.picks.specs.Picks.{nearestRule, stepRule}
 use Rattle.picks.specs.Rust.{rustStep}
 use Rattle.binary64.proofs.Held.{Held}
 use Rattle.picks.proofs.Nodes.{step-rust, nearest-on-node, step-on-node}

@@ -27,7 +27,8 @@ use Rattle.table.proofs.Layouts.{length-tabulate, getD-tabulate}
 use Rattle.spacing.specs.Uniform.{axesUniformFault}
 use Rattle.order.specs.Lookups.{lookupFault, stepFault, linearUniformFault}
 use Rattle.blend.specs.Blend.{computed}
-use Rattle.ninterp.specs.Tables.{picked, nearestRule, stepRule, nearestAnswer, stepAnswer, Judged, pickRule}
+use Rattle.ninterp.specs.Tables.{picked, nearestAnswer, stepAnswer, Judged}
+use Rattle.picks.specs.Picks.{nearestRule, stepRule, pickRule}
 use Rattle.ninterp.specs.Linears.{interpolated, linearAnswer, linearUniformAnswer}
 use Rattle.axis.specs.Locations.{locationBy}
 use Rattle.ninterp.specs.Records.{allOf, kindAnswer, recordSize, recordReadings, recordAnswer}

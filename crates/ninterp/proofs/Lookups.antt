@@ -4,7 +4,6 @@ use mathlib.Core.Bool.{true}
 use mathlib.Core.List.{List, []}
 use Prim.Native.Nat.{ℕ, zero, suc, _≤_, _<_}
 use native.Mathlib.Omega.{arith}
-use borrow.Author.Tests.{lt-ltb, le-ltb}
 use lib.ListN.{length, getD}
 use lib.Ieee.{Float, nan}
 use Rattle.answer.specs.Answer.{good, _or_}
@@ -27,8 +26,9 @@ use Rattle.lists.proofs.Rows.{readings-finite}
 use Rattle.picks.specs.Utils.{stepIndex}
 use Rattle.spacing.specs.Uniform.{axesUniformFault}
 use Rattle.order.specs.Lookups.{lookupFault, stepFault, linearUniformFault}
-use Rattle.picks.specs.Picks.{nearestIndex, pickIndex}
-use Rattle.ninterp.specs.Tables.{indices, picked, nearestRule, stepRule, Judged, pickRule}
+use Rattle.picks.specs.Picks.{nearestRule, stepRule, pickRule}
+use Rattle.picks.proofs.Picks.{is-step, is-nearest}
+use Rattle.ninterp.specs.Tables.{indices, picked, Judged}
 use Rattle.ninterp.specs.Kinds.{fourOf}
 
 -- ---- a judged table and reading
@@ -129,15 +129,6 @@ module _ (s : Shape) (four : length (s .counts) ≡ 4) (nodes values readings : 
     step-directions a l =
         direction-passed a (getD directions a 0)
         (orders.all-passed (λ b. directionFault b (getD directions b 0)) 0 (length directions) (orders.first-passed (directionsFault directions) point-part h4) a (omega arith) (omega (arith, step-lent)))
-
--- ---- a pick is a rule's index
-pub is-step : (pick : ℕ) (xs : List Float) (p : Float) → pick < 2 → pickIndex pick xs p ≡ stepIndex pick xs p
-unfolding pickIndex
-is-step pick xs p h = simp (lt-ltb pick 2 h)
-
-pub is-nearest : (pick : ℕ) (xs : List Float) (p : Float) → 2 ≤ pick → pickIndex pick xs p ≡ nearestIndex xs p
-unfolding pickIndex
-is-nearest pick xs p h = simp (le-ltb pick 2 h)
 
 -- one pick for all axes
 pub four-at : (x a : ℕ) → a < 4 → getD (fourOf x) a 0 ≡ x

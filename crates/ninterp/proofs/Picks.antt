@@ -15,8 +15,8 @@ use Rattle.table.specs.Table.{Grid}
 use Rattle.table.proofs.Walks.{length-axes, Walk, walk-here, walk-axis, walk-on}
 use Rattle.table.proofs.Layouts.{length-tabulate, getD-tabulate, place-below, place-step, place-fits, place-done, inside-tabulate}
 use Rattle.table.proofs.Grids.{length-axis}
-use Rattle.ninterp.specs.Tables.{indices, pickRule}
-use Rattle.picks.specs.Picks.{pickIndex, pickFound}
+use Rattle.ninterp.specs.Tables.{indices}
+use Rattle.picks.specs.Picks.{pickIndex, pickFound, pickRule}
 use Rattle.picks.proofs.Picks.{pick-fits, pick-found}
 
 -- ---- the index list lies in the table, for any rule whose indexes are of their axes

@@ -13,7 +13,8 @@ use Rattle.numbers.specs.Numbers.{resultFault}
 use Rattle.shapes.specs.Shape.{countsOf}
 use Rattle.shapes.specs.declared.Shape.{Shape}
 use Rattle.order.specs.Lookups.{lookupFault, stepFault, linearUniformFault}
-use Rattle.ninterp.specs.Tables.{nearestRule, stepRule, picked, nearestAnswer, stepAnswer}
+use Rattle.ninterp.specs.Tables.{picked, nearestAnswer, stepAnswer}
+use Rattle.picks.specs.Picks.{nearestRule, stepRule}
 use Rattle.blend.specs.Blend.{computed}
 use Rattle.axis.specs.Utils.{axisLocation}
 use Rattle.axis.specs.Locations.{uniformLocation}

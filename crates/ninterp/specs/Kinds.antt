@@ -13,7 +13,8 @@ use Rattle.table.specs.Table.{axesFault}
 use Rattle.values.specs.Values.{valuesFault}
 use Rattle.shapes.specs.declared.Shape.{Shape}
 use Rattle.blend.specs.Blend.{computed}
-use Rattle.ninterp.specs.Tables.{picked, pickRule}
+use Rattle.ninterp.specs.Tables.{picked}
+use Rattle.picks.specs.Picks.{pickRule}
 use Rattle.ninterp.specs.Linears.{interpolated}
 use Rattle.axis.specs.Locations.{locationBy}
 

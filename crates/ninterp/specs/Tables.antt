@@ -13,8 +13,7 @@ use Rattle.table.specs.Layout.{axesOf, table, tabulate}
 use Rattle.table.specs.Table.{Grid}
 use Rattle.shapes.specs.declared.Shape.{Shape}
 use Rattle.order.specs.Lookups.{lookupFault, stepFault}
-use Rattle.picks.specs.Utils.{stepIndex}
-use Rattle.picks.specs.Picks.{nearestIndex, pickIndex}
+use Rattle.picks.specs.Picks.{nearestRule, stepRule}
 
 -- a rule gives each axis an index, from the axis's number, its nodes and its reading: the stored value there
 unfoldable pub indices : (ℕ → List Float → Float → ℕ) → List (List Float) → List Float → List ℕ
@@ -22,18 +21,6 @@ indices rule axes readings = tabulate (length axes) (λ a. rule a (getD axes a [
 
 unfoldable pub picked : (ℕ → List Float → Float → ℕ) → List ℕ → List Float → List Float → List Float → Float
 picked rule counts nodes values readings = table counts values (indices rule (axesOf counts nodes) readings)
-
--- "Nearest: per axis"
-abbrev pub nearestRule : ℕ → List Float → Float → ℕ
-nearestRule a nodes p = nearestIndex nodes p
-
--- "Step: per axis, the step index; each axis has its own direction."
-abbrev pub stepRule : List ℕ → ℕ → List Float → Float → ℕ
-stepRule directions a nodes p = stepIndex (getD directions a 0) nodes p
-
--- the two in one, by the pick of each axis
-abbrev pub pickRule : List ℕ → ℕ → List Float → Float → ℕ
-pickRule picks a nodes p = pickIndex (getD picks a 0) nodes p
 
 unfoldable pub nearestAnswer : Shape → List Float → List Float → List Float → Answer
 nearestAnswer s nodes values readings = lookupFault s nodes values readings or answered (picked nearestRule (countsOf s) nodes values readings)

@@ -96,3 +96,12 @@ module _ (pick : ℕ) (xs : List Float) (p : Float) where
   pub pick-nearest : 2 ≤ length xs → 2 ≤ pick → nearestIndex xs p ≡ pickFound pick xs p
   unfolding pickFound
   pick-nearest n h = simp (le-ltb (length xs) 2 n, le-ltb pick 2 h)
+
+-- ---- a pick is a rule's index
+pub is-step : (pick : ℕ) (xs : List Float) (p : Float) → pick < 2 → pickIndex pick xs p ≡ stepIndex pick xs p
+unfolding pickIndex
+is-step pick xs p h = simp (lt-ltb pick 2 h)
+
+pub is-nearest : (pick : ℕ) (xs : List Float) (p : Float) → 2 ≤ pick → pickIndex pick xs p ≡ nearestIndex xs p
+unfolding pickIndex
+is-nearest pick xs p h = simp (le-ltb pick 2 h)

@@ -3,7 +3,7 @@ use mathlib.Core.Bool.{cond}
 use mathlib.Core.List.{List}
 use Prim.Native.Nat.{ℕ, _+_}
 use lib.Dec.{ltb}
-use lib.ListN.{length}
+use lib.ListN.{length, getD}
 use lib.Ieee.{Float, binary64, lt, sub}
 use Rattle.judge.specs.Check.{node}
 use Rattle.picks.specs.Utils.{stepIndex}
@@ -23,3 +23,15 @@ pickIndex pick nodes p = cond (ltb pick 2) (stepIndex pick nodes p) (nearestInde
 -- what the code gives, of any list at all: `rustStep` for Step, and 0 where there is no cell. On a good axis it is `pickIndex` (`pick-found`)
 unfoldable pub pickFound : ℕ → List Float → Float → ℕ
 pickFound pick nodes p = cond (ltb (length nodes) 2) 0 (cond (ltb pick 2) (rustStep pick nodes p) (nearestIndex nodes p))
+
+-- "Nearest: per axis"
+abbrev pub nearestRule : ℕ → List Float → Float → ℕ
+nearestRule a nodes p = nearestIndex nodes p
+
+-- "Step: per axis, the step index; each axis has its own direction."
+abbrev pub stepRule : List ℕ → ℕ → List Float → Float → ℕ
+stepRule directions a nodes p = stepIndex (getD directions a 0) nodes p
+
+-- the two in one, by the pick of each axis
+abbrev pub pickRule : List ℕ → ℕ → List Float → Float → ℕ
+pickRule picks a nodes p = pickIndex (getD picks a 0) nodes p

@@ -1,11 +1,5 @@
 pub mod Slices
 pub mod Sliced
-pub mod Lowered
-pub mod Left
-pub mod SliceLaw
-pub mod Makes
-pub mod Commutes
 pub mod Alongs
-pub mod LinearLaw
 pub mod Refusals
 pub mod Unique

@@ -1,8 +1,6 @@
 -- "A slice removes one axis": the slices of Nearest and Step on any axis, and what they answer and write for every input.
-use mathlib.Core.Bool.{_&&_, _||_, cond}
 use mathlib.Core.List.{List}
 use Prim.Native.Nat.{ℕ, _-_}
-use lib.Dec.{ltb, eqb}
 use lib.ListN.{length, getD}
 use lib.Ieee.{Float}
 use Rattle.answer.specs.Answer.{_or_, given, filledInto}
@@ -15,7 +13,7 @@ use Rattle.table.specs.Layout.{tabulate, without, sliceValues, axisOf}
 use Rattle.ranges.specs.Ranges.{rangeFault}
 use Rattle.shapes.specs.declared.Shape.{Shape}
 use Rattle.fronts.specs.Fronts.{nearestFront, stepFront}
-use Rattle.ninterp.specs.Tables.{nearestRule, stepRule}
+use Rattle.picks.specs.Picks.{nearestRule, stepRule}
 use Rattle.slices.specs.declared.SliceAnswer.{SliceAnswer}
 
 -- "the other axes .. stay, in their order": the shape of what is left, its unused counts zero
@@ -55,7 +53,3 @@ stepSlice s nodes values directions axis p room = sliceAnswer (stepSliceFault s 
 unfoldable pub stepSliced : Shape → List Float → List Float → List ℕ → ℕ → Float → List Float → List Float
 stepSliced s nodes values directions axis p out =
     filledInto (stepSliceFault s nodes values directions axis p (length out)) (ruleSlice (stepRule directions) s nodes values axis p) out
-
--- demand 3: "axes in 10 and 11 one lower", those above the removed one
-unfoldable pub lowered : ℕ → Answer → Answer
-lowered k a = record { number = a .number; axis = cond ((eqb (a .number) 10 || eqb (a .number) 11) && ltb k (a .axis)) (a .axis - 1) (a .axis); place = a .place; value = a .value }

@@ -12,7 +12,7 @@ use Rattle.table.specs.Layout.{sliceValues, axisOf}
 use Rattle.shapes.proofs.Totals.{length-ids}
 use Rattle.fronts.specs.Fronts.{nearestFront}
 use Rattle.slices.specs.Slices.{pointFault, nearestSliceFault, sliceAnswer, ruleSlice, nearestSlice, nearestSliced}
-use Rattle.ninterp.proofs.Lookups.{is-nearest}
+use Rattle.picks.proofs.Picks.{is-nearest}
 use Rattle.slices.proofs.Sliced.{Sliceable, nearest-sliceable, slice-refused, out-kept, front-passed, front-refused}
 use borrow.Author.Needs.{needs}
 use Rattle.slices.proofs.nearest.Statement.{statement}

@@ -12,7 +12,7 @@ use Rattle.table.specs.Layout.{sliceValues, axisOf}
 use Rattle.shapes.proofs.Totals.{length-ids}
 use Rattle.fronts.specs.Fronts.{stepFront}
 use Rattle.slices.specs.Slices.{pointFault, stepSliceFault, sliceAnswer, ruleSlice, stepSlice, stepSliced}
-use Rattle.ninterp.proofs.Lookups.{is-step}
+use Rattle.picks.proofs.Picks.{is-step}
 use Rattle.slices.proofs.Sliced.{Sliceable, step-sliceable, step-axis-lent, step-axis-direction, slice-refused, out-kept, front-passed, front-refused}
 use borrow.Author.Needs.{needs}
 use Rattle.slices.proofs.step.Statement.{statement}

@@ -15,8 +15,7 @@ use Rattle.answer.specs.Answer.{filledInto}
 use Rattle.slices.specs.LinearSlices.{alongFirst, linearValues}
 use Rattle.slices.proofs.Slices.{few-at, some-at, axis-ends, axis-lies, slice-count, part-axis, part-index, inner-some, inner-few, fill-room, fill-reads, fill-result}
 use Rattle.slices.proofs.Sliced.{out-written}
-use Rattle.axis.proofs.Located.{location-fits, location-found}
-use Rattle.ninterp.proofs.Corners.{lower-upper}
+use Rattle.axis.proofs.Located.{location-fits, location-found, lower-upper}
 use Rattle.slices.proofs.Alongs.{length-along, without-first, along-exact, along-between, runs-within, size-first, stored-finite}
 use mathlib.Core.Path.{_≡_, refl, sym, ap, ap₂, _∙_, subst}
 use mathlib.Core.List.{List, _++_}

@@ -16,7 +16,8 @@ use Rattle.blend.specs.declared.AxisLocation.{AxisLocation}
 use Rattle.blend.specs.declared.AxisLocation.the-variants.{Exact}
 use Rattle.blend.proofs.Counts.{few-diffs}
 use Rattle.axis.specs.Locations.{locationIndex, upperOf}
-use Rattle.ninterp.proofs.Corners.{lower-upper, corner-under, at-node, folded}
+use Rattle.ninterp.proofs.Corners.{corner-under, at-node, folded}
+use Rattle.axis.proofs.Located.{lower-upper}
 use borrow.Author.Needs.{needs}
 use Rattle.ninterp.proofs.interpolator.n.corners.compute.Statement.{statement}
 use Rattle.ninterp.proofs.interpolator.n.corners.compute.Tie as tie

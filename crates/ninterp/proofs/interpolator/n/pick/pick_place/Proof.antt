@@ -10,7 +10,8 @@ use Rattle.table.specs.Layout.{axesOf, place}
 use Rattle.shapes.proofs.Totals.{length-ids}
 use Rattle.table.proofs.Walks.{Walk}
 use Rattle.table.proofs.Layouts.{place-start}
-use Rattle.ninterp.specs.Tables.{indices, pickRule}
+use Rattle.ninterp.specs.Tables.{indices}
+use Rattle.picks.specs.Picks.{pickRule}
 use Rattle.ninterp.proofs.Picks.{axis-within, axis-next, flat-next, flat-fits, flat-done}
 use Rattle.ninterp.proofs.interpolator.n.pick.pick_place.Statement.{statement}
 use Rattle.ninterp.proofs.interpolator.n.pick.pick_place.Tie as tie

@@ -3,7 +3,7 @@ use native.Mathlib.Omega.{arith}
 use denote.Ref.{now}
 use Rattle.answer.specs.Answer.{answered}
 use Rattle.shapes.specs.Shape.{countsOf}
-use Rattle.ninterp.specs.Tables.{pickRule}
+use Rattle.picks.specs.Picks.{pickRule}
 use Rattle.ninterp.proofs.Lookups.{stored-at}
 use borrow.Author.Needs.{needs}
 use Rattle.ninterp.proofs.interpolator.n.pick.stored.Statement.{statement}

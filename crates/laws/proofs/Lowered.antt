@@ -9,7 +9,7 @@ use lib.Ieee.{Float}
 use Rattle.answer.specs.Answer.{plusZero, refused, answered, fine, good, when, _or_, firstOf}
 use Rattle.answer.specs.declared.Answer.{Answer}
 use Rattle.answer.proofs.Orders as orders
-use Rattle.slices.specs.Slices.{lowered}
+use Rattle.laws.specs.Lowered.{lowered}
 
 module _ (k : ℕ) where
   pub lowered-good : (a : Answer) → good (lowered k a) ≡ good a

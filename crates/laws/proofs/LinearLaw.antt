@@ -34,16 +34,17 @@ use Rattle.axis.specs.Utils.{axisLocation}
 use Rattle.axis.specs.Locations.{uniformLocation, upperOf}
 use Rattle.ninterp.specs.Linears.{locations, interpolated, linearAnswer, linearUniformAnswer}
 use Rattle.ninterp.specs.Locations.{Within}
-use Rattle.slices.specs.Slices.{shapeWithout, pointFault, lowered}
+use Rattle.slices.specs.Slices.{shapeWithout, pointFault}
+use Rattle.laws.specs.Lowered.{lowered}
 use Rattle.slices.specs.LinearSlices.{alongFirst, linearValues, linearRest, linearSliceFault, linearUniformSliceFault}
 use Rattle.slices.proofs.Alongs.{length-along}
 use Rattle.axis.proofs.Located.{location-fits}
 use Rattle.ninterp.proofs.Located.{locations-within}
 use Rattle.slices.proofs.Sliced.{FirstSliceable, linear-sliceable, linear-uniform-sliceable, point-finite, point-range}
-use Rattle.slices.proofs.Lowered as low
+use Rattle.laws.proofs.Lowered as low
 use Rattle.ninterp.proofs.Demands.{Accepted}
-use Rattle.slices.proofs.Left as over
-use Rattle.slices.proofs.Left.{Cut, core, lookup-core, uniform-core}
+use Rattle.laws.proofs.Left as over
+use Rattle.laws.proofs.Left.{Cut, core, lookup-core, uniform-core}
 
 -- ---- the rule looks at the table's own index lists alone
 sliced-same : (p : AxisLocation) (c : ℕ) (cs : List ℕ) (g h : List ℕ → Float) → upperOf p < c → ((is : List ℕ) → Inside is (c ∷ cs) → g is ≡ h is) → (is : List ℕ) → Inside is cs → sliced p g is ≡ sliced p h is

@@ -30,17 +30,18 @@ use Rattle.table.proofs.Removals.{length-without, getD-without, getD-without-be
 use Rattle.table.proofs.Grids.{length-axis}
 use Rattle.picks.specs.Utils.{stepIndex}
 use Rattle.order.specs.Lookups.{stepFault}
-use Rattle.picks.specs.Picks.{nearestIndex}
-use Rattle.ninterp.specs.Tables.{indices, picked, nearestRule, stepRule, nearestAnswer, stepAnswer}
+use Rattle.picks.specs.Picks.{nearestIndex, nearestRule, stepRule}
+use Rattle.ninterp.specs.Tables.{indices, picked, nearestAnswer, stepAnswer}
 use Rattle.fronts.specs.Fronts.{nearestFront, stepFront, noAxisFault}
-use Rattle.slices.specs.Slices.{shapeWithout, pointFault, nearestSliceFault, stepSliceFault, ruleSlice, lowered}
+use Rattle.slices.specs.Slices.{shapeWithout, pointFault, nearestSliceFault, stepSliceFault, ruleSlice}
+use Rattle.laws.specs.Lowered.{lowered}
 use Rattle.picks.proofs.Picks.{step-fits, nearest-fits}
 use Rattle.ninterp.proofs.Picks.{list-inside}
 use Rattle.slices.proofs.Sliced.{Sliceable, nearest-sliceable, step-sliceable, step-axis-lent, point-finite, point-range}
-use Rattle.slices.proofs.Lowered as low
+use Rattle.laws.proofs.Lowered as low
 use Rattle.ninterp.proofs.Demands.{Accepted}
-use Rattle.slices.proofs.Left as over
-use Rattle.slices.proofs.Left.{Cut, core, skip, regroup, lookup-core}
+use Rattle.laws.proofs.Left as over
+use Rattle.laws.proofs.Left.{Cut, core, skip, regroup, lookup-core}
 
 -- ---- what is known of a slice that was made
 pub record Made (s : Shape) (nodes values : List Float) (k : ℕ) (p : Float) (rule : ℕ → List Float → Float → ℕ) : Type 0 where

@@ -15,14 +15,14 @@ use Rattle.lists.specs.Lists.{directionsFault}
 use Rattle.ranges.specs.Ranges.{rangeFault}
 use Rattle.shapes.specs.declared.Shape.{Shape}
 use Rattle.table.proofs.Removals.{without-comm, getD-without, getD-without-below, slices-comm, nodes-comm}
-use Rattle.ninterp.specs.Tables.{nearestRule, stepRule}
+use Rattle.picks.specs.Picks.{nearestRule, stepRule}
 use Rattle.slices.specs.Slices.{shapeWithout, nearestSliceFault, stepSliceFault, ruleSlice}
 use Rattle.ninterp.proofs.Demands.{Accepted}
-use Rattle.slices.proofs.Lowered as low
-use Rattle.slices.proofs.SliceLaw as law
-use Rattle.slices.proofs.Left as over
-use Rattle.slices.proofs.SliceLaw.{Made}
-use Rattle.slices.proofs.Makes.{nearest-slice-made, step-slice-made}
+use Rattle.laws.proofs.Lowered as low
+use Rattle.laws.proofs.SliceLaw as law
+use Rattle.laws.proofs.Left as over
+use Rattle.laws.proofs.SliceLaw.{Made}
+use Rattle.laws.proofs.Makes.{nearest-slice-made, step-slice-made}
 
 -- ---- the second slice, after one on axis k
 module _ (s : Shape) (four : length (s .counts) ≡ 4) (nodes values : List Float) (k : ℕ) (p : Float) (rule : ℕ → List Float → Float → ℕ) (made : Made s nodes values k p rule) where

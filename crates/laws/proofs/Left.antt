@@ -37,9 +37,10 @@ use Rattle.table.proofs.Grids.{length-axis}
 use Rattle.lists.proofs.Rows.{readings-finite}
 use Rattle.spacing.specs.Uniform.{axesUniformFault}
 use Rattle.order.specs.Lookups.{lookupFault, linearUniformFault}
-use Rattle.slices.specs.Slices.{shapeWithout, lowered}
+use Rattle.slices.specs.Slices.{shapeWithout}
+use Rattle.laws.specs.Lowered.{lowered}
 use Rattle.slices.proofs.Sliced.{Sliceable}
-use Rattle.slices.proofs.Lowered as low
+use Rattle.laws.proofs.Lowered as low
 use Rattle.ninterp.proofs.Demands.{Accepted}
 
 -- ---- 11 of one axis, lowered

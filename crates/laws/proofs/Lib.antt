@@ -1,0 +1,6 @@
+pub mod Lowered
+pub mod Left
+pub mod SliceLaw
+pub mod Makes
+pub mod Commutes
+pub mod LinearLaw

@@ -6,8 +6,8 @@ use native.Mathlib.Nat.{add-mul-div-right, add-div-right, div-eq-of-lt, pow-suc,
 use native.Mathlib.Omega.{arith}
 use lib.ListN.{length, getD}
 use lib.Ieee.{Float, nan}
-use Rattle.table.specs.Layout.{tabulate}
-use Rattle.table.proofs.Layouts.{getD-tabulate, tabulate-same}
+use Rattle.layout.specs.Layout.{tabulate}
+use Rattle.layout.proofs.Layouts.{getD-tabulate, tabulate-same}
 use Rattle.blend.specs.Blend.{blended, sliced, linear}
 use Rattle.blend.specs.Rust.{view, lowers, diffs, corner, corners, passed, butterfly, rustLinear}
 use Rattle.blend.specs.Corners.{cornerAt}

@@ -3,7 +3,7 @@ use mathlib.Core.List.{List, [], _∷_}
 use Prim.Native.Nat.{ℕ, _+_, _/_, _%_, _^_}
 use lib.ListN.{length, getD}
 use lib.Ieee.{Float, nan}
-use Rattle.table.specs.Layout.{tabulate}
+use Rattle.layout.specs.Layout.{tabulate}
 use Rattle.blend.specs.Blend.{blended}
 use Rattle.blend.specs.declared.AxisLocation.{AxisLocation}
 use Rattle.blend.specs.declared.AxisLocation.the-variants.{Exact, Between}

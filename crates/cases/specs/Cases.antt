@@ -28,7 +28,7 @@ use Rattle.ninterp.specs.Linears.{locations, interpolated, linearAnswer}
 use Rattle.slices.specs.Slices.{shapeWithout, pointFault, sliceAnswer}
 use Rattle.slices.specs.LinearSlices.{alongFirst, linearValues, linearRest, linearSliceFault, linearSlice, linearSliced}
 use Rattle.shapes.specs.Shape.{size, total}
-use Rattle.table.specs.Layout.{axesOf, strides, placeBy, table, indicesAt}
+use Rattle.layout.specs.Layout.{axesOf, strides, placeBy, table, indicesAt}
 use Rattle.shapes.specs.Frame.{shapeFault, frameFault, productRow}
 use Rattle.table.specs.Table.{axesFault, rangesFault}
 use Rattle.values.specs.Values.{valueFault, valuesFault}

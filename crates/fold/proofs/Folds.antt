@@ -7,8 +7,8 @@ use native.Mathlib.Omega.{arith}
 use lib.ListN.{length, take, drop, getD, set, List·getD-append}
 use lib.Seq.{getD-append-add, getD-drop}
 use lib.Ieee.{Float, nan}
-use Rattle.table.specs.Layout.{tabulate}
-use Rattle.table.proofs.Layouts.{length-tabulate, tabulate-step}
+use Rattle.layout.specs.Layout.{tabulate}
+use Rattle.layout.proofs.Layouts.{length-tabulate, tabulate-step}
 use Rattle.shapes.proofs.Totals.{ahead, past}
 use Rattle.blend.specs.Blend.{blended}
 use Rattle.blend.specs.Rust.{diffs, passed, butterfly}

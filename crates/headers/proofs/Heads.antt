@@ -12,10 +12,10 @@ use Rattle.answer.proofs.Orders as orders
 use Rattle.counts.specs.Counts.{axesCountFault, countFault}
 use Rattle.counts.proofs.Rows.{axes-four}
 use Rattle.answer.proofs.Tests.{not-false, and-left, and-right}
-use Rattle.table.specs.Layout.{tabulate}
+use Rattle.layout.specs.Layout.{tabulate}
 use Rattle.shapes.specs.Frame.{shapeFault, productRow}
 use Rattle.shapes.specs.declared.Shape.{Shape}
-use Rattle.table.proofs.Layouts.{getD-tabulate}
+use Rattle.layout.proofs.Layouts.{getD-tabulate}
 use Rattle.words.specs.Words.{wordAt}
 use Rattle.headers.specs.Fields.{axesField, countField, shapeOf}
 use Rattle.headers.specs.Head.{fieldFault, shortFault, lengthRow, startFault, countRow, headFault}

@@ -1,7 +1,7 @@
 -- "The image": the fields of the header.
 use mathlib.Core.List.{List}
 use Prim.Native.Nat.{ℕ, _+_, _*_}
-use Rattle.table.specs.Layout.{tabulate}
+use Rattle.layout.specs.Layout.{tabulate}
 use Rattle.shapes.specs.declared.Shape.{Shape}
 use Rattle.words.specs.Words.{wordAt}
 

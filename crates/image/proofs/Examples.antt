@@ -11,7 +11,7 @@ use Rattle.lent.specs.Lent.{roomFault}
 use Rattle.numbers.specs.Numbers.{finiteFault}
 use Rattle.judge.specs.Check.{riseFault, nodeFault, nodesFault}
 use Rattle.shapes.specs.Shape.{size, total}
-use Rattle.table.specs.Layout.{axesOf}
+use Rattle.layout.specs.Layout.{axesOf}
 use Rattle.table.specs.Table.{axesFault}
 use Rattle.shapes.specs.Frame.{productRow}
 use Rattle.values.specs.Values.{valueFault, valuesFault}

@@ -10,10 +10,10 @@ use lib.Seq.{sets, sets-eq, take-at, getD-take}
 use lib.Ieee.{Float}
 use Rattle.answer.specs.Answer.{good}
 use Rattle.shapes.specs.Shape.{countsOf, size, total}
-use Rattle.table.specs.Layout.{tabulate}
+use Rattle.layout.specs.Layout.{tabulate}
 use Rattle.shapes.specs.Frame.{shapeFault}
 use Rattle.shapes.specs.declared.Shape.{Shape}
-use Rattle.table.proofs.Layouts.{tabulate-same}
+use Rattle.layout.proofs.Layouts.{tabulate-same}
 use Rattle.shapes.proofs.Frames.{shape-four, shape-few, shape-size}
 use Rattle.words.specs.Words.{floatAt}
 use Rattle.image.specs.Image.{floatsAt, nodesFrom, nodesIn, valuesIn}

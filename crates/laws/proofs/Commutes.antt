@@ -9,12 +9,12 @@ use lib.Ieee.{Float}
 use lib.Ieee.Scale.{finite}
 use Rattle.answer.specs.Answer.{good}
 use Rattle.shapes.specs.Shape.{countsOf, size}
-use Rattle.table.specs.Layout.{axesOf, tabulate, without, sliceValues, nodesWithout, axisOf}
+use Rattle.layout.specs.Layout.{axesOf, tabulate, without, sliceValues, nodesWithout, axisOf}
 use Rattle.lent.specs.Lent.{lengthFault}
 use Rattle.lists.specs.Lists.{directionsFault}
 use Rattle.ranges.specs.Ranges.{rangeFault}
 use Rattle.shapes.specs.declared.Shape.{Shape}
-use Rattle.table.proofs.Removals.{without-comm, getD-without, getD-without-below, slices-comm, nodes-comm}
+use Rattle.layout.proofs.Removals.{without-comm, getD-without, getD-without-below, slices-comm, nodes-comm}
 use Rattle.picks.specs.Picks.{nearestRule, stepRule}
 use Rattle.slices.specs.Slices.{shapeWithout, nearestSliceFault, stepSliceFault, ruleSlice}
 use Rattle.ninterp.proofs.Demands.{Accepted}

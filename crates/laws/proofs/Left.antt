@@ -23,7 +23,7 @@ use Rattle.lent.proofs.Rows.{length-same, length-passed}
 use Rattle.judge.proofs.Rows.{nodes-fine}
 use Rattle.numbers.proofs.Rows.{reading-fine}
 use Rattle.shapes.specs.Shape.{countsOf, size, total}
-use Rattle.table.specs.Layout.{axesOf, tabulate, insert, without, nodesWithout, axisOf}
+use Rattle.layout.specs.Layout.{axesOf, tabulate, insert, without, nodesWithout, axisOf}
 use Rattle.shapes.specs.Frame.{shapeFault, frameFault}
 use Rattle.table.specs.Table.{axesFault, rangesFault}
 use Rattle.values.specs.Values.{valuesFault}
@@ -31,8 +31,8 @@ use Rattle.lists.specs.Lists.{readingsFault}
 use Rattle.ranges.specs.Ranges.{rangeFault}
 use Rattle.shapes.specs.declared.Shape.{Shape}
 use Rattle.shapes.proofs.Frames.{product-fine}
-use Rattle.table.proofs.Layouts.{length-tabulate, getD-tabulate}
-use Rattle.table.proofs.Removals.{size-split, size-without, length-without, getD-without, getD-without-below, axes-without, total-without, length-insert, getD-insert, getD-insert-below, getD-insert-above}
+use Rattle.layout.proofs.Layouts.{length-tabulate, getD-tabulate}
+use Rattle.layout.proofs.Removals.{size-split, size-without, length-without, getD-without, getD-without-below, axes-without, total-without, length-insert, getD-insert, getD-insert-below, getD-insert-above}
 use Rattle.table.proofs.Grids.{length-axis}
 use Rattle.lists.proofs.Rows.{readings-finite}
 use Rattle.spacing.specs.Uniform.{axesUniformFault}

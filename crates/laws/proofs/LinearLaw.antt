@@ -13,15 +13,15 @@ use Rattle.judge.specs.Check.{Axis, gap}
 use Rattle.numbers.specs.Numbers.{resultFault}
 use Rattle.answer.proofs.Tests.{not-false}
 use Rattle.shapes.specs.Shape.{countsOf, size}
-use Rattle.table.specs.Layout.{axesOf, place, table, tabulate, indicesAt, Inside, insert, without, nodesWithout, axisOf}
+use Rattle.layout.specs.Layout.{axesOf, place, table, tabulate, indicesAt, Inside, insert, without, nodesWithout, axisOf}
 use Rattle.shapes.specs.Frame.{frameFault}
 use Rattle.table.specs.Table.{axesFault}
 use Rattle.values.specs.Values.{valueFault, valuesFault}
 use Rattle.shapes.specs.declared.Shape.{Shape}
-use Rattle.table.proofs.Walks.{length-axes}
+use Rattle.layout.proofs.Walks.{length-axes}
 use Rattle.values.proofs.Rows.{value-good}
-use Rattle.table.proofs.Layouts.{getD-tabulate, place-below}
-use Rattle.table.proofs.Removals.{indices-back, tabulate-insert, length-without, getD-insert-above}
+use Rattle.layout.proofs.Layouts.{getD-tabulate, place-below}
+use Rattle.layout.proofs.Removals.{indices-back, tabulate-insert, length-without, getD-insert-above}
 use Rattle.grids.specs.Uniform.{apart, gapFault, uniformFault, toleranceOf, defaultFault}
 use Rattle.spacing.specs.Uniform.{axesUniformFault}
 use Rattle.grids.specs.declared.Tolerance.the-variants.{Default}

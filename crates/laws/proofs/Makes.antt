@@ -19,7 +19,7 @@ use Rattle.values.specs.Values.{valuesFault}
 use Rattle.lists.specs.Lists.{directionsFault}
 use Rattle.ranges.specs.Ranges.{rangeFault}
 use Rattle.shapes.specs.Shape.{countsOf, size}
-use Rattle.table.specs.Layout.{without, axisOf}
+use Rattle.layout.specs.Layout.{without, axisOf}
 use Rattle.shapes.specs.Frame.{frameFault}
 use Rattle.table.specs.Table.{axesFault}
 use Rattle.shapes.specs.declared.Shape.{Shape}

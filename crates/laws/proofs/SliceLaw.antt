@@ -16,17 +16,17 @@ use Rattle.judge.specs.Check.{Axis}
 use Rattle.lent.specs.Lent.{directionFault, lengthFault}
 use Rattle.lent.proofs.Rows.{direction-fine, direction-passed, length-same}
 use Rattle.shapes.specs.Shape.{countsOf, size}
-use Rattle.table.specs.Layout.{axesOf, place, table, indicesAt, tabulate, Inside, insert, without, sliceValues, nodesWithout, axisOf}
+use Rattle.layout.specs.Layout.{axesOf, place, table, indicesAt, tabulate, Inside, insert, without, sliceValues, nodesWithout, axisOf}
 use Rattle.shapes.specs.Frame.{frameFault}
 use Rattle.table.specs.Table.{axesFault, rangesFault}
 use Rattle.values.specs.Values.{valueFault, valuesFault}
 use Rattle.lists.specs.Lists.{directionsFault, readingsFault}
 use Rattle.ranges.specs.Ranges.{rangeFault}
 use Rattle.shapes.specs.declared.Shape.{Shape}
-use Rattle.table.proofs.Walks.{length-axes}
+use Rattle.layout.proofs.Walks.{length-axes}
 use Rattle.values.proofs.Rows.{value-good, values-finite}
-use Rattle.table.proofs.Layouts.{getD-tabulate, place-below, indices-inside}
-use Rattle.table.proofs.Removals.{length-without, getD-without, getD-without-below, length-slice, insert-inside, getD-insert, getD-insert-below, getD-insert-above, tabulate-insert, slice-law}
+use Rattle.layout.proofs.Layouts.{getD-tabulate, place-below, indices-inside}
+use Rattle.layout.proofs.Removals.{length-without, getD-without, getD-without-below, length-slice, insert-inside, getD-insert, getD-insert-below, getD-insert-above, tabulate-insert, slice-law}
 use Rattle.table.proofs.Grids.{length-axis}
 use Rattle.picks.specs.Utils.{stepIndex}
 use Rattle.order.specs.Lookups.{stepFault}

@@ -12,9 +12,9 @@ use lib.Seq.{getD-set-same, getD-set-other}
 use borrow.Author.Tests.{ltb-true, ltb-false}
 use lib.Ieee.{Float, nan}
 use Rattle.shapes.specs.Shape.{size}
-use Rattle.table.specs.Layout.{place, table, tabulate, Inside}
+use Rattle.layout.specs.Layout.{place, table, tabulate, Inside}
 use Rattle.shapes.proofs.Totals.{ahead, past}
-use Rattle.table.proofs.Layouts.{place-cons, place-none, size-cons, size-nil, place-below, getD-tabulate}
+use Rattle.layout.proofs.Layouts.{place-cons, place-none, size-cons, size-nil, place-below, getD-tabulate}
 use Rattle.blend.specs.Blend.{linear}
 use Rattle.blend.specs.Rust.{diffs, butterfly}
 use Rattle.blend.specs.Corners.{cornerAt, moreCorners}

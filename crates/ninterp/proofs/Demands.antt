@@ -18,15 +18,15 @@ use Rattle.lent.specs.Lent.{directionFault, lengthFault}
 use Rattle.numbers.proofs.Rows.{reading-fine}
 use Rattle.lent.proofs.Rows.{direction-fine, length-same}
 use Rattle.shapes.specs.Shape.{countsOf}
-use Rattle.table.specs.Layout.{axesOf, table, axisOf}
+use Rattle.layout.specs.Layout.{axesOf, table, axisOf}
 use Rattle.shapes.specs.Frame.{frameFault}
 use Rattle.table.specs.Table.{axesFault, rangesFault}
 use Rattle.values.specs.Values.{valuesFault}
 use Rattle.lists.specs.Lists.{directionsFault, readingsFault}
 use Rattle.ranges.specs.Ranges.{rangeFault}
 use Rattle.shapes.specs.declared.Shape.{Shape}
-use Rattle.table.proofs.Walks.{length-axes}
-use Rattle.table.proofs.Layouts.{tabulate-same}
+use Rattle.layout.proofs.Walks.{length-axes}
+use Rattle.layout.proofs.Layouts.{tabulate-same}
 use Rattle.ranges.proofs.Rows.{range-inside}
 use Rattle.table.proofs.Grids.{frame-axes, grid-of}
 use Rattle.order.specs.Lookups.{lookupFault, stepFault}

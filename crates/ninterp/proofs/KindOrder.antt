@@ -17,13 +17,13 @@ use Rattle.lent.proofs.Rows.{direction-fine, length-same}
 use Rattle.shapes.specs.Shape.{countsOf}
 use Rattle.shapes.specs.Frame.{frameFault}
 use Rattle.table.specs.Table.{axesFault, rangesFault}
-use Rattle.table.specs.Layout.{tabulate}
+use Rattle.layout.specs.Layout.{tabulate}
 use Rattle.values.specs.Values.{valuesFault}
 use Rattle.lists.specs.Lists.{directionsFault, readingsFault}
 use Rattle.shapes.specs.declared.Shape.{Shape}
 use Rattle.shapes.proofs.Frames.{shape-four}
 use Rattle.table.proofs.Grids.{frame-shape}
-use Rattle.table.proofs.Layouts.{length-tabulate, getD-tabulate}
+use Rattle.layout.proofs.Layouts.{length-tabulate, getD-tabulate}
 use Rattle.spacing.specs.Uniform.{axesUniformFault}
 use Rattle.order.specs.Lookups.{lookupFault, stepFault, linearUniformFault}
 use Rattle.blend.specs.Blend.{computed}

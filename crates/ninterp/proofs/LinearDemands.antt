@@ -13,15 +13,15 @@ use Rattle.judge.specs.Check.{node}
 use Rattle.numbers.specs.Numbers.{resultFault}
 use Rattle.numbers.proofs.Rows.{result-wild, result-fine}
 use Rattle.shapes.specs.Shape.{countsOf, size}
-use Rattle.table.specs.Layout.{axesOf, place, table, tabulate, axisOf}
+use Rattle.layout.specs.Layout.{axesOf, place, table, tabulate, axisOf}
 use Rattle.shapes.specs.Frame.{frameFault}
 use Rattle.lent.specs.Lent.{lengthFault}
 use Rattle.table.specs.Table.{axesFault, rangesFault}
 use Rattle.values.specs.Values.{valuesFault}
 use Rattle.lists.specs.Lists.{readingsFault}
 use Rattle.shapes.specs.declared.Shape.{Shape}
-use Rattle.table.proofs.Walks.{length-axes}
-use Rattle.table.proofs.Layouts.{tabulate-same, place-below}
+use Rattle.layout.proofs.Walks.{length-axes}
+use Rattle.layout.proofs.Layouts.{tabulate-same, place-below}
 use Rattle.values.proofs.Rows.{values-finite}
 use Rattle.table.proofs.Grids.{frame-values, grid-of}
 use Rattle.spacing.specs.Uniform.{axesUniformFault}

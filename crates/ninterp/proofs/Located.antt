@@ -6,9 +6,9 @@ use native.Mathlib.Omega.{arith}
 use lib.ListN.{length, take, getD}
 use lib.Ieee.{Float, nan, fits}
 use Rattle.shapes.specs.Shape.{total}
-use Rattle.table.specs.Layout.{axesOf, tabulate}
-use Rattle.table.proofs.Walks.{length-axes}
-use Rattle.table.proofs.Layouts.{length-tabulate}
+use Rattle.layout.specs.Layout.{axesOf, tabulate}
+use Rattle.layout.proofs.Walks.{length-axes}
+use Rattle.layout.proofs.Layouts.{length-tabulate}
 use Rattle.table.proofs.Grids.{length-axis}
 use Rattle.blend.specs.declared.AxisLocation.{AxisLocation}
 use Rattle.ninterp.specs.Linears.{locations}

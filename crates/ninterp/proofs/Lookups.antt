@@ -12,15 +12,15 @@ use Rattle.answer.proofs.Orders as orders
 use Rattle.lent.specs.Lent.{directionFault, lengthFault}
 use Rattle.lent.proofs.Rows.{direction-passed, length-passed}
 use Rattle.shapes.specs.Shape.{countsOf}
-use Rattle.table.specs.Layout.{axesOf, place, table}
+use Rattle.layout.specs.Layout.{axesOf, place, table}
 use Rattle.shapes.specs.Frame.{frameFault}
 use Rattle.table.specs.Table.{axesFault, rangesFault}
 use Rattle.values.specs.Values.{valuesFault}
 use Rattle.lists.specs.Lists.{directionsFault, readingsFault}
 use Rattle.shapes.specs.declared.Shape.{Shape}
-use Rattle.table.proofs.Walks.{length-axes}
+use Rattle.layout.proofs.Walks.{length-axes}
 use Rattle.shapes.proofs.Frames.{shape-some, shape-four}
-use Rattle.table.proofs.Layouts.{tabulate-same}
+use Rattle.layout.proofs.Layouts.{tabulate-same}
 use Rattle.table.proofs.Grids.{frame-shape, frame-values, frame-axes, grid-of}
 use Rattle.lists.proofs.Rows.{readings-finite}
 use Rattle.picks.specs.Utils.{stepIndex}

@@ -10,10 +10,10 @@ use lib.Ieee.{Float, nan}
 use lib.Ieee.Scale.{finite}
 use Rattle.judge.specs.Check.{Axis}
 use Rattle.shapes.specs.Shape.{size, total}
-use Rattle.table.specs.Layout.{axesOf, place, Inside}
+use Rattle.layout.specs.Layout.{axesOf, place, Inside}
 use Rattle.table.specs.Table.{Grid}
-use Rattle.table.proofs.Walks.{length-axes, Walk, walk-here, walk-axis, walk-on}
-use Rattle.table.proofs.Layouts.{length-tabulate, getD-tabulate, place-below, place-step, place-fits, place-done, inside-tabulate}
+use Rattle.layout.proofs.Walks.{length-axes, Walk, walk-here, walk-axis, walk-on}
+use Rattle.layout.proofs.Layouts.{length-tabulate, getD-tabulate, place-below, place-step, place-fits, place-done, inside-tabulate}
 use Rattle.table.proofs.Grids.{length-axis}
 use Rattle.ninterp.specs.Tables.{indices}
 use Rattle.picks.specs.Picks.{pickIndex, pickFound, pickRule}

@@ -6,7 +6,7 @@ use lib.Ieee.{Float, nan}
 use Rattle.answer.specs.Answer.{_or_}
 use Rattle.answer.specs.declared.Answer.{Answer}
 use Rattle.shapes.specs.Shape.{countsOf}
-use Rattle.table.specs.Layout.{axesOf, table, tabulate}
+use Rattle.layout.specs.Layout.{axesOf, table, tabulate}
 use Rattle.shapes.specs.declared.Shape.{Shape}
 use Rattle.order.specs.Lookups.{lookupFault, linearUniformFault}
 use Rattle.blend.specs.Blend.{linear, computed}

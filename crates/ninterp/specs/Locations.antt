@@ -1,7 +1,7 @@
 -- Locations that lie on their axes, and the corners that they have.
 use mathlib.Core.List.{List, [], _∷_}
 use Prim.Native.Nat.{ℕ, _<_}
-use Rattle.table.specs.Layout.{place}
+use Rattle.layout.specs.Layout.{place}
 use Rattle.blend.specs.Corners.{cornerAt}
 use Rattle.blend.specs.declared.AxisLocation.{AxisLocation}
 use Rattle.axis.specs.Locations.{upperOf}

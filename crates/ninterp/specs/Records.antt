@@ -10,7 +10,7 @@ use Rattle.answer.specs.declared.Answer.{Answer}
 use Rattle.words.specs.Words.{floatAt}
 use Rattle.lines.specs.Line.{lineOf, longest}
 use Rattle.lines.specs.Stream.{Rule}
-use Rattle.table.specs.Layout.{tabulate}
+use Rattle.layout.specs.Layout.{tabulate}
 use Rattle.shapes.specs.declared.Shape.{Shape}
 use Rattle.ninterp.specs.Tables.{nearestAnswer, stepAnswer}
 use Rattle.ninterp.specs.Linears.{linearAnswer, linearUniformAnswer}

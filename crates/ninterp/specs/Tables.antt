@@ -9,7 +9,7 @@ use lib.Ieee.Scale.{finite}
 use Rattle.answer.specs.Answer.{answered, _or_}
 use Rattle.answer.specs.declared.Answer.{Answer}
 use Rattle.shapes.specs.Shape.{countsOf, size}
-use Rattle.table.specs.Layout.{axesOf, table, tabulate}
+use Rattle.layout.specs.Layout.{axesOf, table, tabulate}
 use Rattle.table.specs.Table.{Grid}
 use Rattle.shapes.specs.declared.Shape.{Shape}
 use Rattle.order.specs.Lookups.{lookupFault, stepFault}

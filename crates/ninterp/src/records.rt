@@ -7,7 +7,7 @@ ghost use lib.ListN.{length, getD};
 ghost use Rattle.answer.specs.Answer.{good, when, _or_};
 ghost use Rattle.shapes.specs.Shape.{countsOf};
 ghost use Rattle.lists.specs.Lists.{readingsFault};
-ghost use Rattle.table.specs.Layout.{tabulate};
+ghost use Rattle.layout.specs.Layout.{tabulate};
 ghost use Rattle.table.specs.Table.{rangesFault};
 ghost use Rattle.words.specs.Words.{floatAt};
 ghost use Rattle.spacing.specs.Uniform.{axesUniformFault};

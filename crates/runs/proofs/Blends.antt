@@ -8,8 +8,8 @@ use lib.Ieee.{Float, nan}
 use Rattle.answer.specs.Answer.{firstOf}
 use Rattle.answer.specs.declared.Answer.{Answer}
 use Rattle.answer.proofs.Orders.{first-same}
-use Rattle.table.specs.Layout.{tabulate}
-use Rattle.table.proofs.Layouts.{length-tabulate, getD-tabulate}
+use Rattle.layout.specs.Layout.{tabulate}
+use Rattle.layout.proofs.Layouts.{length-tabulate, getD-tabulate}
 use Rattle.blend.specs.Blend.{blended}
 use Rattle.runs.specs.Runs.{blends, resultsFault}
 use Rattle.numbers.specs.Numbers.{resultFault}

@@ -5,7 +5,7 @@ use lib.ListN.{length, drop, getD}
 use lib.Ieee.{Float, nan}
 use Rattle.answer.specs.Answer.{firstOf}
 use Rattle.answer.specs.declared.Answer.{Answer}
-use Rattle.table.specs.Layout.{tabulate}
+use Rattle.layout.specs.Layout.{tabulate}
 use Rattle.blend.specs.Blend.{blended}
 use Rattle.numbers.specs.Numbers.{resultFault}
 

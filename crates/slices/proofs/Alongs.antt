@@ -12,8 +12,8 @@ use lib.Ieee.Scale.{finite}
 use Rattle.answer.specs.Answer.{fine, good}
 use Rattle.answer.proofs.Orders.{none-good, passed-fine, row-passed}
 use Rattle.shapes.specs.Shape.{size}
-use Rattle.table.specs.Layout.{place, table, tabulate, indicesAt, without, sliceValues}
-use Rattle.table.proofs.Layouts.{length-tabulate, getD-tabulate, tabulate-same, size-cons, place-cons, place-below, indices-place, indices-inside}
+use Rattle.layout.specs.Layout.{place, table, tabulate, indicesAt, without, sliceValues}
+use Rattle.layout.proofs.Layouts.{length-tabulate, getD-tabulate, tabulate-same, size-cons, place-cons, place-below, indices-place, indices-inside}
 use Rattle.blend.specs.Blend.{blended, sliced}
 use Rattle.runs.specs.Runs.{blends, resultsFault, blendedInto}
 use Rattle.numbers.specs.Numbers.{resultFault}

@@ -17,7 +17,7 @@ use Rattle.fronts.proofs.Rows.{axis-many, axis-in, first-many, first-axis}
 use Rattle.numbers.proofs.Rows.{reading-finite}
 use Rattle.shapes.specs.Shape.{countsOf, size}
 use Rattle.frames.specs.None.{noShape}
-use Rattle.table.specs.Layout.{without, axisOf}
+use Rattle.layout.specs.Layout.{without, axisOf}
 use Rattle.shapes.specs.Frame.{frameFault}
 use Rattle.table.specs.Table.{axesFault, Grid}
 use Rattle.values.specs.Values.{valuesFault}

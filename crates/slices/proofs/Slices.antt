@@ -13,12 +13,12 @@ use lib.Seq.{getD-take, take-take, drop-drop, length-take-le}
 use lib.Ieee.{Float, nan}
 use Rattle.judge.specs.Check.{Axis}
 use Rattle.shapes.specs.Shape.{countsOf, size, total}
-use Rattle.table.specs.Layout.{axesOf, place, table, indicesAt, tabulate, insert, without, sliceValues}
+use Rattle.layout.specs.Layout.{axesOf, place, table, indicesAt, tabulate, insert, without, sliceValues}
 use Rattle.table.specs.Table.{Grid}
 use Rattle.shapes.specs.declared.Shape.{Shape}
 use Rattle.table.proofs.Grids.{length-axis}
-use Rattle.table.proofs.Layouts.{radix, radix-div, radix-mod, size-suffix, size-cons, size-nil, tabulate-same}
-use Rattle.table.proofs.Removals.{getD-without, getD-without-below, size-split, size-without, source}
+use Rattle.layout.proofs.Layouts.{radix, radix-div, radix-mod, size-suffix, size-cons, size-nil, tabulate-same}
+use Rattle.layout.proofs.Removals.{getD-without, getD-without-below, size-split, size-without, source}
 
 -- ---- the counts of what is left
 past-list : (l : List ℕ) (i : ℕ) → length l ≤ i → getD l i 0 ≡ 0

@@ -6,7 +6,7 @@ use lib.Ieee.{Float}
 use Rattle.answer.specs.Answer.{_or_, filledInto}
 use Rattle.answer.specs.declared.Answer.{Answer}
 use Rattle.shapes.specs.Shape.{countsOf, size}
-use Rattle.table.specs.Layout.{tabulate, table, indicesAt, without, axisOf}
+use Rattle.layout.specs.Layout.{tabulate, table, indicesAt, without, axisOf}
 use Rattle.shapes.specs.declared.Shape.{Shape}
 use Rattle.fronts.specs.Fronts.{linearFront, linearUniformFront}
 use Rattle.blend.specs.Blend.{sliced}

@@ -9,7 +9,7 @@ use Rattle.numbers.specs.Numbers.{readingFault}
 use Rattle.lent.specs.Lent.{roomFault}
 use Rattle.shapes.specs.Shape.{countsOf, size}
 use Rattle.frames.specs.None.{noShape}
-use Rattle.table.specs.Layout.{tabulate, without, sliceValues, axisOf}
+use Rattle.layout.specs.Layout.{tabulate, without, sliceValues, axisOf}
 use Rattle.ranges.specs.Ranges.{rangeFault}
 use Rattle.shapes.specs.declared.Shape.{Shape}
 use Rattle.fronts.specs.Fronts.{nearestFront, stepFront}

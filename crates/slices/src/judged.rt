@@ -7,7 +7,7 @@ ghost use lib.ListN.{length, drop, getD};
 ghost use lib.Ieee.{nan};
 ghost use lib.Ieee.Scale.{finite};
 ghost use Rattle.shapes.specs.Shape.{countsOf, size};
-ghost use Rattle.table.specs.Layout.{without, sliceValues, axisOf};
+ghost use Rattle.layout.specs.Layout.{without, sliceValues, axisOf};
 ghost use Rattle.table.specs.Table.{Grid};
 ghost use Rattle.picks.specs.Picks.{pickIndex};
 ghost use Rattle.slices.specs.Slices.{pointFault, sliceAnswer};

@@ -5,7 +5,7 @@ ghost use Prim.Native.Nat.{ℕ, suc, _+_, _<_, _≤_};
 ghost use lib.Dec.{ltb};
 ghost use lib.ListN.{take, drop, getD};
 ghost use Rattle.shapes.specs.Shape.{countsOf, size, total};
-ghost use Rattle.table.specs.Layout.{without};
+ghost use Rattle.layout.specs.Layout.{without};
 ghost use Rattle.table.specs.Table.{Grid};
 ghost use Rattle.slices.specs.Slices.{shapeWithout, pointFault};
 use answer::Answer;

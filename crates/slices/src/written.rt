@@ -6,7 +6,7 @@ ghost use Prim.Native.Nat.{ℕ, _+_, _*_, _/_, _%_, _<_, _≤_};
 ghost use lib.Dec.{eqb};
 ghost use lib.ListN.{length, take, drop, getD};
 ghost use lib.Ieee.{nan};
-ghost use Rattle.table.specs.Layout.{tabulate};
+ghost use Rattle.layout.specs.Layout.{tabulate};
 ghost use Rattle.answer.specs.Answer.{filledInto};
 ghost use Rattle.runs.specs.Runs.{blends, resultsFault};
 use answer::Answer;

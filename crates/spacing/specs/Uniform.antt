@@ -5,7 +5,7 @@ use lib.ListN.{length, getD}
 use lib.Ieee.{Float}
 use Rattle.answer.specs.Answer.{firstOf}
 use Rattle.answer.specs.declared.Answer.{Answer}
-use Rattle.table.specs.Layout.{axesOf}
+use Rattle.layout.specs.Layout.{axesOf}
 use Rattle.grids.specs.Uniform.{defaultFault}
 
 -- "8 for LinearUniform, all axes"

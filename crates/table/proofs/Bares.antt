@@ -4,7 +4,7 @@ use Prim.Native.Nat.{ℕ}
 use lib.ListN.{getD}
 use lib.Ieee.{Float}
 use Rattle.judge.specs.Check.{nodesFault}
-use Rattle.table.specs.Layout.{axesOf}
+use Rattle.layout.specs.Layout.{axesOf}
 use Rattle.table.specs.Table.{axesFault, rangesFault}
 use Rattle.answer.proofs.Bares.{Bare, bare-first}
 use Rattle.judge.proofs.Bares.{bare-node}

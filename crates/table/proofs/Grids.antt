@@ -12,7 +12,7 @@ use Rattle.answer.proofs.Orders as orders
 use Rattle.judge.specs.Check.{nodesFault}
 use Rattle.judge.proofs.Rows.{nodes-axis}
 use Rattle.shapes.specs.Shape.{countsOf, size, total}
-use Rattle.table.specs.Layout.{axesOf}
+use Rattle.layout.specs.Layout.{axesOf}
 use Rattle.shapes.specs.Frame.{shapeFault, frameFault}
 use Rattle.lent.specs.Lent.{lengthFault}
 use Rattle.table.specs.Table.{axesFault, rangesFault, Grid}

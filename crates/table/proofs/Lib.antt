@@ -1,6 +1,3 @@
-pub mod Walks
-pub mod Layouts
 pub mod Grids
-pub mod Removals
 pub mod Unique
 pub mod Bares

@@ -8,7 +8,7 @@ use Rattle.answer.specs.Answer.{firstOf}
 use Rattle.answer.specs.declared.Answer.{Answer}
 use Rattle.judge.specs.Check.{nodesFault, Axis}
 use Rattle.shapes.specs.Shape.{size, total}
-use Rattle.table.specs.Layout.{axesOf}
+use Rattle.layout.specs.Layout.{axesOf}
 use Rattle.ranges.specs.Ranges.{rangeFault}
 
 -- "then each axis node by node (4, 5, 6 at each node)"

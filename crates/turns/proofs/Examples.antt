@@ -13,7 +13,7 @@ use Rattle.counts.specs.Counts.{axesCountFault, countFault}
 use Rattle.lent.specs.Lent.{roomFault, lengthFault}
 use Rattle.numbers.specs.Numbers.{finiteFault, readingFault, resultFault}
 use Rattle.shapes.specs.Shape.{size, total}
-use Rattle.table.specs.Layout.{axesOf, strides, placeBy, table}
+use Rattle.layout.specs.Layout.{axesOf, strides, placeBy, table}
 use Rattle.shapes.specs.Frame.{shapeFault, frameFault, productRow}
 use Rattle.table.specs.Table.{axesFault, rangesFault}
 use Rattle.values.specs.Values.{valueFault, valuesFault}

@@ -10,11 +10,11 @@ use lib.Dec.{ltb}
 use lib.Seq.{getD-take, take-all, ext-getD}
 use Rattle.answer.specs.Answer.{good}
 use Rattle.shapes.specs.Shape.{countsOf, size, total}
-use Rattle.table.specs.Layout.{tabulate}
+use Rattle.layout.specs.Layout.{tabulate}
 use Rattle.shapes.specs.Frame.{shapeFault}
 use Rattle.shapes.specs.declared.Shape.{Shape}
 use Rattle.shapes.proofs.Frames.{shape-four, shape-few, shape-size}
-use Rattle.table.proofs.Layouts.{getD-tabulate, length-tabulate}
+use Rattle.layout.proofs.Layouts.{getD-tabulate, length-tabulate}
 use Rattle.image.proofs.Floats.{total-small}
 use Rattle.writer.specs.Made.{axisAt, valuesAt, imageLength, countIn, offsetIn, headerFields}
 use Rattle.writer.specs.Fields.{pairs, widths}

@@ -11,7 +11,7 @@ use lib.Seq.{drop-cons}
 use lib.Ieee.{Float}
 use Rattle.answer.specs.Answer.{good}
 use Rattle.shapes.specs.Shape.{countsOf, size, total}
-use Rattle.table.specs.Layout.{tabulate}
+use Rattle.layout.specs.Layout.{tabulate}
 use Rattle.shapes.specs.Frame.{shapeFault}
 use Rattle.shapes.specs.declared.Shape.{Shape}
 use Rattle.shapes.proofs.Frames.{shape-four}

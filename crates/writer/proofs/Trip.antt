@@ -17,14 +17,14 @@ use Rattle.counts.proofs.Rows.{axes-right, count-fine}
 use Rattle.lent.proofs.Rows.{room-enough, length-same}
 use Rattle.shapes.specs.Shape.{countsOf, size, total}
 use Rattle.frames.specs.None.{noShape}
-use Rattle.table.specs.Layout.{tabulate}
+use Rattle.layout.specs.Layout.{tabulate}
 use Rattle.shapes.specs.Frame.{shapeFault, frameFault, productRow}
 use Rattle.counts.specs.Counts.{axesCountFault}
 use Rattle.lent.specs.Lent.{lengthFault, roomFault}
 use Rattle.table.specs.Table.{axesFault}
 use Rattle.values.specs.Values.{valueFault, valuesFault}
 use Rattle.shapes.specs.declared.Shape.{Shape}
-use Rattle.table.proofs.Layouts.{getD-tabulate, tabulate-same}
+use Rattle.layout.proofs.Layouts.{getD-tabulate, tabulate-same}
 use Rattle.shapes.proofs.Frames.{shape-some, shape-four, shape-enough, shape-few, shape-size}
 use Rattle.words.specs.Words.{wordAt}
 use Rattle.image.specs.Image.{floatsAt, nodesFrom, nodesIn, valuesIn}

@@ -6,7 +6,7 @@ use lib.Ieee.{Float}
 use Rattle.answer.specs.Answer.{_or_, given, filledInto}
 use Rattle.answer.specs.declared.Answer.{Answer}
 use Rattle.shapes.specs.Shape.{countsOf}
-use Rattle.table.specs.Layout.{tabulate}
+use Rattle.layout.specs.Layout.{tabulate}
 use Rattle.shapes.specs.Frame.{frameFault}
 use Rattle.table.specs.Table.{axesFault}
 use Rattle.values.specs.Values.{valuesFault}

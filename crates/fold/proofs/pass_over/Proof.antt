@@ -4,7 +4,7 @@ use Prim.Native.Nat.{_-_, _≤_, _<_}
 use native.Mathlib.Omega.{arith}
 use lib.ListN.{length, drop, length-set}
 use denote.Ref.{now}
-use Rattle.table.specs.Layout.{tabulate}
+use Rattle.layout.specs.Layout.{tabulate}
 use Rattle.fold.proofs.Folds.{blendAt, pass-step, pass-done}
 use borrow.Author.Needs.{needs}
 use Rattle.fold.proofs.pass_over.Statement.{statement}

@@ -6,8 +6,8 @@ use native.Mathlib.Omega.{arith}
 use lib.ListN.{length, drop}
 use lib.Ieee.{Float}
 use denote.Ref.{now}
-use Rattle.table.specs.Layout.{tabulate}
-use Rattle.table.proofs.Layouts.{tabulate-step}
+use Rattle.layout.specs.Layout.{tabulate}
+use Rattle.layout.proofs.Layouts.{tabulate-step}
 use Rattle.runs.specs.Runs.{blendedInto}
 use Rattle.runs.proofs.Blends.{runAt}
 use borrow.Author.Needs.{needs}

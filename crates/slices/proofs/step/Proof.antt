@@ -8,7 +8,7 @@ use Rattle.answer.specs.Answer.{good, filledInto}
 use Rattle.answer.specs.declared.Answer.{Answer}
 use Rattle.answer.proofs.Orders.{passes}
 use Rattle.shapes.specs.Shape.{countsOf}
-use Rattle.table.specs.Layout.{sliceValues, axisOf}
+use Rattle.layout.specs.Layout.{sliceValues, axisOf}
 use Rattle.shapes.proofs.Totals.{length-ids}
 use Rattle.fronts.specs.Fronts.{stepFront}
 use Rattle.slices.specs.Slices.{pointFault, stepSliceFault, sliceAnswer, ruleSlice, stepSlice, stepSliced}

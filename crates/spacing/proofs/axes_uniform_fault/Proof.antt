@@ -8,11 +8,11 @@ use Rattle.answer.specs.Answer.{firstOf}
 use mathlib.Core.List.{[]}
 use lib.Seq.{length-take-le}
 use Rattle.answer.proofs.Orders.{passes, fails, first-begin, first-step, first-stop, first-end}
-use Rattle.table.specs.Layout.{axesOf}
+use Rattle.layout.specs.Layout.{axesOf}
 use Rattle.grids.specs.Uniform.{defaultFault}
 use Rattle.spacing.specs.Uniform.{axesUniformFault}
 use Rattle.shapes.proofs.Totals.{length-ids, counts-least}
-use Rattle.table.proofs.Walks.{Walk, walk-axis, walk-on}
+use Rattle.layout.proofs.Walks.{Walk, walk-axis, walk-on}
 use Rattle.spacing.proofs.axes_uniform_fault.Statement.{statement}
 use Rattle.spacing.proofs.axes_uniform_fault.Tie as tie
 

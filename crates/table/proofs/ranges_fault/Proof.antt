@@ -9,11 +9,11 @@ use mathlib.Core.List.{[]}
 use lib.Seq.{length-take-le}
 use lib.Ieee.{nan}
 use Rattle.answer.proofs.Orders.{passes, fails, first-begin, first-step, first-stop, first-end}
-use Rattle.table.specs.Layout.{axesOf}
+use Rattle.layout.specs.Layout.{axesOf}
 use Rattle.ranges.specs.Ranges.{rangeFault}
 use Rattle.table.specs.Table.{rangesFault}
 use Rattle.shapes.proofs.Totals.{length-ids, counts-least}
-use Rattle.table.proofs.Walks.{Walk, walk-axis, walk-on}
+use Rattle.layout.proofs.Walks.{Walk, walk-axis, walk-on}
 use Rattle.table.proofs.ranges_fault.Statement.{statement}
 use Rattle.table.proofs.ranges_fault.Tie as tie
 

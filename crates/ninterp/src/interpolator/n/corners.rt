@@ -4,7 +4,7 @@ ghost use Prim.Native.Nat.{ℕ, _+_, _*_, _^_, _<_, _≤_};
 ghost use lib.ListN.{length, take, drop, getD};
 ghost use lib.Ieee.{nan};
 ghost use Rattle.shapes.specs.Shape.{countsOf, size};
-ghost use Rattle.table.specs.Layout.{table};
+ghost use Rattle.layout.specs.Layout.{table};
 ghost use Rattle.blend.specs.Blend.{linear, computed};
 ghost use Rattle.blend.specs.Rust.{diffs};
 ghost use Rattle.ninterp.specs.Tables.{Judged};

@@ -6,7 +6,7 @@ ghost use lib.ListN.{length, take, getD};
 ghost use lib.Ieee.{nan};
 ghost use lib.Ieee.Scale.{finite};
 ghost use Rattle.shapes.specs.Shape.{countsOf};
-ghost use Rattle.table.specs.Layout.{axesOf};
+ghost use Rattle.layout.specs.Layout.{axesOf};
 ghost use Rattle.table.specs.Table.{Grid};
 ghost use Rattle.ninterp.specs.Linears.{locations};
 ghost use Rattle.axis.specs.Locations.{locationBy};

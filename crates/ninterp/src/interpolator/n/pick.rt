@@ -6,7 +6,7 @@ ghost use lib.ListN.{length, getD};
 ghost use lib.Ieee.{nan};
 ghost use lib.Ieee.Scale.{finite};
 ghost use Rattle.shapes.specs.Shape.{countsOf, size};
-ghost use Rattle.table.specs.Layout.{axesOf, place};
+ghost use Rattle.layout.specs.Layout.{axesOf, place};
 ghost use Rattle.table.specs.Table.{Grid};
 ghost use Rattle.answer.specs.Answer.{answered};
 ghost use Rattle.ninterp.specs.Tables.{indices, picked, Judged};

@@ -5,7 +5,7 @@ use Prim.Native.Nat.{_/_}
 use Rattle.judge.specs.Check.{Axis}
 use Rattle.shapes.specs.Shape.{countsOf, size, total}
 use Rattle.frames.specs.None.{noShape}
-use Rattle.table.specs.Layout.{without, axisOf}
+use Rattle.layout.specs.Layout.{without, axisOf}
 use Rattle.shapes.proofs.Totals.{length-ids}
 use Rattle.runs.specs.Runs.{resultsFault}
 use Rattle.blend.specs.declared.AxisLocation.{AxisLocation}

@@ -4,9 +4,9 @@ use lib.ListN.{length}
 use denote.Ref.{now}
 use Rattle.answer.proofs.Orders.{passes}
 use Rattle.shapes.specs.Shape.{countsOf}
-use Rattle.table.proofs.Removals.{length-slice}
+use Rattle.layout.proofs.Removals.{length-slice}
 use Rattle.picks.specs.Picks.{pickIndex}
-use Rattle.table.specs.Layout.{axisOf}
+use Rattle.layout.specs.Layout.{axisOf}
 use Rattle.slices.proofs.Sliced.{slice-refused, slice-made, out-kept, out-written, point-finite, point-room}
 use borrow.Author.Needs.{needs}
 use Rattle.slices.proofs.judged.pick_judged.Statement.{statement}

@@ -9,8 +9,8 @@ use mathlib.Core.List.{List, _++_}
 use native.Mathlib.Nat.{mul-le-mul}
 use lib.ListN.{length-set, set}
 use lib.Ieee.{Float, nan}
-use Rattle.table.specs.Layout.{tabulate}
-use Rattle.table.proofs.Layouts.{tabulate-step}
+use Rattle.layout.specs.Layout.{tabulate}
+use Rattle.layout.proofs.Layouts.{tabulate-step}
 use Rattle.slices.proofs.Slices.{next-j, next-place, first-j, first-place}
 use Rattle.slices.proofs.written.fill.Statement.{statement}
 use Rattle.slices.proofs.written.fill.Tie as tie

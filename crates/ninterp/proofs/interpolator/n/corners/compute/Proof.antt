@@ -8,7 +8,7 @@ use lib.Ieee.{nan}
 use lib.ListN.{length, take, drop, getD, length-take, length-drop}
 use Rattle.shapes.specs.Shape.{size}
 use Rattle.shapes.proofs.Totals.{length-ids}
-use Rattle.table.specs.Layout.{table}
+use Rattle.layout.specs.Layout.{table}
 use Rattle.blend.specs.Blend.{computed}
 use Rattle.blend.specs.Rust.{diffs}
 use Rattle.blend.specs.Corners.{cornerAt}

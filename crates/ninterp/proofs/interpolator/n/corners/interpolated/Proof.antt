@@ -2,7 +2,7 @@ use mathlib.Core.Path.{ap, _∙_}
 use native.Mathlib.Omega.{arith}
 use denote.Ref.{now}
 use Rattle.shapes.specs.Shape.{countsOf}
-use Rattle.table.specs.Layout.{table}
+use Rattle.layout.specs.Layout.{table}
 use Rattle.blend.specs.Blend.{linear, computed}
 use Rattle.ninterp.specs.Linears.{interpolated}
 use Rattle.ninterp.proofs.interpolator.n.corners.interpolated.Statement.{statement}

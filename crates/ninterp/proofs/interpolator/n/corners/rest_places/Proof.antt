@@ -1,4 +1,4 @@
-use Rattle.table.proofs.Layouts.{size-cons}
+use Rattle.layout.proofs.Layouts.{size-cons}
 use Rattle.ninterp.proofs.Corners.{Spreading, spread-none, spread-step, lower-small, upper-few, upper-small, within-at, small-at, few-at, eight-at, placed-small, closed-at, first-few, first-small}
 use Rattle.axis.proofs.Located.{lower-upper}
 use Rattle.blend.specs.declared.AxisLocation.the-variants.{Exact}

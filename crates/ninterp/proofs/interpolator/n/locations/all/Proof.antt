@@ -1,8 +1,8 @@
 use lib.ListN.{length-set, length, take, getD}
 use lib.Seq.{length-take-le}
-use Rattle.table.specs.Layout.{axesOf, tabulate}
+use Rattle.layout.specs.Layout.{axesOf, tabulate}
 use Rattle.shapes.proofs.Totals.{length-ids}
-use Rattle.table.proofs.Walks.{length-axes, Walk}
+use Rattle.layout.proofs.Walks.{length-axes, Walk}
 use Rattle.blend.specs.declared.AxisLocation.the-variants.{Exact}
 use Rattle.ninterp.specs.Linears.{locations}
 use Rattle.axis.specs.Locations.{locationBy}

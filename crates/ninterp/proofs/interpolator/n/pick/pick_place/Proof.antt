@@ -6,10 +6,10 @@ use denote.Ref.{now}
 use borrow.Author.Needs.{needs}
 use mathlib.Core.List.{List}
 use Rattle.shapes.specs.Shape.{size}
-use Rattle.table.specs.Layout.{axesOf, place}
+use Rattle.layout.specs.Layout.{axesOf, place}
 use Rattle.shapes.proofs.Totals.{length-ids}
-use Rattle.table.proofs.Walks.{Walk}
-use Rattle.table.proofs.Layouts.{place-start}
+use Rattle.layout.proofs.Walks.{Walk}
+use Rattle.layout.proofs.Layouts.{place-start}
 use Rattle.ninterp.specs.Tables.{indices}
 use Rattle.picks.specs.Picks.{pickRule}
 use Rattle.ninterp.proofs.Picks.{axis-within, axis-next, flat-next, flat-fits, flat-done}

@@ -8,8 +8,8 @@ use lib.ListN.{length, take, drop, getD, length-drop, length-append}
 use lib.Seq.{length-take-le, take-at, drop-at}
 use lib.Ieee.{Float, nan}
 use Rattle.shapes.specs.Shape.{size, total}
-use Rattle.table.specs.Layout.{axesOf, place, table, indicesAt, tabulate, Inside, insert, without, sliceValues, nodesWithout}
-use Rattle.table.proofs.Layouts.{radix, radix-div, radix-mod, size-tail, size-cons, size-nil, place-cons, place-below, indices-place, table-ext, getD-tabulate, length-tabulate, tabulate-same}
+use Rattle.layout.specs.Layout.{axesOf, place, table, indicesAt, tabulate, Inside, insert, without, sliceValues, nodesWithout}
+use Rattle.layout.proofs.Layouts.{radix, radix-div, radix-mod, size-tail, size-cons, size-nil, place-cons, place-below, indices-place, table-ext, getD-tabulate, length-tabulate, tabulate-same}
 
 -- ---- sizes beside an axis
 pub size-split : (k : ℕ) (ns : List ℕ) → k < length ns → size ns ≡ size (take k ns) * (getD ns k 0 * size (drop (suc k) ns))

@@ -9,7 +9,7 @@ use native.Mathlib.Omega.{arith}
 use lib.ListN.{length, take, drop, getD, length-drop, drop-of-length-le}
 use lib.Seq.{drop-cons, getD-take, drop-drop, take-all, length-take-le}
 use lib.Ieee.{Float}
-use Rattle.table.specs.Layout.{axesOf}
+use Rattle.layout.specs.Layout.{axesOf}
 
 pub length-axes : (counts : List ℕ) (nodes : List Float) → length (axesOf counts nodes) ≡ length counts
 unfolding axesOf

@@ -9,7 +9,7 @@ use lib.ListN.{length, drop, getD, set, drop-of-length-le}
 use lib.Seq.{ext-getD, drop-cons}
 use lib.Ieee.{Float, nan}
 use Rattle.shapes.specs.Shape.{size}
-use Rattle.table.specs.Layout.{strides, placeBy, place, table, indicesAt, tabulate, Inside}
+use Rattle.layout.specs.Layout.{strides, placeBy, place, table, indicesAt, tabulate, Inside}
 
 -- ---- tabulated lists
 pub length-tabulate : {A : Type 0} (n : ℕ) (h : ℕ → A) → length (tabulate n h) ≡ n

@@ -1,13 +1,10 @@
 // The slices of the table of the list.
 ghost use Prim.Native.Nat.{_≤_};
 ghost use lib.ListN.{length};
-ghost use Rattle.replay.specs.Room.{Room};
-use crate::calls;
 use crate::line;
 use crate::list;
 use crate::list::Header;
 use crate::tables;
-use crate::tables::Table;
 use shapes::Shape;
 use slices::SliceAnswer;
 
@@ -39,61 +36,24 @@ fn changed(sliced: &[f64]) -> usize
     0
 }
 
-fn step(
-    call: Header,
-    shape: Shape,
-    nodes: &[f64],
-    values: &[f64],
-    axis: usize,
-    sliced: &mut [f64],
-) -> SliceAnswer {
-    let bytes = list::bytes_of(call.second);
-    let count = counts::least(call.b as usize, 8);
-    slices::step(
-        shape,
-        nodes,
-        values,
-        &bytes[..count],
-        axis,
-        call.reading,
-        sliced,
-    )
-}
-
 // By the rule that a header names, 13 to 16.
 fn make(
     call: Header,
     shape: Shape,
     nodes: &[f64],
     values: &[f64],
-    axis: usize,
+    directions: &[u8],
     sliced: &mut [f64],
 ) -> SliceAnswer {
+    let axis = list::upper_half(call.third);
     let at = call.reading;
     let op = call.op;
     match op {
         13 => slices::nearest(shape, nodes, values, axis, at, sliced),
-        14 => step(call, shape, nodes, values, axis, sliced),
+        14 => slices::step(shape, nodes, values, directions, axis, at, sliced),
         15 => slices::linear(shape, nodes, values, axis, at, sliced),
         _ => slices::linear_uniform(shape, nodes, values, axis, at, sliced),
     }
-}
-
-// Makes the slice of the table's nodes and values.
-fn make_of_fronts(call: Header, table: Table, floats: &[f64], sliced: &mut [f64]) -> SliceAnswer
-    requires { ⌜ Room table (now floats) ⌝ }
-{
-    let axis = list::upper_half(call.third);
-    let from = calls::MOST_NODES + table.nodes;
-    let to = from + table.values;
-    make(
-        call,
-        table.shape,
-        &floats[calls::MOST_NODES..from],
-        &floats[from..to],
-        axis,
-        sliced,
-    )
 }
 
 fn say_values(values: &[f64], count: usize)
@@ -108,24 +68,33 @@ fn say_values(values: &[f64], count: usize)
 
 // Makes the slice in an output whose places are marked first; says the answer, the values up to the last changed place, and how many
 // places come after it.
-fn say_made(call: Header, table: Table, floats: &[f64], sliced: &mut [f64]) -> bool
-    requires { ⌜ Room table (now floats) ⌝ }
-{
+fn say_made(
+    call: Header,
+    shape: Shape,
+    nodes: &[f64],
+    values: &[f64],
+    directions: &[u8],
+    sliced: &mut [f64],
+) -> bool {
     mark_all(sliced);
-    line::say_slice(make_of_fronts(call, table, floats, sliced));
+    line::say_slice(make(call, shape, nodes, values, directions, sliced));
     let count = changed(sliced);
     say_values(sliced, count);
     line::say_kept(sliced.len() - count)
 }
 
 // Makes the slice that a header asks for, in the room that it gives, says its lines, and tells whether to go on.
-pub(crate) fn say(call: Header, table: Table, floats: &[f64]) -> bool
-    requires { ⌜ Room table (now floats) ⌝ }
-{
+pub(crate) fn say(
+    call: Header,
+    shape: Shape,
+    nodes: &[f64],
+    values: &[f64],
+    directions: &[u8],
+) -> bool {
     let mut space = [0.0f64; tables::MOST_VALUES];
     let room = list::lower_half(call.third);
     if room > tables::MOST_VALUES {
         return line::bad();
     }
-    say_made(call, table, floats, &mut space[..room])
+    say_made(call, shape, nodes, values, directions, &mut space[..room])
 }

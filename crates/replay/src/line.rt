@@ -1,4 +1,6 @@
 // The lines, written to standard output. What says a line tells whether to go on: whether the line's end could be written.
+ghost use Prim.Native.Nat.{_≤_};
+ghost use lib.ListN.{length};
 use answer::Answer;
 use answer::IndexAnswer;
 use blend::AxisLocation;
@@ -13,22 +15,16 @@ fn put(text: &[u8]) {
     io::write_all(STDOUT_FILENO, text);
 }
 
-// Writes a text and a number.
-fn put_number(text: &[u8], number: usize) {
-    put(text);
+// Writes a blank and a number.
+fn put_number(number: usize) {
+    put(b" ");
     io::print_decimal(STDOUT_FILENO, number as u64);
 }
 
-// Writes a text and the bits of a float.
-fn put_bits(text: &[u8], x: f64) {
-    put(text);
+// Writes a blank and the bits of a float.
+fn put_bits(x: f64) {
+    put(b" ");
     io::print_hex(STDOUT_FILENO, binary64::bits_of_float(x), 16);
-}
-
-fn put_refusal(no: Answer) {
-    put_number(b"no ", no.number as usize);
-    put_number(b" ", no.axis);
-    put_number(b" ", no.place);
 }
 
 // Writes whether a call is accepted, and tells it.
@@ -37,36 +33,42 @@ fn put_check(answer: Answer) -> bool {
         put(b"ok");
         return true;
     }
-    put_refusal(answer);
+    put(b"no");
+    put_number(answer.number as usize);
+    put_number(answer.axis);
+    put_number(answer.place);
     false
 }
 
 fn put_index(index: MaybeIndex) {
     match index {
-        MaybeIndex::Some(index) => put_number(b" ", index),
+        MaybeIndex::Some(index) => put_number(index),
         MaybeIndex::None => put(b" none"),
     }
 }
 
-fn put_between(lower: usize, frac: f64) {
-    put_number(b" between ", lower);
-    put_bits(b" ", frac);
-}
-
 fn put_location(location: AxisLocation) {
     match location {
-        AxisLocation::Exact(index) => put_number(b" exact ", index),
-        AxisLocation::Between { lower, frac } => put_between(lower, frac),
+        AxisLocation::Exact(index) => {
+            put(b" exact");
+            put_number(index);
+        }
+        AxisLocation::Between { lower, frac } => {
+            put(b" between");
+            put_number(lower);
+            put_bits(frac);
+        }
     }
 }
 
 fn put_shape(shape: Shape) {
     let counts = shape.counts;
-    put_number(b" shape ", shape.axes);
-    put_number(b" ", counts[0]);
-    put_number(b" ", counts[1]);
-    put_number(b" ", counts[2]);
-    put_number(b" ", counts[3]);
+    put(b" shape");
+    put_number(shape.axes);
+    put_number(counts[0]);
+    put_number(counts[1]);
+    put_number(counts[2]);
+    put_number(counts[3]);
 }
 
 fn end() -> bool {
@@ -78,16 +80,22 @@ pub(crate) fn say_check(answer: Answer) -> bool {
     end()
 }
 
+// Writes the line of an answer, all at once.
+fn write_answer(answer: Answer, line: &mut [u8]) -> bool
+    requires { ⌜ 56 ≤ length (now line) ⌝ }
+{
+    let end = lines::put_line(answer, line, 0);
+    io::write_all(STDOUT_FILENO, &line[..end])
+}
+
 pub(crate) fn say_value(answer: Answer) -> bool {
-    if put_check(answer) {
-        put_bits(b" ", answer.value);
-    }
-    end()
+    let mut line = [0u8; lines::LONGEST];
+    write_answer(answer, &mut line)
 }
 
 pub(crate) fn say_index(found: IndexAnswer) -> bool {
     if put_check(found.answer) {
-        put_number(b" ", found.index);
+        put_number(found.index);
     }
     end()
 }
@@ -116,12 +124,13 @@ pub(crate) fn say_slice(made: SliceAnswer) -> bool {
 }
 
 pub(crate) fn say_bits(x: f64) -> bool {
-    put_bits(b"", x);
+    io::print_hex(STDOUT_FILENO, binary64::bits_of_float(x), 16);
     end()
 }
 
 pub(crate) fn say_kept(count: usize) -> bool {
-    put_number(b"kept ", count);
+    put(b"kept");
+    put_number(count);
     end()
 }
 

@@ -1,7 +1,10 @@
 // The list: records with a header of 32 bytes, little-endian.
-ghost use Prim.Native.Nat.{_≤_, _<_};
+ghost use Prim.Native.Nat.{_+_, _*_, _≤_, _<_};
 ghost use lib.ListN.{length};
 use libc::STDIN_FILENO;
+
+// How many floats are read at once.
+const BLOCK: usize = 128;
 
 // A record's header; its op says which fields it has, and what the words hold. The op is a byte of the list, or 256 where the list ends
 // before the header and 257 where it ends within, or the header has more than eight directions.
@@ -82,18 +85,47 @@ pub(crate) fn read_header() -> Header {
     header_of(&bytes, got)
 }
 
+fn floats_of(bytes: &[u8], count: usize, into: &mut [f64], at: usize)
+    requires { ⌜ (8 * count ≤ length (now bytes)) × (at + count ≤ length (now into)) ⌝ }
+{
+    let mut i: usize = 0;
+    while i < count {
+        into[at + i] = words::float(bytes, 8 * i);
+        i += 1;
+    }
+}
+
+// Reads so many bytes to the front of `into`, and tells whether the list has them all.
+fn read_bytes(count: usize, into: &mut [u8]) -> bool
+    requires { ⌜ count ≤ length (now into) ⌝ }
+{
+    let got = io::read_full(STDIN_FILENO, &mut into[..count]);
+    got == count
+}
+
+// Reads so many floats, a block at most, to a place of `into`, and tells whether the list has them all.
+fn read_block(count: usize, into: &mut [f64], at: usize) -> bool
+    requires { ⌜ (count ≤ 128) × (at + count ≤ length (now into)) ⌝ }
+{
+    let mut space = [0u8; 8 * BLOCK];
+    let bytes: &mut [u8] = &mut space;
+    if !read_bytes(8 * count, bytes) {
+        return false;
+    }
+    floats_of(bytes, count, into, at);
+    true
+}
+
 // Reads so many floats to the front of `into`, and tells whether the list has them all.
 pub(crate) fn read_floats(count: usize, into: &mut [f64]) -> bool
     requires { ⌜ count ≤ length (now into) ⌝ }
 {
-    let mut i: usize = 0;
-    while i < count {
-        let mut bytes = [0u8; 8];
-        if io::read_full(STDIN_FILENO, &mut bytes) < 8 {
+    let mut at: usize = 0;
+    while count - at > BLOCK {
+        if !read_block(BLOCK, into, at) {
             return false;
         }
-        into[i] = words::float(&bytes, 0);
-        i += 1;
+        at += BLOCK;
     }
-    true
+    read_block(count - at, into, at)
 }

@@ -10,6 +10,7 @@ ghost use Prim.Native.Nat.{_≤_};
 ghost use lib.ListN.{length};
 ghost use Rattle.replay.specs.Room.{Room};
 use list::Header;
+use shapes::Shape;
 use tables::Table;
 
 // What the list has lent: how many nodes the axis has, the table, and whether the list had all of it.
@@ -84,12 +85,30 @@ fn say_by_axis(call: Header, floats: &[f64], count: usize) -> bool
     calls::say(&floats[..count], call)
 }
 
-// A record that lends has no line, unless the list ends within it.
-fn say_lent(whole: bool) -> bool {
-    if whole {
-        return true;
+// Says what a lookup in a table answers, or a slice of it. Step's directions stand in the header; the other rules have none.
+fn say_by_rule(call: Header, shape: Shape, nodes: &[f64], values: &[f64]) -> bool {
+    let bytes = list::bytes_of(call.second);
+    let count = counts::least(call.b as usize, 8);
+    let directions = &bytes[..count];
+    if call.op < 13 {
+        tables::say(call, shape, nodes, values, directions)
+    } else {
+        cut::say(call, shape, nodes, values, directions)
     }
-    line::bad()
+}
+
+// Says what a call answers by the nodes and the values of the table.
+fn say_by_table(call: Header, table: Table, floats: &[f64]) -> bool
+    requires { ⌜ Room table (now floats) ⌝ }
+{
+    let from = calls::MOST_NODES + table.nodes;
+    let to = from + table.values;
+    say_by_rule(
+        call,
+        table.shape,
+        &floats[calls::MOST_NODES..from],
+        &floats[from..to],
+    )
 }
 
 // Says what a record has to say, and tells whether to go on.
@@ -99,9 +118,9 @@ fn say(call: Header, lent: Lent, floats: &[f64]) -> bool
 {
     let op = call.op;
     match op {
-        0 | 8 => say_lent(lent.whole),
-        9 | 10 | 11 | 12 => tables::say(call, lent.table, floats),
-        13 | 14 | 15 | 16 => cut::say(call, lent.table, floats),
+        // A record that lends has no line, unless the list ends within it.
+        0 | 8 => lent.whole || line::bad(),
+        9..=16 => say_by_table(call, lent.table, floats),
         256 => false,
         _ => say_by_axis(call, floats, lent.count),
     }

@@ -1,9 +1,6 @@
 // The table of the list, and the lookups in it.
 ghost use mathlib.Core.Path.{_≡_};
-ghost use Prim.Native.Nat.{_≤_, _<_};
-ghost use lib.ListN.{length};
-ghost use Rattle.replay.specs.Room.{Room};
-use crate::calls;
+ghost use Prim.Native.Nat.{_<_};
 use crate::line;
 use crate::list;
 use crate::list::Header;
@@ -27,7 +24,7 @@ pub struct Table {
     pub values: usize,
 }
 
-// The table before the first one of the list.
+// No table: before the first one of the list, and where one does not fit.
 pub(crate) fn none() -> Table
     ensures { λ r. ⌜ (r .nodes ≡ 0) × (r .values ≡ 0) ⌝ }
 {
@@ -57,42 +54,32 @@ pub(crate) fn of_header(call: Header) -> Table
     }
 }
 
-fn step(call: Header, shape: Shape, nodes: &[f64], values: &[f64], point: &[f64]) -> Answer {
-    let bytes = list::bytes_of(call.second);
-    let count = counts::least(call.b as usize, 8);
-    step::interpolate(shape, nodes, values, point, &bytes[..count])
-}
-
 // By the rule that a header names, 9 to 12.
-fn look_up(call: Header, shape: Shape, nodes: &[f64], values: &[f64], point: &[f64]) -> Answer {
+fn look_up(
+    call: Header,
+    shape: Shape,
+    nodes: &[f64],
+    values: &[f64],
+    directions: &[u8],
+    point: &[f64],
+) -> Answer {
     let op = call.op;
     match op {
         9 => nearest::interpolate(shape, nodes, values, point),
-        10 => step(call, shape, nodes, values, point),
+        10 => step::interpolate(shape, nodes, values, point, directions),
         11 => linear::interpolate(shape, nodes, values, point),
         _ => linear_uniform::interpolate(shape, nodes, values, point),
     }
 }
 
-// Looks up in the nodes and the values of the table.
-fn look_up_fronts(call: Header, table: Table, floats: &[f64], point: &[f64]) -> Answer
-    requires { ⌜ Room table (now floats) ⌝ }
-{
-    let from = calls::MOST_NODES + table.nodes;
-    let to = from + table.values;
-    look_up(
-        call,
-        table.shape,
-        &floats[calls::MOST_NODES..from],
-        &floats[from..to],
-        point,
-    )
-}
-
 // Reads the readings that follow a header, says what the lookup answers, and tells whether to go on.
-pub(crate) fn say(call: Header, table: Table, floats: &[f64]) -> bool
-    requires { ⌜ Room table (now floats) ⌝ }
-{
+pub(crate) fn say(
+    call: Header,
+    shape: Shape,
+    nodes: &[f64],
+    values: &[f64],
+    directions: &[u8],
+) -> bool {
     let mut readings = [0.0f64; MOST_READINGS];
     let count = call.a as usize;
     if count > MOST_READINGS {
@@ -101,5 +88,5 @@ pub(crate) fn say(call: Header, table: Table, floats: &[f64]) -> bool
     if !list::read_floats(count, &mut readings) {
         return line::bad();
     }
-    line::say_value(look_up_fronts(call, table, floats, &readings[..count]))
+    line::say_value(look_up(call, shape, nodes, values, directions, &readings[..count]))
 }

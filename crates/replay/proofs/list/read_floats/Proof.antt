@@ -1,24 +1,24 @@
 use mathlib.Core.Path.{_≡_}
-use Prim.Native.Nat.{_-_}
+use Prim.Native.Nat.{_≤_, _-_}
 use lib.ListN.{length}
 use borrow.Author.Needs.{needs}
 use Rattle.replay.proofs.list.read_floats.Statement.{statement}
 use Rattle.replay.proofs.list.read_floats.Tie as tie
 
 abbrev Inv-loop : tie.InvT-loop
-Inv-loop count into₀ i₀ into i = length into ≡ length into₀
+Inv-loop count into₀ at₀ into at = (at ≤ count) × (length into ≡ length into₀)
 
 abbrev μ-loop : tie.MeasureT-loop
-μ-loop count into₀ i₀ into i = count - i
+μ-loop count into₀ at₀ into at = count - at
 
 loop-holds : tie.Need-loop-holds Inv-loop μ-loop
 loop-holds c = search needs
 
-slice-aggregate-read-full : tie.Need-slice-aggregate-read-full Inv-loop μ-loop
-slice-aggregate-read-full c = search needs
+sub-loop : tie.Need-sub-loop Inv-loop μ-loop
+sub-loop c = search needs
 
-read-full-requires : tie.Need-read-full-requires Inv-loop μ-loop
-read-full-requires c κs = search needs
+read-block-requires : tie.Need-read-block-requires Inv-loop μ-loop
+read-block-requires c κs = search needs
 
 same-length : tie.Need-same-length Inv-loop μ-loop
 same-length c = search needs
@@ -26,26 +26,20 @@ same-length c = search needs
 returns : tie.Need-returns Inv-loop μ-loop
 returns c = search needs
 
-slice-aggregate-float : tie.Need-slice-aggregate-float Inv-loop μ-loop
-slice-aggregate-float c = search needs
-
-float-requires : tie.Need-float-requires Inv-loop μ-loop
-float-requires c κs = search needs
-
-mul-into : tie.Need-mul-into Inv-loop μ-loop
-mul-into c = search needs
-
-slice-write-into : tie.Need-slice-write-into Inv-loop μ-loop
-slice-write-into c = search needs
-
-add-i : tie.Need-add-i Inv-loop μ-loop
-add-i c = search needs
+add-at : tie.Need-add-at Inv-loop μ-loop
+add-at c = search needs
 
 loop-less : tie.Need-loop-less Inv-loop μ-loop
 loop-less c = search needs
 
 loop-again : tie.Need-loop-again Inv-loop μ-loop
 loop-again c = search needs
+
+sub-read-block : tie.Need-sub-read-block Inv-loop μ-loop
+sub-read-block c = search needs
+
+read-block-requires-2 : tie.Need-read-block-requires-2 Inv-loop μ-loop
+read-block-requires-2 c κs = search needs
 
 same-length-2 : tie.Need-same-length-2 Inv-loop μ-loop
 same-length-2 c = search needs
@@ -60,16 +54,14 @@ read-floats-spec =
     Inv-loop
     μ-loop
     loop-holds
-    slice-aggregate-read-full
-    read-full-requires
+    sub-loop
+    read-block-requires
     same-length
     returns
-    slice-aggregate-float
-    float-requires
-    mul-into
-    slice-write-into
-    add-i
+    add-at
     loop-less
     loop-again
+    sub-read-block
+    read-block-requires-2
     same-length-2
     returns-2)

@@ -28,11 +28,11 @@ returns-2 c = search needs
 array-share-prefix-readings : tie.Need-array-share-prefix-readings
 array-share-prefix-readings c = search needs
 
-slice-aggregate-look-up-fronts : tie.Need-slice-aggregate-look-up-fronts
-slice-aggregate-look-up-fronts c = sym (length-take-le _ _ (search needs))
+slice-aggregate-look-up : tie.Need-slice-aggregate-look-up
+slice-aggregate-look-up c = sym (length-take-le _ _ (search needs))
 
-look-up-fronts-requires : tie.Need-look-up-fronts-requires
-look-up-fronts-requires c κs = search needs
+look-up-requires : tie.Need-look-up-requires
+look-up-requires c κs = search needs
 
 say-value-requires : tie.Need-say-value-requires
 say-value-requires c κs = search needs
@@ -52,7 +52,7 @@ say-spec =
     bad-requires-2
     returns-2
     array-share-prefix-readings
-    slice-aggregate-look-up-fronts
-    look-up-fronts-requires
+    slice-aggregate-look-up
+    look-up-requires
     say-value-requires
     returns-3)

@@ -1,2 +1,3 @@
+pub mod Wholes
 pub mod Ends
 pub mod Unique

@@ -8,9 +8,13 @@ use Rattle.answer.proofs.Outcome.{one-outcome}
 use Rattle.input.proofs.finish.Reads as finish
 use Rattle.input.proofs.goes_on.Reads as goes-on
 use Rattle.input.proofs.image_size.Reads as image-size
+use Rattle.input.proofs.is_whole.Reads as is-whole
 
 pub image-size-unique : (κs : _) (a : _) (r s : ℕ) (x y : _) → image-size.Post κs a r x → image-size.Post κs a s y → r ≡ s
 image-size-unique κs a r s x y p q = one-outcome r s _ p q
+
+pub is-whole-unique : (κs : _) (a : _) (r s : Bool) (x y : _) → is-whole.Post κs a r x → is-whole.Post κs a s y → r ≡ s
+is-whole-unique κs a r s x y p q = one-outcome r s _ p q
 
 pub goes-on-unique : (κs : _) (a : _) (r s : Bool) (x y : _) → goes-on.Post κs a r x → goes-on.Post κs a s y → r ≡ s
 goes-on-unique κs a r s x y p q = one-outcome r s _ p q

@@ -1,10 +1,11 @@
 -- "The program and one whole run": what the program does with the bytes of its input, of whatever table.
 use mathlib.Core.Bool.{Bool, false, _&&_, _||_, cond}
 use mathlib.Core.List.{List}
-use Prim.Native.Nat.{ℕ}
+use Prim.Native.Nat.{ℕ, _+_, _*_}
 use lib.Dec.{leb, eqb}
 use lib.ListN.{take}
 use Rattle.answer.specs.Answer.{refused}
+use Rattle.shapes.specs.declared.Shape.{Shape}
 use Rattle.words.specs.Words.{wordAt}
 use Rattle.lines.specs.Put.{lineInto, lineEnd}
 
@@ -15,6 +16,10 @@ imageSize input = cond (leb 40 (wordAt 4 input 4) && leb (wordAt 4 input 4) 3686
 -- "and loads what it has"
 abbrev pub imageIn : List ℕ → List ℕ
 imageIn input = take (imageSize input) input
+
+-- "a kind byte .. and one f64 per axis"
+abbrev pub recordSize : Shape → ℕ
+recordSize s = 1 + 8 * s .axes
 
 -- whether the program reads on: its output stands, records may still come, and the buffer was filled or holds a whole record still
 unfoldable pub goesOn : Bool → Bool → ℕ → Bool → Bool

@@ -1,6 +1,9 @@
-// What the program does with the bytes of its input, of whatever table: where the image ends, whether to read on, and the input's end.
+// What the program does with the bytes of its input, of whatever table: where the image ends, whether a record is whole, whether to read
+// on, and the input's end.
 ghost use mathlib.Core.Path.{_≡_};
-ghost use Rattle.input.specs.Input.{imageSize, goesOn, endSize, endInto};
+ghost use lib.Dec.{leb};
+ghost use Rattle.input.specs.Input.{imageSize, recordSize, goesOn, endSize, endInto};
+use shapes::Shape;
 
 // How many bytes the image is to have, by what its first bytes state.
 pub fn image_size(head: &[u8]) -> usize
@@ -14,6 +17,16 @@ pub fn image_size(head: &[u8]) -> usize
         return 40;
     }
     stated
+}
+
+// Whether so many bytes hold a whole record.
+pub fn is_whole(shape: Shape, len: usize) -> bool
+    ensures { λ r. ⌜ r ≡ leb (recordSize shape) len ⌝ }
+{
+    if len == 0 {
+        return false;
+    }
+    shape.axes <= (len - 1) / 8
 }
 
 // Whether to read on.

@@ -3,7 +3,8 @@ ghost use mathlib.Core.Path.{_≡_};
 ghost use Prim.Native.Nat.{_≤_, _<_};
 ghost use lib.ListN.{length, take};
 ghost use Rattle.lines.specs.Feed.{Filled, Stepped, Reached, Ended};
-ghost use Rattle.ninterp.specs.Records.{recordSize, recordRule};
+ghost use Rattle.ninterp.specs.Records.{recordRule};
+ghost use Rattle.input.specs.Input.{recordSize};
 use shapes::Shape;
 
 // What is held of the buffer after a turn, how many records may still come, whether to go on, and whether the output failed.

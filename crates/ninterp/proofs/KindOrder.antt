@@ -1,10 +1,10 @@
 -- A record's answer in the order in which the code finds it. Assumes nothing.
 use mathlib.Core.Path.{_≡_, refl, sym, ap, ap₂, _∙_}
-use mathlib.Core.Bool.{Bool, true, false}
+use mathlib.Core.Bool.{true, false}
 use mathlib.Core.List.{List}
-use Prim.Native.Nat.{ℕ, zero, suc, _+_, _-_, _*_, _/_, _≤_, _<_}
+use Prim.Native.Nat.{ℕ, zero, suc, _+_, _-_, _*_, _≤_, _<_}
 use native.Mathlib.Omega.{arith}
-use borrow.Author.Tests.{lt-ltb, le-ltb, le-leb, lt-leb, leb-true, leb-false, eq-eqb, ne-eqb}
+use borrow.Author.Tests.{lt-ltb, le-ltb, leb-false, eq-eqb, ne-eqb}
 use lib.Dec.{leb, ltb, eqb}
 use lib.ListN.{length, take, getD, length-take}
 use lib.Ieee.{Float, nan}
@@ -31,7 +31,8 @@ use Rattle.ninterp.specs.Tables.{picked, nearestAnswer, stepAnswer, Judg
 use Rattle.picks.specs.Picks.{nearestRule, stepRule, pickRule}
 use Rattle.ninterp.specs.Linears.{interpolated, linearAnswer, linearUniformAnswer}
 use Rattle.axis.specs.Locations.{locationBy}
-use Rattle.ninterp.specs.Records.{allOf, kindAnswer, recordSize, recordReadings, recordAnswer}
+use Rattle.ninterp.specs.Records.{allOf, kindAnswer, recordReadings, recordAnswer}
+use Rattle.input.specs.Input.{recordSize}
 use Rattle.ninterp.specs.Kinds.{tableFault, kindFault, pickOf, fourOf, kindFound}
 use Rattle.ninterp.proofs.Located.{take-filled}
 use Rattle.ninterp.proofs.Lookups.{judged, four-at, picks-nearest, picks-step}
@@ -205,16 +206,6 @@ pub read-enough : (s : Shape) (rec : List ℕ) (xs : List Float) → take (s .ax
 read-enough s rec xs e =
     let n : length (take (s .axes) xs) ≡ s .axes = ap length e ∙ length-readings s rec in
     omega (arith, length-take (s .axes) xs)
-
-pub whole-none : (s : Shape) (len : ℕ) → len ≡ 0 → false ≡ leb (recordSize s) len
-whole-none s len e = sym (lt-leb (recordSize s) len (omega arith))
-
-pub whole-by : (s : Shape) (len : ℕ) → (len ≡ 0 → ⊥) → leb (s .axes) ((len - 1) / 8) ≡ leb (recordSize s) len
-whole-by s len n = go (leb (recordSize s) len) (leb-true (recordSize s) len) (leb-false (recordSize s) len)
-  where
-    go : (t : Bool) → (t ≡ true → recordSize s ≤ len) → (t ≡ false → len < recordSize s) → leb (s .axes) ((len - 1) / 8) ≡ t
-    go true h k = let l : 1 + 8 * s .axes ≤ len = h refl in le-leb (s .axes) ((len - 1) / 8) (omega arith)
-    go false h k = let l : len < 1 + 8 * s .axes = k refl in lt-leb (s .axes) ((len - 1) / 8) (omega arith)
 
 module _ (s : Shape) (nodes values : List Float) (rec : List ℕ) where
   pub record-short : leb (recordSize s) (length rec) ≡ false → refused 3 0 2 ≡ recordAnswer s nodes values rec

@@ -16,7 +16,8 @@ use Rattle.lines.specs.Put.{Wrote, lineInto, lineEnd}
 use Rattle.lines.specs.Stream.{Block}
 use Rattle.lines.proofs.Shows.{line-wrote}
 use Rattle.lines.proofs.Blocks.{Going, go-start, go-turn, go-done}
-use Rattle.ninterp.specs.Records.{kindAnswer, recordSize, recordReadings, recordAnswer, recordRule}
+use Rattle.ninterp.specs.Records.{kindAnswer, recordReadings, recordAnswer, recordRule}
+use Rattle.input.specs.Input.{recordSize}
 use Rattle.ninterp.proofs.KindOrder.{record-whole}
 
 module _ (s : Shape) (nodes values : List Float) where

@@ -27,7 +27,8 @@ use Rattle.values.proofs.Bares.{bare-values}
 use Rattle.lists.proofs.Bares.{bare-directions, bare-readings}
 use Rattle.answer.proofs.Bares.{Bare, bare-refused, bare-or, row, after, succeeds}
 use Rattle.answer.proofs.Tests.{either}
-use Rattle.ninterp.specs.Records.{allOf, kindAnswer, recordSize, recordReadings, recordAnswer}
+use Rattle.ninterp.specs.Records.{allOf, kindAnswer, recordReadings, recordAnswer}
+use Rattle.input.specs.Input.{recordSize}
 
 pub nearest-refusal : (s : Shape) (nodes values readings : List Float) → good (nearestAnswer s nodes values readings) ≡ false → nearestAnswer s nodes values readings .value ≡ plusZero
 unfolding nearestAnswer lookupFault

@@ -12,6 +12,7 @@ use Rattle.lines.specs.Line.{lineOf, longest}
 use Rattle.lines.specs.Stream.{Rule}
 use Rattle.layout.specs.Layout.{tabulate}
 use Rattle.shapes.specs.declared.Shape.{Shape}
+use Rattle.input.specs.Input.{recordSize}
 use Rattle.ninterp.specs.Tables.{nearestAnswer, stepAnswer}
 use Rattle.ninterp.specs.Linears.{linearAnswer, linearUniformAnswer}
 
@@ -28,10 +29,7 @@ kindAnswer kind s nodes values readings =
     (cond (eqb kind 3) (stepAnswer s nodes values readings (allOf s 0))
     (cond (eqb kind 4) (stepAnswer s nodes values readings (allOf s 1)) (refused 9 0 0)))))
 
--- "a kind byte .. and one f64 per axis"
-abbrev pub recordSize : Shape → ℕ
-recordSize s = 1 + 8 * s .axes
-
+-- "one f64 per axis"
 unfoldable pub recordReadings : Shape → List ℕ → List Float
 recordReadings s rec = tabulate (s .axes) (λ a. floatAt rec (1 + 8 * a))
 

@@ -2,7 +2,7 @@
 ghost use mathlib.Core.Path.{_≡_};
 ghost use mathlib.Core.Bool.{true};
 ghost use Prim.Native.Nat.{_+_, _*_, _≤_};
-ghost use lib.Dec.{leb, eqb};
+ghost use lib.Dec.{eqb};
 ghost use lib.ListN.{length, getD};
 ghost use Rattle.answer.specs.Answer.{good, when, _or_};
 ghost use Rattle.shapes.specs.Shape.{countsOf};
@@ -12,7 +12,8 @@ ghost use Rattle.table.specs.Table.{rangesFault};
 ghost use Rattle.words.specs.Words.{floatAt};
 ghost use Rattle.spacing.specs.Uniform.{axesUniformFault};
 ghost use Rattle.ninterp.specs.Tables.{Judged};
-ghost use Rattle.ninterp.specs.Records.{kindAnswer, recordSize, recordReadings, recordAnswer};
+ghost use Rattle.input.specs.Input.{recordSize};
+ghost use Rattle.ninterp.specs.Records.{kindAnswer, recordReadings, recordAnswer};
 ghost use Rattle.ninterp.specs.Kinds.{tableFault, kindFault, pickOf, kindFound};
 
 pub mod block;
@@ -124,21 +125,11 @@ pub(crate) fn whole_answer(
     point_answer(kind, shape, nodes, values, &readings[..axes])
 }
 
-// Whether so many bytes hold a whole record.
-pub(crate) fn is_whole(shape: Shape, len: usize) -> bool
-    ensures { λ r. ⌜ r ≡ leb (recordSize shape) len ⌝ }
-{
-    if len == 0 {
-        return false;
-    }
-    shape.axes <= (len - 1) / 8
-}
-
 // What a record is answered, in a table that is judged for it alone.
 pub fn record_answer(shape: Shape, nodes: &[f64], values: &[f64], rec: &[u8]) -> Answer
     ensures { λ r. ⌜ r ≡ recordAnswer shape (now (nodes .entry)) (now (values .entry)) (now (rec .entry)) ⌝ }
 {
-    if !is_whole(shape, rec.len()) {
+    if !input::is_whole(shape, rec.len()) {
         return answer::refuse(3, 0, 2);
     }
     let table = table_fault(shape, nodes, values);

@@ -1,7 +1,8 @@
 // A turn of the program's buffer: its records are answered, and what is left of it is moved to its front.
 ghost use mathlib.Core.Path.{_≡_};
 ghost use Prim.Native.Nat.{_*_, _≤_};
-ghost use Rattle.ninterp.specs.Records.{recordSize, recordRule};
+ghost use Rattle.ninterp.specs.Records.{recordRule};
+ghost use Rattle.input.specs.Input.{recordSize};
 ghost use Rattle.turns.specs.Turns.{shifted, TurnOf};
 use shapes::Shape;
 

@@ -7,7 +7,8 @@ ghost use Rattle.spacing.specs.Uniform.{axesUniformFault};
 ghost use Rattle.lines.specs.Line.{lineOf, longest};
 ghost use Rattle.lines.specs.Put.{Wrote};
 ghost use Rattle.lines.specs.Stream.{Block};
-ghost use Rattle.ninterp.specs.Records.{recordSize, recordAnswer, recordRule};
+ghost use Rattle.input.specs.Input.{recordSize};
+ghost use Rattle.ninterp.specs.Records.{recordAnswer, recordRule};
 ghost use Rattle.ninterp.specs.Kinds.{tableFault};
 use crate::records;
 use answer::Answer;
@@ -84,7 +85,7 @@ pub fn answer_block(
 ) -> Done
     ensures { λ r. ⌜ Block (recordRule shape (now (nodes .entry)) (now (values .entry))) most (now (records .entry)) (now (out .entry)) (now (out .exit)) (r .count) (r .written) ⌝ }
 {
-    if !records::is_whole(shape, records.len()) {
+    if !input::is_whole(shape, records.len()) {
         return Done {
             count: 0,
             written: 0,

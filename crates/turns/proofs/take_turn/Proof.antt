@@ -1,6 +1,7 @@
 use lib.Seq.{length-take-le}
 use Rattle.lines.proofs.Blocks.{answered}
-use Rattle.ninterp.specs.Records.{recordSize, recordRule}
+use Rattle.ninterp.specs.Records.{recordRule}
+use Rattle.input.specs.Input.{recordSize}
 use Rattle.turns.proofs.Turning.{there-fits, turn-of}
 use mathlib.Core.Path.{sym}
 use Prim.Native.Nat.{_*_, _≤_}

@@ -1,5 +1,5 @@
 use native.Mathlib.Nat.{zero-mul}
-use Rattle.ninterp.specs.Records.{recordSize}
+use Rattle.input.specs.Input.{recordSize}
 use Rattle.turns.proofs.Turning.{one-of}
 use mathlib.Core.Path.{sym, ap, _∙_}
 use Prim.Native.Nat.{ℕ, _-_, _*_, _≤_}

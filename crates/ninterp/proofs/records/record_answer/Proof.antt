@@ -3,7 +3,7 @@ use lib.ListN.{length}
 use Prim.Native.Nat.{_≤_}
 use denote.Ref.{now}
 use borrow.Author.Tests.{leb-true, not-true, not-false}
-use Rattle.ninterp.specs.Records.{recordSize}
+use Rattle.input.specs.Input.{recordSize}
 use Rattle.ninterp.proofs.KindOrder.{record-short, record-whole}
 use borrow.Author.Needs.{needs}
 use Rattle.ninterp.proofs.records.record_answer.Statement.{statement}

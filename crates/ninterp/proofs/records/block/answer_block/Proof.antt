@@ -4,7 +4,7 @@ use native.Mathlib.Omega.{arith}
 use lib.ListN.{length}
 use denote.Ref.{now}
 use borrow.Author.Tests.{leb-true, not-true, not-false}
-use Rattle.ninterp.specs.Records.{recordSize}
+use Rattle.input.specs.Input.{recordSize}
 use Rattle.ninterp.proofs.RecordLines.{block-none}
 use borrow.Author.Needs.{needs}
 use Rattle.ninterp.proofs.records.block.answer_block.Statement.{statement}

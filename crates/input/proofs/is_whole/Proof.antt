@@ -1,7 +1,7 @@
-use Rattle.ninterp.proofs.KindOrder.{whole-none, whole-by}
+use Rattle.input.proofs.Wholes.{whole-none, whole-by}
 use borrow.Author.Needs.{needs}
-use Rattle.ninterp.proofs.records.is_whole.Statement.{statement}
-use Rattle.ninterp.proofs.records.is_whole.Tie as tie
+use Rattle.input.proofs.is_whole.Statement.{statement}
+use Rattle.input.proofs.is_whole.Tie as tie
 
 returns : tie.Need-returns
 returns c = whole-none (c .before .args .shape) (c .before .args .len) (c .if1 .taken)

@@ -1,5 +1,5 @@
 #!/usr/bin/env bash
-# The fixed whole runs that crates/whole runs.
-#   bash oracle/runs.sh           writes crates/whole/stdin and crates/whole/stdout
+# The fixed whole runs that crates/test_whole runs.
+#   bash oracle/runs.sh           writes crates/test_whole/stdin and crates/test_whole/stdout
 #   bash oracle/runs.sh --check   makes them anew and compares
-exec bash "$(dirname "${BASH_SOURCE[0]}")/fixed.sh" whole 'whole runs' runs "$@"
+exec bash "$(dirname "${BASH_SOURCE[0]}")/fixed.sh" test_whole 'whole runs' runs "$@"

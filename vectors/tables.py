@@ -15,14 +15,26 @@ class Table(NamedTuple):
     values: list
 
 
+class Writing(NamedTuple):
+    """How many nodes and values are lent to the writer, and how many bytes its output has."""
+
+    nodes: int
+    values: int
+    room: int
+
+
 class Case(NamedTuple):
-    """An image, the rooms lent with it, and the answer that the group of cases is made for, where it knows one."""
+    """An image, the rooms lent with it, and the answer that the group of cases is made for, where it knows one.
+
+    What is lent to the writer afterwards: the table that was loaded, and room for its image, where nothing else is said.
+    """
 
     name: str
     image: bytes
     nodes: int
     values: int
     wanted: tuple = None
+    lent: Writing = None
 
 
 def bits_of(x):

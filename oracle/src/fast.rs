@@ -210,7 +210,7 @@ fn read_table(call: &Header, input: &mut impl Read) -> io::Result<Ready> {
     }))
 }
 
-/// What the program `replay` does with a list of tables that fit, and of lookups in them.
+/// What the program `test_replay` does with a list of tables that fit, and of lookups in them.
 pub fn judged(input: impl Read, output: impl Write) -> io::Result<()> {
     let mut input = BufReader::with_capacity(BUFFER, input);
     let mut output = BufWriter::with_capacity(BUFFER, output);

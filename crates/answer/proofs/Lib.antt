@@ -1,6 +1,6 @@
 pub mod Orders
+pub mod Loops
 pub mod Tests
 pub mod Outcome
-pub mod Unique
 pub mod Outputs
-pub mod Bares
+pub mod Answers

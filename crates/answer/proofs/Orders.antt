@@ -8,54 +8,55 @@ use native.Mathlib.Numerals.{add-one}
 use native.Mathlib.Omega.{arith}
 use borrow.Author.Tests.{eq-eqb, ne-eqb}
 use lib.Dec.{T, eqb}
-use lib.Ieee.{Float}
-use Rattle.answer.specs.Answer.{refused, answered, fine, good, when, _or_, firstOf, given, indexAnswer}
-use Rattle.answer.specs.declared.Answer.{Answer}
-use Rattle.answer.specs.declared.IndexAnswer.{IndexAnswer}
+use Rattle.answer.specs.Faults.{refusal, noFault, good, when, _or_, firstOf, given}
+use Rattle.answer.specs.declared.Fault.{Fault}
 
 pub clash : {A : Type 0} (b : Bool) → b ≡ true → b ≡ false → A
 clash b p q = absurd (subst T (sym p ∙ q) tt)
 
--- ---- which answers are refusals
-pub good-fine : good fine ≡ true
-unfolding good fine answered
-good-fine = refl
+-- ---- which faults are refusals
+pub good-no-fault : good noFault ≡ true
+unfolding good noFault refusal
+good-no-fault = refl
 
-pub fine-number : fine .number ≡ 0
-unfolding fine answered
-fine-number = refl
+pub no-fault-number : noFault .number ≡ 0
+unfolding noFault refusal
+no-fault-number = refl
 
-pub good-answered : (v : Float) → good (answered v) ≡ true
-unfolding good answered
-good-answered v = refl
-
-pub bad-refused : (n axis place : ℕ) → good (refused (suc n) axis place) ≡ false
-unfolding good refused
+pub bad-refused : (n axis place : ℕ) → good (refusal (suc n) axis place) ≡ false
+unfolding good refusal
 bad-refused n axis place = ne-eqb (suc n) 0 (λ e. omega arith)
 
 -- ---- the code's test of a number
-pub passes : (r a : Answer) → r ≡ a → r .number ≡ 0 → good a ≡ true
+pub passes : (r a : Fault) → r ≡ a → r .number ≡ 0 → good a ≡ true
 unfolding good
-passes r a e h = subst (λ (x : Answer). eqb (x .number) 0 ≡ true) e (eq-eqb (r .number) 0 h)
+passes r a e h = subst (λ (x : Fault). eqb (x .number) 0 ≡ true) e (eq-eqb (r .number) 0 h)
 
-pub fails : (r a : Answer) → r ≡ a → (r .number ≡ 0 → ⊥) → good a ≡ false
+pub fails : (r a : Fault) → r ≡ a → (r .number ≡ 0 → ⊥) → good a ≡ false
 unfolding good
-fails r a e h = subst (λ (x : Answer). eqb (x .number) 0 ≡ false) e (ne-eqb (r .number) 0 h)
+fails r a e h = subst (λ (x : Fault). eqb (x .number) 0 ≡ false) e (ne-eqb (r .number) 0 h)
 
 -- ---- rows
-module _ (b : Bool) (a : Answer) where
+module _ (b : Bool) (a : Fault) where
   pub when-true : b ≡ true → when b a ≡ a
   unfolding when
-  when-true h = ap (λ (t : Bool). cond t a fine) h
+  when-true h = ap (λ (t : Bool). cond t a noFault) h
 
-  pub when-false : b ≡ false → when b a ≡ fine
+  pub when-false : b ≡ false → when b a ≡ noFault
   unfolding when
-  when-false h = ap (λ (t : Bool). cond t a fine) h
+  when-false h = ap (λ (t : Bool). cond t a noFault) h
 
   pub good-when : b ≡ false → good (when b a) ≡ true
-  good-when h = ap good (when-false h) ∙ good-fine
+  good-when h = ap good (when-false h) ∙ good-no-fault
 
-  -- a row whose answer is a refusal is passed only where its condition is not met
+  pub good-if : (b ≡ true → good a ≡ true) → good (when b a) ≡ true
+  good-if h = go b refl
+    where
+      go : (t : Bool) → b ≡ t → good (when b a) ≡ true
+      go true e = ap good (when-true e) ∙ h e
+      go false e = good-when e
+
+  -- a row whose fault is a refusal is passed only where its condition is not met
   pub passed-when : good a ≡ false → good (when b a) ≡ true → b ≡ false
   passed-when n h = go b refl
     where
@@ -63,8 +64,12 @@ module _ (b : Bool) (a : Answer) where
       go true e = clash (good a) (sym (ap good (when-true e)) ∙ h) n
       go false e = e
 
+-- a row whose test is told by what a callee gives
+pub row-by : (r a : Fault) (s t : Bool) → r ≡ when s a → s ≡ t → r ≡ when t a
+row-by r a s t e q = e ∙ ap (λ (u : Bool). when u a) q
+
 -- ---- two checks, one after the other
-module _ (a b : Answer) where
+module _ (a b : Fault) where
   pub or-good : good a ≡ true → (a or b) ≡ b
   unfolding _or_
   or-good h = ap (λ (t : Bool). cond t b a) h
@@ -86,17 +91,17 @@ module _ (a b : Answer) where
   pub second-passed : good (a or b) ≡ true → good b ≡ true
   second-passed h = sym (ap good (or-good (first-passed h))) ∙ h
 
-pub both-passed : (a b : Answer) → good a ≡ true → good b ≡ true → good (a or b) ≡ true
+pub both-passed : (a b : Fault) → good a ≡ true → good b ≡ true → good (a or b) ≡ true
 both-passed a b p q = ap good (or-good a b p) ∙ q
 
-pub passed-fine : (a : Answer) → fine ≡ a → good a ≡ true
-passed-fine a e = sym (ap good e) ∙ good-fine
+pub passed-no-fault : (a : Fault) → noFault ≡ a → good a ≡ true
+passed-no-fault a e = sym (ap good e) ∙ good-no-fault
 
-pub or-fine : (b : Answer) → (fine or b) ≡ b
-or-fine b = or-good fine b good-fine
+pub or-no-fault : (b : Fault) → (noFault or b) ≡ b
+or-no-fault b = or-good noFault b good-no-fault
 
 -- ---- what is given besides
-module _ {A : Type 0} (a : Answer) (x zeros : A) where
+module _ {A : Type 0} (a : Fault) (x zeros : A) where
   pub given-good : good a ≡ true → given a x zeros ≡ x
   unfolding given
   given-good h = ap (λ (t : Bool). cond t x zeros) h
@@ -106,8 +111,8 @@ module _ {A : Type 0} (a : Answer) (x zeros : A) where
   given-bad h = ap (λ (t : Bool). cond t x zeros) h
 
 -- ---- the first fault up to an end, place by place
-module _ (f : ℕ → Answer) where
-  first-zero : (i : ℕ) → firstOf f i zero ≡ fine
+module _ (f : ℕ → Fault) where
+  first-zero : (i : ℕ) → firstOf f i zero ≡ noFault
   unfolding firstOf
   first-zero i = refl
 
@@ -135,7 +140,7 @@ module _ (f : ℕ → Answer) where
   pub first-stop : (i end : ℕ) → i < end → good (f i) ≡ false → firstOf f i (end - i) ≡ f i
   first-stop i end h g = first-open i end h ∙ or-bad (f i) (firstOf f (i + 1) (end - (i + 1))) g
 
-  pub first-end : (i end : ℕ) → end ≤ i → firstOf f i (end - i) ≡ fine
+  pub first-end : (i end : ℕ) → end ≤ i → firstOf f i (end - i) ≡ noFault
   first-end i end h = ap (λ (k : ℕ). firstOf f i k) none ∙ first-zero i
     where
       none : end - i ≡ 0
@@ -153,7 +158,7 @@ module _ (f : ℕ → Answer) where
       next = omega arith
 
   -- where none is a fault
-  pub none-good : (i k : ℕ) → ((j : ℕ) → i ≤ j → j < i + k → good (f j) ≡ true) → firstOf f i k ≡ fine
+  pub none-good : (i k : ℕ) → ((j : ℕ) → i ≤ j → j < i + k → good (f j) ≡ true) → firstOf f i k ≡ noFault
   none-good i zero h = first-zero i
   none-good i (suc k) h =
       first-suc i k ∙ or-good (f i) (firstOf f (suc i) k) (h i (omega arith) (omega arith)) ∙ none-good (suc i) k (λ j l m. h j (omega arith) (omega arith))
@@ -170,42 +175,46 @@ module _ (f : ℕ → Answer) where
       go (inr n) later = later (omega arith)
 
 -- the same faults give the same first one
-pub first-same : (f g : ℕ → Answer) (i k : ℕ) → ((j : ℕ) → i ≤ j → j < i + k → f j ≡ g j) → firstOf f i k ≡ firstOf g i k
+pub first-same : (f g : ℕ → Fault) (i k : ℕ) → ((j : ℕ) → i ≤ j → j < i + k → f j ≡ g j) → firstOf f i k ≡ firstOf g i k
 unfolding firstOf
 first-same f g i zero h = refl
-first-same f g i (suc k) h = ap₂ (λ (a b : Answer). a or b) (h i (omega arith) (omega arith)) (first-same f g (suc i) k (λ j l m. h j (omega arith) (omega arith)))
+first-same f g i (suc k) h = ap₂ (λ (a b : Fault). a or b) (h i (omega arith) (omega arith)) (first-same f g (suc i) k (λ j l m. h j (omega arith) (omega arith)))
 
 -- ---- a row that refuses: met, passed, and in front of the rest of an order
 module _ (b : Bool) (n axis place : ℕ) where
-  pub row-met : b ≡ true → refused (suc n) axis place ≡ when b (refused (suc n) axis place)
-  row-met h = sym (when-true b (refused (suc n) axis place) h)
+  pub row-met : b ≡ true → refusal (suc n) axis place ≡ when b (refusal (suc n) axis place)
+  row-met h = sym (when-true b (refusal (suc n) axis place) h)
 
-  pub row-passed : b ≡ false → fine ≡ when b (refused (suc n) axis place)
-  row-passed h = sym (when-false b (refused (suc n) axis place) h)
+  pub row-passed : b ≡ false → noFault ≡ when b (refusal (suc n) axis place)
+  row-passed h = sym (when-false b (refusal (suc n) axis place) h)
 
-  pub row-good : good (when b (refused (suc n) axis place)) ≡ true → b ≡ false
-  row-good h = passed-when b (refused (suc n) axis place) (bad-refused n axis place) h
+  pub row-good : good (when b (refusal (suc n) axis place)) ≡ true → b ≡ false
+  row-good h = passed-when b (refusal (suc n) axis place) (bad-refused n axis place) h
 
-  module _ (rest : Answer) where
-    pub row-stops : b ≡ true → refused (suc n) axis place ≡ (when b (refused (suc n) axis place) or rest)
-    row-stops h = row-met h ∙ sym (or-bad (when b (refused (suc n) axis place)) rest (sym (ap good (row-met h)) ∙ bad-refused n axis place))
+  module _ (rest : Fault) where
+    pub row-stops : b ≡ true → refusal (suc n) axis place ≡ (when b (refusal (suc n) axis place) or rest)
+    row-stops h = row-met h ∙ sym (or-bad (when b (refusal (suc n) axis place)) rest (sym (ap good (row-met h)) ∙ bad-refused n axis place))
 
-    pub row-goes-on : b ≡ false → rest ≡ (when b (refused (suc n) axis place) or rest)
-    row-goes-on h = sym (or-good (when b (refused (suc n) axis place)) rest (good-when b (refused (suc n) axis place) h))
+    pub row-goes-on : b ≡ false → rest ≡ (when b (refusal (suc n) axis place) or rest)
+    row-goes-on h = sym (or-good (when b (refusal (suc n) axis place)) rest (good-when b (refusal (suc n) axis place) h))
 
-pub or-assoc : (a b c : Answer) → ((a or b) or c) ≡ (a or b or c)
+pub or-assoc : (a b c : Fault) → ((a or b) or c) ≡ (a or b or c)
 or-assoc a b c = go (good a) refl
   where
     go : (t : Bool) → good a ≡ t → ((a or b) or c) ≡ (a or b or c)
-    go true e = ap (λ (x : Answer). x or c) (or-good a b e) ∙ sym (or-good a (b or c) e)
-    go false e = ap (λ (x : Answer). x or c) (or-bad a b e) ∙ or-bad a c e ∙ sym (or-bad a (b or c) e)
+    go true e = ap (λ (x : Fault). x or c) (or-good a b e) ∙ sym (or-good a (b or c) e)
+    go false e = ap (λ (x : Fault). x or c) (or-bad a b e) ∙ or-bad a c e ∙ sym (or-bad a (b or c) e)
 
--- ---- the same in the code's terms: r is what a check answered, and its number was tested
-module _ (r a : Answer) (e : r ≡ a) where
-  pub or-stops : (rest : Answer) → (r .number ≡ 0 → ⊥) → r ≡ (a or rest)
+-- what a callee gives of two faults, as what they are
+pub or-by : (r a b c d : Fault) → r ≡ (a or b) → a ≡ c → b ≡ d → r ≡ (c or d)
+or-by r a b c d e p q = e ∙ ap₂ (λ (x y : Fault). x or y) p q
+
+-- ---- the same in the code's terms: r is what a check gave, and its number was tested
+module _ (r a : Fault) (e : r ≡ a) where
+  pub or-stops : (rest : Fault) → (r .number ≡ 0 → ⊥) → r ≡ (a or rest)
   or-stops rest h = e ∙ sym (or-bad a rest (fails r a e h))
 
-  pub or-goes-on : (s rest : Answer) → r .number ≡ 0 → s ≡ rest → s ≡ (a or rest)
+  pub or-goes-on : (s rest : Fault) → r .number ≡ 0 → s ≡ rest → s ≡ (a or rest)
   or-goes-on s rest h q = q ∙ sym (or-good a rest (passes r a e h))
 
   module _ {A : Type 0} (x zeros : A) where
@@ -216,19 +225,9 @@ module _ (r a : Answer) (e : r ≡ a) where
     given-kept y h q = q ∙ sym (given-good a x zeros (passes r a e h))
 
 -- the same of two rows that one check answers for, in front of the rest
-module _ (r a b : Answer) (e : r ≡ (a or b)) where
-  pub pair-stops : (rest : Answer) → (r .number ≡ 0 → ⊥) → r ≡ (a or b or rest)
+module _ (r a b : Fault) (e : r ≡ (a or b)) where
+  pub pair-stops : (rest : Fault) → (r .number ≡ 0 → ⊥) → r ≡ (a or b or rest)
   pair-stops rest h = or-stops r (a or b) e rest h ∙ or-assoc a b rest
 
-  pub pair-goes-on : (s rest : Answer) → r .number ≡ 0 → s ≡ rest → s ≡ (a or b or rest)
+  pub pair-goes-on : (s rest : Fault) → r .number ≡ 0 → s ≡ rest → s ≡ (a or b or rest)
   pair-goes-on s rest h q = or-goes-on r (a or b) e s rest h q ∙ or-assoc a b rest
-
--- ---- an answer with an index
-module _ (r a : Answer) (e : r ≡ a) where
-  pub index-refused : (i : ℕ) → (r .number ≡ 0 → ⊥) → _≡_ {A = IndexAnswer} (record { answer = r; index = 0 }) (indexAnswer a i)
-  unfolding indexAnswer
-  index-refused i h = ap₂ (λ (b : Answer) (k : ℕ). record { answer = b; index = k }) e (given-refused r a e i 0 h)
-
-  pub index-given : (j i : ℕ) → r .number ≡ 0 → j ≡ i → _≡_ {A = IndexAnswer} (record { answer = r; index = j }) (indexAnswer a i)
-  unfolding indexAnswer
-  index-given j i h q = ap₂ (λ (b : Answer) (k : ℕ). record { answer = b; index = k }) e (given-kept r a e i 0 j h q)

@@ -4,18 +4,18 @@ use mathlib.Core.Bool.{Bool, true, false, cond}
 use mathlib.Core.List.{List, _++_}
 use lib.ListN.{length, take, drop}
 use lib.Seq.{take-at, drop-at}
-use Rattle.answer.specs.Answer.{good, given, filledInto}
-use Rattle.answer.specs.declared.Answer.{Answer}
+use Rattle.answer.specs.Faults.{good, given, filledInto}
+use Rattle.answer.specs.declared.Fault.{Fault}
 
-pub refused-keeps : {A : Type 0} (a : Answer) (xs out : List A) → good a ≡ false → filledInto a xs out ≡ out
+pub refused-keeps : {A : Type 0} (a : Fault) (xs out : List A) → good a ≡ false → filledInto a xs out ≡ out
 unfolding filledInto given
 refused-keeps a xs out h = ap (λ (t : Bool). cond t (xs ++ drop (length xs) out) out) h
 
-pub given-front : {A : Type 0} (a : Answer) (xs out : List A) → good a ≡ true → take (length xs) (filledInto a xs out) ≡ xs
+pub given-front : {A : Type 0} (a : Fault) (xs out : List A) → good a ≡ true → take (length xs) (filledInto a xs out) ≡ xs
 unfolding filledInto given
 given-front a xs out h = ap (λ (t : Bool). take (length xs) (cond t (xs ++ drop (length xs) out) out)) h ∙ take-at xs (drop (length xs) out) (length xs) refl
 
-pub beyond-kept : {A : Type 0} (a : Answer) (xs out : List A) → drop (length xs) (filledInto a xs out) ≡ drop (length xs) out
+pub beyond-kept : {A : Type 0} (a : Fault) (xs out : List A) → drop (length xs) (filledInto a xs out) ≡ drop (length xs) out
 unfolding filledInto given
 beyond-kept a xs out = go (good a)
   where

@@ -1,7 +1,16 @@
-// The answer that all calls share: a number, an axis, a place and a value.
+// What judges gives a fault. The answer that all calls share is made of a fault or of a value, here and nowhere else.
 ghost use mathlib.Core.Path.{_≡_};
+ghost use Rattle.answer.specs.Faults.{refusal, noFault, when, _or_};
 ghost use Rattle.answer.specs.Answer.{refused, answered, fine};
 
+// What is wrong, and where: its number, axis and place. The number 0 says that nothing is.
+pub struct Fault {
+    pub number: u32,
+    pub axis: usize,
+    pub place: usize,
+}
+
+// What a technician sees: a fault's number, axis and place, or 0, 0, 0; and a value.
 pub struct Answer {
     pub number: u32,
     pub axis: usize,
@@ -9,25 +18,55 @@ pub struct Answer {
     pub value: f64,
 }
 
-// An answer with an index; on a refusal the index is 0.
-pub struct IndexAnswer {
-    pub answer: Answer,
-    pub index: usize,
-}
-
-// A refusal: its number, axis and place, and the value +0.0.
-pub fn refuse(number: u32, axis: usize, place: usize) -> Answer
-    ensures { λ r. ⌜ r ≡ refused number axis place ⌝ }
+// The fault of a row of the table of numbers that is met.
+pub fn refusal(number: u32, axis: usize, place: usize) -> Fault
+    ensures { λ r. ⌜ r ≡ refusal number axis place ⌝ }
 {
-    Answer {
+    Fault {
         number,
         axis,
         place,
+    }
+}
+
+// Nothing is wrong.
+pub fn no_fault() -> Fault
+    ensures { λ r. ⌜ r ≡ noFault ⌝ }
+{
+    refusal(0, 0, 0)
+}
+
+// A row of the table of numbers: its fault exactly where its condition is met.
+pub fn row(met: bool, number: u32, axis: usize, place: usize) -> Fault
+    ensures { λ r. ⌜ r ≡ when met (refusal number axis place) ⌝ }
+{
+    if met {
+        refusal(number, axis, place)
+    } else {
+        no_fault()
+    }
+}
+
+// Two checks, one after the other: the first fault found.
+pub fn or(first: Fault, second: Fault) -> Fault
+    ensures { λ r. ⌜ r ≡ (first or second) ⌝ }
+{
+    if first.number != 0 { first } else { second }
+}
+
+// The answer of a fault: its number, axis and place, and the value +0.0.
+pub fn refuse(fault: Fault) -> Answer
+    ensures { λ r. ⌜ r ≡ refused fault ⌝ }
+{
+    Answer {
+        number: fault.number,
+        axis: fault.axis,
+        place: fault.place,
         value: 0.0,
     }
 }
 
-// A success: 0, 0, 0 and the value.
+// The answer of a value: 0, 0, 0 and the value.
 pub fn succeed(value: f64) -> Answer
     ensures { λ r. ⌜ r ≡ answered value ⌝ }
 {

@@ -3,12 +3,12 @@ use mathlib.Core.Path.{_≡_, sym, ap, _∙_}
 use mathlib.Core.List.{List}
 use Prim.Native.Nat.{ℕ}
 use lib.Ieee.{Float}
-use Rattle.cells.specs.Cells.{lowerIndex}
-use Rattle.exact.specs.Exact.{exactNode}
-use Rattle.exact.specs.declared.MaybeIndex.{MaybeIndex}
-use Rattle.exact.specs.declared.MaybeIndex.the-variants.{Some, None}
-use Rattle.axis.specs.Utils.{fraction, axisLocation, locationAt}
-use Rattle.blend.specs.declared.AxisLocation.the-variants.{Exact, Between}
+use Rattle.axis.specs.Cells.{lowerIndex}
+use Rattle.axis.specs.Exact.{exactNode}
+use Rattle.axis.specs.declared.exact.MaybeIndex.{MaybeIndex}
+use Rattle.axis.specs.declared.exact.MaybeIndex.the-variants.{Some, None}
+use Rattle.axis.specs.Locations.{fraction, axisLocation, locationAt}
+use Rattle.axis.specs.declared.AxisLocation.the-variants.{Exact, Between}
 
 module _ (nodes : List Float) (p : Float) (l : ℕ) (e : l ≡ lowerIndex nodes p) (r : MaybeIndex) (q : r ≡ exactNode nodes l p) where
   located : axisLocation nodes p ≡ locationAt nodes l p

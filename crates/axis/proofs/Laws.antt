@@ -14,18 +14,19 @@ use Rattle.answer.proofs.Orders.{clash}
 use Rattle.binary64.proofs.Order as order
 use Rattle.binary64.proofs.Difference.{sub-above, sub-not-below, sub-keeps-order}
 use Rattle.binary64.proofs.Quotient.{Unit, unit-finite, div-unit}
-use Rattle.judge.specs.Check.{node, gap, Axis}
-use Rattle.uniform.specs.Uniform.{uniformIndex, uniformCell}
-use Rattle.cells.specs.Cells.{howMany, lowerIndex}
-use Rattle.cells.proofs.Cells.{cell-inside}
-use Rattle.cells.proofs.Axes.{cell-high}
+use Rattle.checks.specs.Nodes.{node, gap}
+use Rattle.checks.specs.Passed.{Axis}
+use Rattle.axis.specs.Uniform.{uniformIndex, uniformCell}
+use Rattle.axis.specs.Cells.{howMany, lowerIndex}
+use Rattle.axis.proofs.cells.Cells.{cell-inside}
+use Rattle.axis.proofs.cells.Axes.{cell-high}
 use Rattle.binary64.proofs.Held.{Held}
-use Rattle.picks.proofs.Laws.{from-lower, before-node, at-lower}
-use Rattle.blend.specs.declared.AxisLocation.the-variants.{Exact}
-use Rattle.axis.specs.Utils.{fraction, axisLocation}
-use Rattle.exact.specs.Exact.{exactNode}
-use Rattle.exact.specs.declared.MaybeIndex.the-variants.{Some}
-use Rattle.exact.proofs.Exacts.{exact-lower, exact-upper}
+use Rattle.axis.proofs.picks.Laws.{from-lower, before-node, at-lower}
+use Rattle.axis.specs.declared.AxisLocation.the-variants.{Exact}
+use Rattle.axis.specs.Locations.{fraction, axisLocation}
+use Rattle.axis.specs.Exact.{exactNode}
+use Rattle.axis.specs.declared.exact.MaybeIndex.the-variants.{Some}
+use Rattle.axis.proofs.exact.Exacts.{exact-lower, exact-upper}
 
 -- what lies from 0 up to a finite number is finite
 bounded : (a b : Float) → finite b ≡ true → le plusZero a ≡ true → le a b ≡ true → finite a ≡ true

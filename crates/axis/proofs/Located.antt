@@ -10,16 +10,16 @@ use lib.IntN.{pos}
 use lib.Ieee.{Float, fin, lt, eq, toUnsigned}
 use lib.Ieee.Scale.{finite}
 use Rattle.answer.specs.Answer.{plusZero}
-use Rattle.judge.specs.Check.{node, gap, Axis}
-use Rattle.uniform.specs.Uniform.{uniformCell, uniformIndex}
-use Rattle.blend.specs.declared.AxisLocation.{AxisLocation}
-use Rattle.blend.specs.declared.AxisLocation.the-variants.{Exact, Between}
-use Rattle.cells.specs.Cells.{lowerIndex}
-use Rattle.cells.proofs.Cells.{cell-inside}
-use Rattle.axis.specs.Utils.{exactOr, fraction, axisLocation}
-use Rattle.exact.specs.Exact.{exactNode}
-use Rattle.exact.specs.declared.MaybeIndex.the-variants.{Some, None}
-use Rattle.axis.specs.Locations.{uniformLocation, locationBy, locationFound, locationIndex, upperOf}
+use Rattle.checks.specs.Nodes.{node, gap}
+use Rattle.checks.specs.Passed.{Axis}
+use Rattle.axis.specs.Uniform.{uniformCell, uniformIndex}
+use Rattle.axis.specs.declared.AxisLocation.{AxisLocation}
+use Rattle.axis.specs.declared.AxisLocation.the-variants.{Exact, Between}
+use Rattle.axis.specs.Cells.{lowerIndex}
+use Rattle.axis.proofs.cells.Cells.{cell-inside}
+use Rattle.axis.specs.Locations.{exactOr, fraction, axisLocation, uniformLocation, locationBy, locationFound, locationIndex, upperOf}
+use Rattle.axis.specs.Exact.{exactNode}
+use Rattle.axis.specs.declared.exact.MaybeIndex.the-variants.{Some, None}
 
 -- ---- of any location
 pub lower-upper : (p : AxisLocation) → locationIndex p ≤ upperOf p

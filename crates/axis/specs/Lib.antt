@@ -1,2 +1,7 @@
-pub mod Utils
 pub mod Locations
+pub mod Cells
+pub mod Exact
+pub mod Steps
+pub mod Rust
+pub mod Picks
+pub mod Uniform

@@ -1,4 +1,4 @@
--- Where a reading lies on an axis, by Linear's rule or by LinearUniform's. They share their code.
+-- Where a reading lies on an axis, by Linear's rule (`locate_axis`) and by LinearUniform's: the exact node, or a cell with a fraction.
 use mathlib.Core.Bool.{Bool, true, false, cond}
 use mathlib.Core.List.{List}
 use Prim.Native.Nat.{ℕ, _+_}
@@ -6,12 +6,32 @@ use lib.Dec.{ltb}
 use lib.ListN.{length}
 use lib.Ieee.{Float, binary64, sub, div}
 use Rattle.answer.specs.Answer.{plusZero}
-use Rattle.judge.specs.Check.{node, gap}
-use Rattle.uniform.specs.Uniform.{uniformIndex}
-use Rattle.blend.specs.declared.AxisLocation.{AxisLocation}
-use Rattle.blend.specs.declared.AxisLocation.the-variants.{Exact, Between}
-use Rattle.axis.specs.Utils.{axisLocation}
+use Rattle.checks.specs.Nodes.{node, gap}
+use Rattle.axis.specs.Cells.{lowerIndex}
+use Rattle.axis.specs.Exact.{exactNode}
+use Rattle.axis.specs.Uniform.{uniformIndex}
+use Rattle.axis.specs.declared.exact.MaybeIndex.{MaybeIndex}
+use Rattle.axis.specs.declared.exact.MaybeIndex.the-variants.{Some, None}
+use Rattle.axis.specs.declared.AxisLocation.{AxisLocation}
+use Rattle.axis.specs.declared.AxisLocation.the-variants.{Exact, Between}
 
+-- ---- Linear
+-- "(p - lower node) / (upper node - lower node), each operation rounded"
+unfoldable pub fraction : List Float → ℕ → Float → Float
+fraction nodes lower p = div binary64 (sub binary64 p (node nodes lower)) (gap nodes lower)
+
+-- "either the exact node or a lower index with a fraction"
+abbrev pub exactOr : MaybeIndex → AxisLocation → AxisLocation
+exactOr (Some i) between = Exact i
+exactOr None between = between
+
+abbrev pub locationAt : List Float → ℕ → Float → AxisLocation
+locationAt nodes lower p = exactOr (exactNode nodes lower p) (Between lower (fraction nodes lower p))
+
+unfoldable pub axisLocation : List Float → Float → AxisLocation
+axisLocation nodes p = locationAt nodes (lowerIndex nodes p) p
+
+-- ---- LinearUniform
 -- "LinearUniform: no exact shortcut. f = (p - lower node) / first gap."
 abbrev pub uniformBetween : List Float → ℕ → Float → AxisLocation
 uniformBetween nodes lower p = Between lower (div binary64 (sub binary64 p (node nodes lower)) (gap nodes 0))

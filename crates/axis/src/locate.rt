@@ -2,12 +2,14 @@
 ghost use mathlib.Core.Path.{_≡_};
 ghost use Prim.Native.Nat.{_≤_};
 ghost use lib.ListN.{length};
-ghost use Rattle.axis.specs.Utils.{axisLocation};
-ghost use Rattle.axis.specs.Locations.{locationIndex, uniformLocation, locationFound};
-use blend::AxisLocation;
-use exact::MaybeIndex;
+ghost use Rattle.axis.specs.Locations.{axisLocation, locationIndex, uniformLocation, locationFound};
+use crate::AxisLocation;
+use crate::cells;
+use crate::exact;
+use crate::exact::MaybeIndex;
+use crate::uniform;
 
-// Linear's rule.
+// The location by Linear's rule.
 fn axis_location(grid: &[f64], point: f64) -> AxisLocation
     requires { ⌜ 2 ≤ length (now grid) ⌝ }
     ensures { λ r. ⌜ r ≡ axisLocation (now (grid .entry)) point ⌝ }

@@ -195,13 +195,13 @@ den-is nan = refl
 den-is (inf s) = refl
 den-is (fin s m e) = down-is e
 
-fine : (x : Float) → T (fits binary64 x) → den x ≤ 2 ^ 1074
+noFault : (x : Float) → T (fits binary64 x) → den x ≤ 2 ^ 1074
 unfolding fits
-fine nan t = lit≤ tt
-fine (inf s) t = lit≤ tt
-fine (fin s zero (pos k)) t = lit≤ tt
-fine (fin s zero (negsuc k)) t = let e : 1 * 2 ^ suc k ≡ 1 = eqb→eq (1 * 2 ^ suc k) 1 t in le-trans (omega arith) (lit≤ {m = 1} {n = 2 ^ 1074} tt)
-fine (fin s (suc m) e) t = leb→le (down e) (2 ^ 1074) (third (eqb (suc m % 2) 1) (ltb (suc m) (2 ^ 53)) (leb (down e) (2 ^ 1074)) (ltb (suc m * up e) (2 ^ 1024 * down e)) t)
+noFault nan t = lit≤ tt
+noFault (inf s) t = lit≤ tt
+noFault (fin s zero (pos k)) t = lit≤ tt
+noFault (fin s zero (negsuc k)) t = let e : 1 * 2 ^ suc k ≡ 1 = eqb→eq (1 * 2 ^ suc k) 1 t in le-trans (omega arith) (lit≤ {m = 1} {n = 2 ^ 1074} tt)
+noFault (fin s (suc m) e) t = leb→le (down e) (2 ^ 1074) (third (eqb (suc m % 2) 1) (ltb (suc m) (2 ^ 53)) (leb (down e) (2 ^ 1074)) (ltb (suc m * up e) (2 ^ 1024 * down e)) t)
   where
     third : (p q r s : Bool) → T (p && q && r && s) → T r
     third true true true s t = tt
@@ -222,8 +222,8 @@ sub-high x y fx fy tx ty l =
   where
     far : den x * den y ≤ (right y x - left y x) * 2 ^ 1074
     far = elim (either (exponent y) (exponent x)) [
-      | inl h ↦ by-first (over y) (under y) (den y) (over x) (under x) (den x) (2 ^ 1074) (fine y ty) (fine x tx) (cross-of y x fy fx l) (2 ^ (exponent x - exponent y)) (den-is x ∙ divides (exponent y) (exponent x) h ∙ ap (λ (z : ℕ). z * 2 ^ (exponent x - exponent y)) (sym (den-is y)))
-      | inr h ↦ by-second (over y) (under y) (den y) (over x) (under x) (den x) (2 ^ 1074) (fine y ty) (fine x tx) (cross-of y x fy fx l) (2 ^ (exponent y - exponent x)) (den-is y ∙ divides (exponent x) (exponent y) (le-of-lt h) ∙ ap (λ (z : ℕ). z * 2 ^ (exponent y - exponent x)) (sym (den-is x)))
+      | inl h ↦ by-first (over y) (under y) (den y) (over x) (under x) (den x) (2 ^ 1074) (noFault y ty) (noFault x tx) (cross-of y x fy fx l) (2 ^ (exponent x - exponent y)) (den-is x ∙ divides (exponent y) (exponent x) h ∙ ap (λ (z : ℕ). z * 2 ^ (exponent x - exponent y)) (sym (den-is y)))
+      | inr h ↦ by-second (over y) (under y) (den y) (over x) (under x) (den x) (2 ^ 1074) (noFault y ty) (noFault x tx) (cross-of y x fy fx l) (2 ^ (exponent y - exponent x)) (den-is y ∙ divides (exponent x) (exponent y) (le-of-lt h) ∙ ap (λ (z : ℕ). z * 2 ^ (exponent y - exponent x)) (sym (den-is x)))
     ]
 
 above-lt : (z : Float) → T (above z) → lt (naught false) z ≡ true

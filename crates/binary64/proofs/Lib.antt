@@ -3,4 +3,3 @@ pub mod Difference
 pub mod Quotient
 pub mod Finite
 pub mod Held
-pub mod Unique

@@ -11,8 +11,8 @@ use Rattle.layout.proofs.Layouts.{getD-tabulate, tabulate-same}
 use Rattle.blend.specs.Blend.{blended, sliced, linear}
 use Rattle.blend.specs.Rust.{view, lowers, diffs, corner, corners, passed, butterfly, rustLinear}
 use Rattle.blend.specs.Corners.{cornerAt}
-use Rattle.blend.specs.declared.AxisLocation.{AxisLocation}
-use Rattle.blend.specs.declared.AxisLocation.the-variants.{Exact, Between}
+use Rattle.axis.specs.declared.AxisLocation.{AxisLocation}
+use Rattle.axis.specs.declared.AxisLocation.the-variants.{Exact, Between}
 
 -- ---- powers of two and bits
 pub power-above : (k : ℕ) → 0 < 2 ^ k

@@ -1,4 +1,3 @@
 pub mod Bits
 pub mod Counts
 pub mod Finites
-pub mod Unique

@@ -4,11 +4,11 @@ use mathlib.Core.List.{List, [], _∷_}
 use Prim.Native.Nat.{ℕ, _+_}
 use lib.IntN.{pos}
 use lib.Ieee.{Float, fin, binary64, add, sub, mul}
-use Rattle.answer.specs.Answer.{answered, _or_}
+use Rattle.answer.specs.Answer.{answered, _then_}
 use Rattle.answer.specs.declared.Answer.{Answer}
-use Rattle.numbers.specs.Numbers.{resultFault}
-use Rattle.blend.specs.declared.AxisLocation.{AxisLocation}
-use Rattle.blend.specs.declared.AxisLocation.the-variants.{Exact, Between}
+use Rattle.checks.specs.Numbers.{resultFault}
+use Rattle.axis.specs.declared.AxisLocation.{AxisLocation}
+use Rattle.axis.specs.declared.AxisLocation.the-variants.{Exact, Between}
 
 -- 1.0
 abbrev pub one : Float
@@ -23,11 +23,11 @@ abbrev pub sliced : AxisLocation → (List ℕ → Float) → List ℕ → Float
 sliced (Exact node) g is = g (node ∷ is)
 sliced (Between lower frac) g is = blended (g (lower ∷ is)) (g ((lower + 1) ∷ is)) frac
 
--- "in axis order, axis 0 first"; that fixing the exact axes before is the same is `rust-linear`
+-- "in axis order, axis 0 first"; that fixing the exact axes before is the same is `rust-linear` (blend/proofs/Bits.antt)
 abbrev pub linear : List AxisLocation → (List ℕ → Float) → Float
 linear [] g = g []
 linear (p ∷ ps) g = linear ps (sliced p g)
 
 -- 12: "computed result not finite"
 unfoldable pub computed : Float → Answer
-computed x = resultFault 0 x or answered x
+computed x = resultFault 0 x then answered x

@@ -5,8 +5,8 @@ use lib.ListN.{length, getD}
 use lib.Ieee.{Float, nan}
 use Rattle.layout.specs.Layout.{tabulate}
 use Rattle.blend.specs.Blend.{blended}
-use Rattle.blend.specs.declared.AxisLocation.{AxisLocation}
-use Rattle.blend.specs.declared.AxisLocation.the-variants.{Exact, Between}
+use Rattle.axis.specs.declared.AxisLocation.{AxisLocation}
+use Rattle.axis.specs.declared.AxisLocation.the-variants.{Exact, Between}
 
 -- `values_view.index_axis_inplace(Axis(dim), pos)` for each exact axis: the values over the axes that are left
 abbrev pub view : List AxisLocation → (List ℕ → Float) → List ℕ → Float
@@ -44,5 +44,6 @@ unfoldable pub butterfly : List Float → List Float → Float
 butterfly [] vals = getD vals 0 nan
 butterfly (diff ∷ rest) vals = butterfly rest (passed diff (2 ^ length rest) vals)
 
+-- the whole of it; that it is `linear`, axis by axis, is `rust-linear` (blend/proofs/Bits.antt)
 unfoldable pub rustLinear : List AxisLocation → (List ℕ → Float) → Float
 rustLinear ps g = butterfly (diffs ps) (corners (lowers ps) (view ps g))

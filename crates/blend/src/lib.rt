@@ -1,17 +1,18 @@
-// What the two linears compute with: where a reading lies on an axis, the blend of two values, and how many corners one axis more gives.
+// What the two linears compute with: the blend of two values, and how many corners one axis more gives.
 ghost use mathlib.Core.Path.{_≡_};
 ghost use Prim.Native.Nat.{_+_, min};
 ghost use Rattle.blend.specs.Blend.{blended};
 ghost use Rattle.blend.specs.Corners.{moreCorners};
 
-// Where a reading lies on an axis: on a node, or at a fraction of a cell.
-pub enum AxisLocation {
-    Exact(usize),
-    Between { lower: usize, frac: f64 },
-}
+// The fold of the corners of a reading, and the answer that it gives.
+pub mod fold;
+// Two runs of values blended, for the slices of the two linears.
+pub mod runs;
+
+use axis::AxisLocation;
 
 // Two values blended: four rounded operations in this order.
-pub fn blend(a: f64, b: f64, f: f64) -> f64
+pub(crate) fn blend(a: f64, b: f64, f: f64) -> f64
     ensures { λ r. ⌜ r ≡ blended a b f ⌝ }
 {
     a * (1.0 - f) + b * f

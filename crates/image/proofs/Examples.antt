@@ -5,34 +5,31 @@ use mathlib.Core.List.{List, [], _∷_}
 use Prim.Native.Nat.{ℕ}
 use lib.IntN.{pos}
 use lib.Ieee.{fin, ofBits, sub, lt}
-use Rattle.answer.specs.Answer.{refused, answered, fine, good, when, firstOf, given, _or_}
-use Rattle.counts.specs.Counts.{axesCountFault, countFault}
-use Rattle.lent.specs.Lent.{roomFault}
-use Rattle.numbers.specs.Numbers.{finiteFault}
-use Rattle.judge.specs.Check.{riseFault, nodeFault, nodesFault}
-use Rattle.shapes.specs.Shape.{size, total}
+use Rattle.answer.specs.Faults.{refusal, noFault, good, when, firstOf, given, _or_}
+use Rattle.answer.specs.Answer.{answered}
+use Rattle.checks.specs.Numbers.{axesCountFault, countFault, roomFault, finiteFault, riseFault, nodeFault, nodesFault, axesFault, productFault, valueFault, valuesFault, areaFault, fieldFault, shortFault, statedFault}
+use Rattle.layout.specs.Shape.{size, total}
 use Rattle.layout.specs.Layout.{axesOf}
-use Rattle.table.specs.Table.{axesFault}
-use Rattle.shapes.specs.Frame.{productRow}
-use Rattle.values.specs.Values.{valueFault, valuesFault}
-use Rattle.words.specs.Words.{ofBytes, wordAt, floatAt}
+use Rattle.bytes.specs.Words.{ofBytes, wordAt, floatAt}
 use Rattle.image.specs.Image.{floatsAt, nodesFrom, nodesIn, valuesIn}
-use Rattle.headers.specs.Fields.{axesField, countField, offsetField, valuesField, shapeOf}
-use Rattle.image.specs.Load.{areaFault, areasFault, roomsFault, contentsFault, loadFault}
-use Rattle.headers.specs.Head.{fieldFault, shortFault, lengthRow, startFault, countRow, offsetRow, headFault}
+use Rattle.image.specs.Fields.{axesField, countField, offsetField, valuesField, shapeOf}
+use Rattle.image.specs.Load.{areasFault, roomsFault, contentsFault, loadFault}
+use Rattle.image.specs.Head.{startFault, countRow, offsetRow, headFault}
 
 -- 01 01 0000; length 72; counts 2 0 0 0; offsets 40 0 0 0; values at 56; zero; nodes 0.0, 2.0; values 10.0, 20.0
 abbrev pub img : List ℕ
 img = 1 ∷ 1 ∷ 0 ∷ 0 ∷ 72 ∷ 0 ∷ 0 ∷ 0 ∷ 2 ∷ 0 ∷ 0 ∷ 0 ∷ 0 ∷ 0 ∷ 0 ∷ 0 ∷ 40 ∷ 0 ∷ 0 ∷ 0 ∷ 0 ∷ 0 ∷ 0 ∷ 0 ∷ 0 ∷ 0 ∷ 0 ∷ 0 ∷ 0 ∷ 0 ∷ 0 ∷ 0 ∷ 56 ∷ 0 ∷ 0 ∷ 0 ∷ 0 ∷ 0 ∷ 0 ∷ 0 ∷ 0 ∷ 0 ∷ 0 ∷ 0 ∷ 0 ∷ 0 ∷ 0 ∷ 0 ∷ 0 ∷ 0 ∷ 0 ∷ 0 ∷ 0 ∷ 0 ∷ 0 ∷ 64 ∷ 0 ∷ 0 ∷ 0 ∷ 0 ∷ 0 ∷ 0 ∷ 36 ∷ 64 ∷ 0 ∷ 0 ∷ 0 ∷ 0 ∷ 0 ∷ 0 ∷ 52 ∷ 64 ∷ []
 
-pub example-loads : loadFault img 2 2 ≡ fine
-unfolding loadFault headFault startFault shortFault fieldFault axesCountFault lengthRow countRow productRow offsetRow areaFault areasFault roomFault roomsFault contentsFault axesField countField offsetField valuesField shapeOf floatsAt nodesFrom nodesIn valuesIn ofBytes wordAt floatAt size total axesOf axesFault valueFault valuesFault countFault finiteFault riseFault nodeFault nodesFault refused answered fine good when _or_ firstOf given ofBits sub lt
-example-loads = refl
+examples : (loadFault img 2 2 ≡ noFault) × (loadFault img 1 2 ≡ refusal 15 0 0)
+unfolding loadFault headFault startFault shortFault fieldFault axesCountFault statedFault countRow productFault offsetRow areaFault areasFault roomFault roomsFault contentsFault axesField countField offsetField valuesField shapeOf floatsAt nodesFrom nodesIn valuesIn ofBytes wordAt floatAt size total axesOf axesFault valueFault valuesFault countFault finiteFault riseFault nodeFault nodesFault refusal answered noFault good when _or_ firstOf given ofBits sub lt
+examples = (refl, refl)
+
+pub example-loads : loadFault img 2 2 ≡ noFault
+example-loads = examples .0
 
 -- one place of room short, of the nodes
-pub example-room : loadFault img 1 2 ≡ refused 15 0 0
-unfolding loadFault headFault startFault shortFault fieldFault axesCountFault lengthRow countRow productRow offsetRow areaFault areasFault roomFault roomsFault contentsFault axesField countField offsetField valuesField shapeOf floatsAt nodesFrom nodesIn valuesIn ofBytes wordAt floatAt size total axesOf axesFault valueFault valuesFault countFault finiteFault riseFault nodeFault nodesFault refused answered fine good when _or_ firstOf given ofBits sub lt
-example-room = refl
+pub example-room : loadFault img 1 2 ≡ refusal 15 0 0
+example-room = examples .1
 
 pub example-values : valuesIn img ≡ fin false 5 (pos 1) ∷ fin false 5 (pos 2) ∷ []
 unfolding valuesIn floatsAt valuesField shapeOf axesField countField size ofBytes wordAt floatAt ofBits

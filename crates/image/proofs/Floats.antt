@@ -8,16 +8,20 @@ use native.Mathlib.Omega.{arith}
 use lib.ListN.{length, take, drop, getD, set, length-append, length-take}
 use lib.Seq.{sets, sets-eq, take-at, getD-take}
 use lib.Ieee.{Float}
-use Rattle.answer.specs.Answer.{good}
-use Rattle.shapes.specs.Shape.{countsOf, size, total}
+use Rattle.answer.specs.Faults.{good, _or_}
+use Rattle.layout.specs.Shape.{countsOf, size, total}
 use Rattle.layout.specs.Layout.{tabulate}
-use Rattle.shapes.specs.Frame.{shapeFault}
-use Rattle.shapes.specs.declared.Shape.{Shape}
+use Rattle.checks.specs.Shapes.{shapeFault}
+use Rattle.checks.specs.Numbers.{axesFault, valuesFault}
+use Rattle.checks.specs.declared.shapes.Holding.{Holding}
+use Rattle.layout.specs.declared.Shape.{Shape}
 use Rattle.layout.proofs.Layouts.{tabulate-same}
-use Rattle.shapes.proofs.Frames.{shape-four, shape-few, shape-size}
-use Rattle.words.specs.Words.{floatAt}
+use Rattle.checks.proofs.shapes.Frames.{shape-four, shape-few, shape-size}
+use Rattle.bytes.specs.Words.{floatAt}
 use Rattle.image.specs.Image.{floatsAt, nodesFrom, nodesIn, valuesIn}
-use Rattle.headers.specs.Fields.{axesField, countField, offsetField, shapeOf}
+use Rattle.image.specs.Fields.{axesField, countField, offsetField, shapeOf}
+use Rattle.image.specs.Load.{contentsFault}
+use Rattle.image.specs.Parts.{Judged, Holds, Rooms, Filled}
 
 -- ---- a judged shape's nodes are few
 total-few : (cs : List ℕ) → ((a : ℕ) → a < length cs → getD cs a 0 ≤ 64) → total cs ≤ 64 * length cs
@@ -101,6 +105,13 @@ module _ (img : List ℕ) (axes a : ℕ) (h : a < axes) where
       ∙ sym (sets-append fs (nodesFrom img (a + 1) (axes - (a + 1))) out to)
       ∙ ap (sets out to) (sym nodes-open)
 
+-- what is read so far: the nodes of the axes from a on are left, and go from `to` on
+pub record Reading (img : List ℕ) (axes : ℕ) (out₀ out : List Float) (to a : ℕ) : Type 0 where
+  pub on : a ≤ axes
+  pub same : length out ≡ length out₀
+  pub fits : to + length (nodesFrom img a (axes - a)) ≤ length out₀
+  pub left : sets out to (nodesFrom img a (axes - a)) ≡ sets out₀ 0 (nodesFrom img 0 axes)
+
 pub nodes-end : (img : List ℕ) (axes a to : ℕ) (out : List Float) → axes ≤ a → sets out to (nodesFrom img a (axes - a)) ≡ out
 unfolding nodesFrom
 nodes-end img axes a to out h = let none : axes - a ≡ 0 = omega arith in ap (λ (k : ℕ). sets out to (nodesFrom img a k)) none
@@ -121,7 +132,7 @@ take-front zero m h l = refl
 take-front (suc n) zero h l = absurd (omega arith)
 take-front (suc n) (suc m) h l = ap (λ (r : List ℕ). h 0 ∷ r) (take-front n m (λ k. h (suc k)) (omega arith))
 
-module _ (img : List ℕ) (h : good (shapeFault (shapeOf img)) ≡ true) where
+module _ (img : List ℕ) (h : Judged img) where
   pub axes-four : axesField img ≤ 4
   unfolding shapeOf
   axes-four = shape-four (shapeOf img) h
@@ -144,7 +155,17 @@ values-size img = length-floats img _ (size (countsOf (shapeOf img)))
 pub sets-front : {A : Type 0} (xs out : List A) → length xs ≤ length out → sets out 0 xs ≡ xs ++ drop (length xs) out
 sets-front xs out h = let e : 0 + length xs ≡ length xs = omega arith in sets-eq xs out 0 (omega (arith, h)) ∙ ap (λ (k : ℕ). xs ++ drop k out) e
 
-pub front-read : (xs out : List Float) (n : ℕ) → n ≡ length xs → length xs ≤ length out → take (n - 0) (drop 0 (sets out 0 xs)) ≡ xs
-front-read xs out n e h =
-    let m : n - 0 ≡ length xs = omega (arith, e) in
-    ap₂ (λ (k : ℕ) (l : List Float). take k l) m (sets-front xs out h) ∙ take-at xs (drop (length xs) out) (length xs) refl
+pub front-read : (xs out : List Float) (n : ℕ) → n ≡ length xs → length xs ≤ length out → take n (sets out 0 xs) ≡ xs
+front-read xs out n e h = ap₂ (λ (k : ℕ) (l : List Float). take k l) e (sets-front xs out h) ∙ take-at xs (drop (length xs) out) (length xs) refl
+
+-- the nodes and the values that were read into two spaces, judged there
+pub fronts-judged : (img : List ℕ) (s : Shape) (held : Holding) (ns vs ns′ vs′ : List Float) → s ≡ shapeOf img → Holds img held → Rooms img (length ns) (length vs)
+    → Filled img ns vs ns′ vs′ → (axesFault (countsOf s) (take (held .nodes) ns′) or valuesFault (take (held .values) vs′)) ≡ contentsFault img
+unfolding contentsFault
+fronts-judged img s held ns vs ns′ vs′ e h r f =
+    let en = nodes-total img (r .judged) in
+    let ev = values-size img in
+    let n : take (held .nodes) ns′ ≡ nodesIn img = ap (take (held .nodes)) (f .nodes-read) ∙ front-read (nodesIn img) ns (held .nodes) (h .nodes ∙ sym en) (omega (arith, en, r .nodes-room)) in
+    let v : take (held .values) vs′ ≡ valuesIn img = ap (take (held .values)) (f .values-read) ∙ front-read (valuesIn img) vs (held .values) (h .values ∙ sym ev) (omega (arith, ev, r .values-room)) in
+    ap₂ (λ (t : Shape) (xs : List Float). axesFault (countsOf t) xs or valuesFault (take (held .values) vs′)) e n
+    ∙ ap (λ (ys : List Float). axesFault (countsOf (shapeOf img)) (nodesIn img) or valuesFault ys) v

@@ -4,20 +4,18 @@ use mathlib.Core.Bool.{Bool, true, false}
 use mathlib.Core.List.{List}
 use Prim.Native.Nat.{ℕ, _≤_}
 use native.Mathlib.Omega.{arith}
-use Rattle.answer.specs.Answer.{good, given}
+use Rattle.answer.specs.Faults.{good, given}
 use Rattle.answer.proofs.Orders as orders
-use Rattle.shapes.specs.Shape.{countsOf}
-use Rattle.frames.specs.None.{noShape}
-use Rattle.shapes.specs.Frame.{shapeFault}
-use Rattle.table.specs.Table.{axesFault}
-use Rattle.values.specs.Values.{valuesFault}
-use Rattle.shapes.specs.declared.Shape.{Shape}
-use Rattle.shapes.proofs.Frames.{shape-four}
+use Rattle.layout.specs.Shape.{countsOf, noShape}
+use Rattle.checks.specs.Numbers.{axesFault, valuesFault}
+use Rattle.layout.specs.declared.Shape.{Shape}
+use Rattle.checks.proofs.shapes.Frames.{shape-four}
 use Rattle.image.specs.Image.{nodesIn, valuesIn}
-use Rattle.headers.specs.Fields.{shapeOf}
+use Rattle.image.specs.Fields.{shapeOf}
 use Rattle.image.specs.Load.{areasFault, roomsFault, contentsFault, loadFault, loadAnswer}
-use Rattle.headers.specs.Head.{headFault}
-use Rattle.headers.proofs.Heads.{head-shape}
+use Rattle.image.specs.Head.{headFault}
+use Rattle.image.specs.Parts.{Judged}
+use Rattle.image.proofs.Heads.{head-shape}
 
 -- every condition of the paper, in its order
 pub record Loadable (img : List ℕ) (nodes values : ℕ) : Type 0 where
@@ -49,7 +47,7 @@ module _ (img : List ℕ) (nodes values : ℕ) where
       }
 
   -- a loaded table's shape is a good one
-  pub loaded-shape : good (loadFault img nodes values) ≡ true → good (shapeFault (shapeOf img)) ≡ true
+  pub loaded-shape : good (loadFault img nodes values) ≡ true → Judged img
   loaded-shape h = head-shape img (load-means h .head)
 
 -- loaded or not, the shape that is given has at most four axes

@@ -1,4 +1,5 @@
-pub mod Rows
+pub mod Tests
+pub mod Heads
 pub mod Floats
 pub mod Loads
 pub mod Laws

@@ -1,39 +1,48 @@
 -- What loading answers and writes, put together. Assumes nothing.
-use mathlib.Core.Path.{_≡_, ap₂, _∙_}
+use mathlib.Core.Path.{_≡_, refl, ap₂, _∙_}
 use mathlib.Core.Bool.{true}
 use mathlib.Core.List.{List, _++_}
 use Prim.Native.Nat.{ℕ, _≤_}
 use native.Mathlib.Omega.{arith}
 use lib.ListN.{length, drop}
 use lib.Seq.{sets}
-use Rattle.answer.specs.Answer.{good, filledInto}
+use Rattle.answer.specs.Faults.{good, filledInto}
+use Rattle.answer.specs.Answer.{refused, fine}
+use Rattle.answer.specs.declared.Fault.{Fault}
 use Rattle.answer.specs.declared.Answer.{Answer}
 use Rattle.answer.proofs.Orders as orders
-use Rattle.shapes.specs.Shape.{countsOf, size, total}
-use Rattle.frames.specs.None.{noShape}
-use Rattle.shapes.specs.Frame.{shapeFault}
-use Rattle.shapes.specs.declared.Shape.{Shape}
+use Rattle.answer.proofs.Answers.{then-stops, then-goes-on}
+use Rattle.layout.specs.Shape.{countsOf, size, total, noShape}
+use Rattle.layout.specs.declared.Shape.{Shape}
 use Rattle.image.specs.Image.{nodesIn, valuesIn}
-use Rattle.headers.specs.Fields.{shapeOf}
-use Rattle.image.specs.Load.{areasFault, roomsFault, loadFault, loadAnswer}
-use Rattle.headers.specs.Head.{headFault}
+use Rattle.image.specs.Fields.{shapeOf}
+use Rattle.image.specs.Load.{roomsFault, loadFault, loadAnswer, refusedLoad}
+use Rattle.image.specs.Parts.{Rooms}
 use Rattle.image.specs.declared.LoadAnswer.{LoadAnswer}
-use Rattle.headers.proofs.Heads.{head-shape}
+use Rattle.image.proofs.Laws.{load-means, loaded-shape}
 use Rattle.image.proofs.Floats.{nodes-total, values-size, sets-front}
-use Rattle.lent.specs.Lent.{roomFault}
-use Rattle.lent.proofs.Rows.{room-passed}
+use Rattle.checks.specs.Numbers.{roomFault}
+use Rattle.checks.proofs.lent.Rows.{room-passed}
 
-module _ (img : List ℕ) (nodes values : ℕ) (r : Answer) (e : r ≡ loadFault img nodes values) where
-  pub load-refused : (r .number ≡ 0 → ⊥) → (z : Shape) → z ≡ noShape → _≡_ {A = LoadAnswer} (record { answer = r; shape = z }) (loadAnswer img nodes values)
-  unfolding loadAnswer
-  load-refused h z q = ap₂ (λ (a : Answer) (s : Shape). record { answer = a; shape = s }) e (q ∙ orders.given-refused r (loadFault img nodes values) e (shapeOf img) noShape h)
+-- r is what the checks gave, and its number was tested
+module _ (img : List ℕ) (nodes values : ℕ) (r : Fault) (e : r ≡ loadFault img nodes values) where
+  pub load-refused : (r .number ≡ 0 → ⊥) → refusedLoad r ≡ loadAnswer img nodes values
+  unfolding loadAnswer refusedLoad
+  load-refused h =
+      ap₂ (λ (a : Answer) (s : Shape). record { answer = a; shape = s })
+      (then-stops r (loadFault img nodes values) e (refused r) fine h refl)
+      (orders.given-refused r (loadFault img nodes values) e (shapeOf img) noShape h)
 
-  pub load-made : r .number ≡ 0 → (z : Shape) → z ≡ shapeOf img → _≡_ {A = LoadAnswer} (record { answer = r; shape = z }) (loadAnswer img nodes values)
+  pub load-made : r .number ≡ 0 → (a : Answer) (s : Shape) → a ≡ fine → s ≡ shapeOf img
+      → _≡_ {A = LoadAnswer} (record { answer = a; shape = s }) (loadAnswer img nodes values)
   unfolding loadAnswer
-  load-made h z q = ap₂ (λ (a : Answer) (s : Shape). record { answer = a; shape = s }) e (orders.given-kept r (loadFault img nodes values) e (shapeOf img) noShape z h q)
+  load-made h a s p q =
+      ap₂ (λ (a : Answer) (s : Shape). record { answer = a; shape = s })
+      (then-goes-on r (loadFault img nodes values) e a fine h p)
+      (orders.given-kept r (loadFault img nodes values) e (shapeOf img) noShape s h q)
 
 -- an output after a call, by its answer
-module _ {A : Type 0} (a r : Answer) (e : r ≡ a) (xs out : List A) where
+module _ {A : Type 0} (a r : Fault) (e : r ≡ a) (xs out : List A) where
   pub out-kept : (r .number ≡ 0 → ⊥) → out ≡ filledInto a xs out
   unfolding filledInto
   out-kept h = orders.given-refused r a e (xs ++ drop (length xs) out) out h
@@ -44,27 +53,18 @@ module _ {A : Type 0} (a r : Answer) (e : r ≡ a) (xs out : List A) where
 
 -- ---- what is known where every check was passed
 module _ (img : List ℕ) (nodes values : ℕ) (h : good (loadFault img nodes values) ≡ true) where
-  head-good : good (headFault img) ≡ true
-  unfolding loadFault
-  head-good = orders.first-passed (headFault img) _ h
-
-  pub load-shape : good (shapeFault (shapeOf img)) ≡ true
-  load-shape = head-shape img head-good
-
-  rooms-good : good (roomsFault (shapeOf img) nodes values) ≡ true
-  unfolding loadFault
-  rooms-good = orders.first-passed (roomsFault (shapeOf img) nodes values) _ (orders.second-passed (areasFault img) _ (orders.second-passed (headFault img) _ h))
-
-  pub nodes-room : total (countsOf (shapeOf img)) ≤ nodes
+  pub loaded-rooms : Rooms img nodes values
   unfolding roomsFault
-  nodes-room = room-passed 0 (total (countsOf (shapeOf img))) nodes (orders.first-passed (roomFault 0 (total (countsOf (shapeOf img))) nodes) _ rooms-good)
-
-  pub values-room : size (countsOf (shapeOf img)) ≤ values
-  unfolding roomsFault
-  values-room = room-passed 1 (size (countsOf (shapeOf img))) values (orders.second-passed (roomFault 0 (total (countsOf (shapeOf img))) nodes) (roomFault 1 (size (countsOf (shapeOf img))) values) rooms-good)
+  loaded-rooms =
+      let enough = load-means img nodes values h .rooms in
+      record {
+        judged = loaded-shape img nodes values h;
+        nodes-room = room-passed 0 (total (countsOf (shapeOf img))) nodes (orders.first-passed (roomFault 0 (total (countsOf (shapeOf img))) nodes) _ enough);
+        values-room = room-passed 1 (size (countsOf (shapeOf img))) values (orders.second-passed (roomFault 0 (total (countsOf (shapeOf img))) nodes) (roomFault 1 (size (countsOf (shapeOf img))) values) enough);
+      }
 
   pub nodes-fit : length (nodesIn img) ≤ nodes
-  nodes-fit = omega (arith, nodes-total img load-shape, nodes-room)
+  nodes-fit = omega (arith, nodes-total img (loaded-rooms .judged), loaded-rooms .nodes-room)
 
   pub values-fit : length (valuesIn img) ≤ values
-  values-fit = omega (arith, values-size img, values-room)
+  values-fit = omega (arith, values-size img, loaded-rooms .values-room)

@@ -8,10 +8,10 @@ use Rattle.image.specs.declared.LoadAnswer.{LoadAnswer}
 use Rattle.image.proofs.load.Reads as load
 
 pub load-unique : (κs : _) (a : _) (r s : LoadAnswer) (x y : _) → load.Post κs a r x → load.Post κs a s y → r ≡ s
-load-unique κs a r s x y p q = one-outcome r s _ (p .0) (q .0)
+load-unique κs a r s x y p q = one-outcome r s _ (p .answer) (q .answer)
 
 pub load-nodes : (κs : _) (a : _) (r s : LoadAnswer) (x y : _) → load.Post κs a r x → load.Post κs a s y → _≡_ {A = List Float} (now (x .1 .0)) (now (y .1 .0))
-load-nodes κs a r s x y p q = one-outcome (now (x .1 .0)) (now (y .1 .0)) _ (p .1 .0) (q .1 .0)
+load-nodes κs a r s x y p q = one-outcome (now (x .1 .0)) (now (y .1 .0)) _ (p .nodes-out) (q .nodes-out)
 
 pub load-values : (κs : _) (a : _) (r s : LoadAnswer) (x y : _) → load.Post κs a r x → load.Post κs a s y → _≡_ {A = List Float} (now (x .1 .1 .0)) (now (y .1 .1 .0))
-load-values κs a r s x y p q = one-outcome (now (x .1 .1 .0)) (now (y .1 .1 .0)) _ (p .1 .1) (q .1 .1)
+load-values κs a r s x y p q = one-outcome (now (x .1 .1 .0)) (now (y .1 .1 .0)) _ (p .values-out) (q .values-out)

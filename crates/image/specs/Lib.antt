@@ -1,2 +1,5 @@
 pub mod Image
 pub mod Load
+pub mod Fields
+pub mod Head
+pub mod Parts

@@ -1,15 +1,27 @@
 // The table image: a header of counts and offsets, then nodes and values as f64 bits, anywhere after it.
 ghost use mathlib.Core.Path.{_≡_};
-ghost use lib.ListN.{length};
-ghost use Rattle.image.specs.Image.{nodesIn, valuesIn};
-ghost use Rattle.image.specs.Load.{loadFault, loadAnswer};
-ghost use Rattle.answer.specs.Answer.{filledInto};
+ghost use Rattle.image.specs.Load.{loadFault, refusedLoad, Loaded};
 
+// where the areas lie, and the room that is lent for them
 pub(crate) mod areas;
+// what lies in the areas: read, and judged
 pub(crate) mod contents;
+// the numbers that the header says
+pub(crate) mod fields;
+// the checks of the header
+pub(crate) mod headers;
+// the rows that judge a number of the header, and those that go over the axes
+pub(crate) mod rows;
 
 use answer::Answer;
-use shapes::Shape;
+use answer::Fault;
+use layout::Shape;
+
+// How many bytes a header has.
+pub const HEADER: usize = 40;
+
+// How many bytes an image has at most.
+pub const MOST_BYTES: usize = 36_864;
 
 // What loading answers, with the shape of what it wrote.
 pub struct LoadAnswer {
@@ -18,7 +30,7 @@ pub struct LoadAnswer {
 }
 
 // Every check, before anything is written.
-fn load_fault(img: &[u8], nodes: usize, values: usize) -> Answer
+fn load_fault(img: &[u8], nodes: usize, values: usize) -> Fault
     ensures { λ r. ⌜ r ≡ loadFault (now (img .entry)) nodes values ⌝ }
 {
     let fault = headers::head_fault(img);
@@ -36,21 +48,27 @@ fn load_fault(img: &[u8], nodes: usize, values: usize) -> Answer
     contents::contents_fault(img)
 }
 
+// The answer of a load that is refused.
+fn refused(fault: Fault) -> LoadAnswer
+    ensures { λ r. ⌜ r ≡ refusedLoad fault ⌝ }
+{
+    LoadAnswer {
+        answer: answer::refuse(fault),
+        shape: layout::no_shape(),
+    }
+}
+
 // Reads a table out of an image into two outputs, which may be longer.
 pub fn load(img: &[u8], nodes: &mut [f64], values: &mut [f64]) -> LoadAnswer
-    ensures { λ r. ⌜ (r ≡ loadAnswer (now (img .entry)) (length (now (nodes .entry))) (length (now (values .entry)))) × ((now (nodes .exit) ≡ filledInto (loadFault (now (img .entry)) (length (now (nodes .entry))) (length (now (values .entry)))) (nodesIn (now (img .entry))) (now (nodes .entry))) × (now (values .exit) ≡ filledInto (loadFault (now (img .entry)) (length (now (nodes .entry))) (length (now (values .entry)))) (valuesIn (now (img .entry))) (now (values .entry)))) ⌝ }
+    ensures { λ r. ⌜ Loaded (now (img .entry)) (now (nodes .entry)) (now (values .entry)) (now (nodes .exit)) (now (values .exit)) r ⌝ }
 {
-    let answer = load_fault(img, nodes.len(), values.len());
-    if answer.number != 0 {
-        return LoadAnswer {
-            answer,
-            shape: frames::no_shape(),
-        };
+    let fault = load_fault(img, nodes.len(), values.len());
+    if fault.number != 0 {
+        return refused(fault);
     }
-    contents::read_nodes(img, nodes);
-    contents::read_values(img, values);
+    contents::read(img, nodes, values);
     LoadAnswer {
-        answer,
-        shape: headers::shape_of(img),
+        answer: answer::pass(),
+        shape: fields::shape_of(img),
     }
 }

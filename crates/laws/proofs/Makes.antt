@@ -7,77 +7,52 @@ use native.Mathlib.Omega.{arith}
 use lib.ListN.{length}
 use lib.Ieee.{Float}
 use lib.Ieee.Scale.{finite}
-use Rattle.answer.specs.Answer.{good, _or_}
-use Rattle.answer.specs.declared.Answer.{Answer}
+use Rattle.answer.specs.Faults.{good, _or_}
 use Rattle.answer.proofs.Orders as orders
-use Rattle.numbers.specs.Numbers.{readingFault}
-use Rattle.lent.specs.Lent.{roomFault, lengthFault}
-use Rattle.numbers.proofs.Rows.{reading-fine}
-use Rattle.lent.proofs.Rows.{room-enough}
-use Rattle.fronts.proofs.Rows.{axis-there, first-there}
-use Rattle.values.specs.Values.{valuesFault}
-use Rattle.lists.specs.Lists.{directionsFault}
-use Rattle.ranges.specs.Ranges.{rangeFault}
-use Rattle.shapes.specs.Shape.{countsOf, size}
+use Rattle.checks.specs.Numbers.{lengthFault, valuesFault, directionsFault, rangeFault, axesFault, axesUniformFault, resultsFault, noAxisFault}
+use Rattle.checks.proofs.numbers.Rows.{reading-fine}
+use Rattle.checks.proofs.lent.Rows.{room-enough}
+use Rattle.orders.proofs.before_slice.Rows.{axis-there, first-there}
+use Rattle.layout.specs.Shape.{countsOf, size}
 use Rattle.layout.specs.Layout.{without, axisOf}
-use Rattle.shapes.specs.Frame.{frameFault}
-use Rattle.table.specs.Table.{axesFault}
-use Rattle.shapes.specs.declared.Shape.{Shape}
-use Rattle.spacing.specs.Uniform.{axesUniformFault}
-use Rattle.runs.specs.Runs.{resultsFault}
-use Rattle.blend.specs.declared.AxisLocation.{AxisLocation}
-use Rattle.axis.specs.Utils.{axisLocation}
-use Rattle.axis.specs.Locations.{uniformLocation}
-use Rattle.fronts.specs.Fronts.{nearestFront, stepFront, linearFront, linearUniformFront, noAxisFault, notFirstFault}
+use Rattle.layout.specs.declared.Shape.{Shape}
+use Rattle.axis.specs.declared.AxisLocation.{AxisLocation}
+use Rattle.axis.specs.Locations.{axisLocation, uniformLocation}
+use Rattle.orders.specs.Orders.{nearestFront, stepFront, linearFront, linearUniformFront, pointFault, nearestSliceFault, stepSliceFault}
 use Rattle.ninterp.proofs.Demands.{Accepted}
-use Rattle.slices.specs.Slices.{pointFault, nearestSliceFault, stepSliceFault}
 use Rattle.slices.specs.LinearSlices.{linearValues, linearRest, linearSliceFault, linearUniformSliceFault}
 
 module _ (s : Shape) (nodes values : List Float) (t : Accepted s nodes values) (many : 1 < s .axes) (p : Float) (room : ℕ) (fp : finite p ≡ true) where
-  abbrev frame : Answer
-  frame = frameFault s (length nodes) (length values)
-
-  abbrev axes : Answer
-  axes = axesFault (countsOf s) nodes
-
   stored : good (axesFault (countsOf s) nodes or valuesFault values) ≡ true
-  stored = orders.both-passed (axesFault (countsOf s) nodes) (valuesFault values) (t .axes) (t .stored)
+  stored = orders.both-passed _ _ (t .axes) (t .stored)
 
   module _ (axis : ℕ) (there : axis < s .axes) (inside : good (rangeFault axis (axisOf s nodes axis) p) ≡ true) (w : size (without axis (countsOf s)) ≤ room) where
     point-good : good (pointFault s nodes axis p room) ≡ true
     unfolding pointFault
     point-good =
-        orders.both-passed (readingFault axis p) (rangeFault axis (axisOf s nodes axis) p or roomFault 1 (size (without axis (countsOf s))) room) (orders.passed-fine (readingFault axis p) (reading-fine axis p fp))
-        (orders.both-passed (rangeFault axis (axisOf s nodes axis) p) (roomFault 1 (size (without axis (countsOf s))) room) inside
-        (orders.passed-fine (roomFault 1 (size (without axis (countsOf s))) room) (room-enough 1 (size (without axis (countsOf s))) room w)))
+        orders.both-passed _ _ (orders.passed-no-fault _ (reading-fine axis p fp))
+        (orders.both-passed _ _ inside (orders.passed-no-fault _ (room-enough 1 (size (without axis (countsOf s))) room w)))
 
     has-axis : good (noAxisFault (s .axes) axis) ≡ true
-    has-axis = orders.passed-fine (noAxisFault (s .axes) axis) (axis-there (s .axes) axis many there)
+    has-axis = orders.passed-no-fault _ (axis-there (s .axes) axis many there)
 
     pub nearest-slice-made : good (nearestSliceFault s nodes values axis p room) ≡ true
     unfolding nearestSliceFault nearestFront
-    nearest-slice-made =
-        orders.both-passed (frame or noAxisFault (s .axes) axis or axes or valuesFault values) (pointFault s nodes axis p room)
-        (orders.both-passed frame (noAxisFault (s .axes) axis or axes or valuesFault values) (t .frame)
-        (orders.both-passed (noAxisFault (s .axes) axis) (axes or valuesFault values) has-axis stored)) point-good
+    nearest-slice-made = orders.both-passed _ _ (orders.both-passed _ _ (t .frame) (orders.both-passed _ _ has-axis stored)) point-good
 
     pub step-slice-made : (directions : List ℕ) → good (lengthFault 3 (s .axes) (length directions)) ≡ true → good (directionsFault directions) ≡ true
         → good (stepSliceFault s nodes values directions axis p room) ≡ true
     unfolding stepSliceFault stepFront
     step-slice-made directions l d =
-        orders.both-passed (frame or lengthFault 3 (s .axes) (length directions) or noAxisFault (s .axes) axis or axes or valuesFault values or directionsFault directions) (pointFault s nodes axis p room)
-        (orders.both-passed frame (lengthFault 3 (s .axes) (length directions) or noAxisFault (s .axes) axis or axes or valuesFault values or directionsFault directions) (t .frame)
-        (orders.both-passed (lengthFault 3 (s .axes) (length directions)) (noAxisFault (s .axes) axis or axes or valuesFault values or directionsFault directions) l
-        (orders.both-passed (noAxisFault (s .axes) axis) (axes or valuesFault values or directionsFault directions) has-axis
-        (orders.both-passed axes (valuesFault values or directionsFault directions) (t .axes) (orders.both-passed (valuesFault values) (directionsFault directions) (t .stored) d))))) point-good
+        orders.both-passed _ _
+        (orders.both-passed _ _ (t .frame) (orders.both-passed _ _ l (orders.both-passed _ _ has-axis (orders.both-passed _ _ (t .axes) (orders.both-passed _ _ (t .stored) d)))))
+        point-good
 
   -- ---- the two linears, on their first axis
   module _ (inside : good (rangeFault 0 (axisOf s nodes 0) p) ≡ true) (w : size (without 0 (countsOf s)) ≤ room) where
     front-good : good (linearFront s nodes values 0) ≡ true
     unfolding linearFront
-    front-good =
-        orders.both-passed frame (notFirstFault (s .axes) 0 or axes or valuesFault values) (t .frame)
-        (orders.both-passed (notFirstFault (s .axes) 0) (axes or valuesFault values) (orders.passed-fine (notFirstFault (s .axes) 0) (first-there (s .axes) 0 many refl)) stored)
+    front-good = orders.both-passed _ _ (t .frame) (orders.both-passed _ _ (orders.passed-no-fault _ (first-there (s .axes) 0 many refl)) stored)
 
     rest-is : (rule : List Float → Float → AxisLocation) → linearRest rule s nodes values 0 p room ≡ resultsFault (linearValues rule s nodes values p)
     unfolding linearRest

@@ -8,7 +8,7 @@ use native.Mathlib.Omega.{arith}
 use lib.ListN.{length, drop, getD, set, drop-of-length-le}
 use lib.Seq.{ext-getD, drop-cons}
 use lib.Ieee.{Float, nan}
-use Rattle.shapes.specs.Shape.{size}
+use Rattle.layout.specs.Shape.{size}
 use Rattle.layout.specs.Layout.{strides, placeBy, place, table, indicesAt, tabulate, Inside}
 
 -- ---- tabulated lists
@@ -25,19 +25,14 @@ pub tabulate-same : {A : Type 0} (n : ℕ) (g h : ℕ → A) → ((k : ℕ) → 
 tabulate-same zero g h e = refl
 tabulate-same (suc n) g h e = ap₂ (λ x xs. x ∷ xs) (e 0 (omega arith)) (tabulate-same n (λ k. g (suc k)) (λ k. h (suc k)) (λ k l. e (suc k) (omega arith)))
 
-pub tabulate-ahead : {A : Type 0} (n k : ℕ) (h : ℕ → A) (z : A) → k < n → drop k (tabulate n h) ≡ h k ∷ drop (k + 1) (tabulate n h)
-tabulate-ahead n k h z l =
-    drop-cons (tabulate n h) k z (omega (arith, length-tabulate n h))
-    ∙ ap₂ (λ x (m : ℕ). x ∷ drop m (tabulate n h)) (getD-tabulate n k h z l) (sym (add-one k))
-
 -- writing one more of them over a list
-pub tabulate-step : (k : ℕ) (h : ℕ → Float) (xs : List Float) → k < length xs → set (tabulate k h ++ drop k xs) k (h k) ≡ tabulate (k + 1) h ++ drop (k + 1) xs
-tabulate-step k h xs l = rw (add-one k) (by k h xs l)
+pub tabulate-step : {A : Type 0} (k : ℕ) (h : ℕ → A) (xs : List A) → k < length xs → set (tabulate k h ++ drop k xs) k (h k) ≡ tabulate (k + 1) h ++ drop (k + 1) xs
+tabulate-step {A} k h xs l = rw (add-one k) (by k h xs l)
   where
-    by : (k : ℕ) (h : ℕ → Float) (xs : List Float) → k < length xs → set (tabulate k h ++ drop k xs) k (h k) ≡ tabulate (suc k) h ++ drop (suc k) xs
+    by : (k : ℕ) (h : ℕ → A) (xs : List A) → k < length xs → set (tabulate k h ++ drop k xs) k (h k) ≡ tabulate (suc k) h ++ drop (suc k) xs
     by k h [] l = absurd (omega arith)
     by zero h (x ∷ xs) l = refl
-    by (suc k) h (x ∷ xs) l = ap (λ (r : List Float). h 0 ∷ r) (by k (λ j. h (suc j)) xs (omega arith))
+    by (suc k) h (x ∷ xs) l = ap (λ (r : List A). h 0 ∷ r) (by k (λ j. h (suc j)) xs (omega arith))
 
 -- ---- places
 pub radix : (i n r k : ℕ) → i < n → k < r → i * r + k < n * r

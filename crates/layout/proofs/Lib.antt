@@ -1,3 +1,4 @@
+pub mod Totals
 pub mod Walks
 pub mod Layouts
 pub mod Removals

@@ -7,7 +7,7 @@ use native.Mathlib.Omega.{arith}
 use lib.ListN.{length, take, drop, getD, length-drop, length-append}
 use lib.Seq.{length-take-le, take-at, drop-at}
 use lib.Ieee.{Float, nan}
-use Rattle.shapes.specs.Shape.{size, total}
+use Rattle.layout.specs.Shape.{size, total}
 use Rattle.layout.specs.Layout.{axesOf, place, table, indicesAt, tabulate, Inside, insert, without, sliceValues, nodesWithout}
 use Rattle.layout.proofs.Layouts.{radix, radix-div, radix-mod, size-tail, size-cons, size-nil, place-cons, place-below, indices-place, table-ext, getD-tabulate, length-tabulate, tabulate-same}
 
@@ -177,7 +177,7 @@ slices-comm k m i j ns vs a b li lj = table-ext (without m (without k ns)) one o
         ∙ ap (λ (l : List ℕ). table l other is) (sym e)
 
 -- ---- the nodes of what is left
-pub axes-without : (k : ℕ) (cs : List ℕ) (nodes : List Float) → k < length cs → length nodes ≡ total cs → axesOf (without k cs) (nodesWithout k cs nodes) ≡ without k (axesOf cs nodes)
+pub axes-without : {A : Type 0} (k : ℕ) (cs : List ℕ) (nodes : List A) → k < length cs → length nodes ≡ total cs → axesOf (without k cs) (nodesWithout k cs nodes) ≡ without k (axesOf cs nodes)
 unfolding axesOf nodesWithout total
 axes-without k [] nodes h e = absurd (omega arith)
 axes-without zero (c ∷ cs) nodes h e = refl
@@ -186,7 +186,7 @@ axes-without (suc k) (c ∷ cs) nodes h e =
     ap₂ (λ xs ys. xs ∷ axesOf (without k cs) ys) (take-at (take c nodes) (nodesWithout k cs (drop c nodes)) c n) (drop-at (take c nodes) (nodesWithout k cs (drop c nodes)) c n)
     ∙ ap (λ r. take c nodes ∷ r) (axes-without k cs (drop c nodes) (omega arith) (length-drop c nodes ∙ omega arith))
 
-pub total-without : (k : ℕ) (cs : List ℕ) (nodes : List Float) → k < length cs → length nodes ≡ total cs → length (nodesWithout k cs nodes) ≡ total (without k cs)
+pub total-without : {A : Type 0} (k : ℕ) (cs : List ℕ) (nodes : List A) → k < length cs → length nodes ≡ total cs → length (nodesWithout k cs nodes) ≡ total (without k cs)
 unfolding nodesWithout total
 total-without k [] nodes h e = absurd (omega arith)
 total-without zero (c ∷ cs) nodes h e = length-drop c nodes ∙ omega arith
@@ -226,12 +226,12 @@ tabulate-insert (suc n) (suc k) f g h b a =
     ap₂ (λ x xs. x ∷ xs) (b 0 (omega arith)) (tabulate-insert n k (λ j. f (suc j)) (λ j. g (suc j)) (omega arith) (λ j l. b (suc j) (omega arith)) (λ j l m. a (suc j) (omega arith) (omega arith)))
 
 -- ---- the nodes that two slices leave
-pub nodes-comm : (k m : ℕ) (ns : List ℕ) (xs : List Float) → k ≤ m → length xs ≡ total ns → nodesWithout m (without k ns) (nodesWithout k ns xs) ≡ nodesWithout k (without (suc m) ns) (nodesWithout (suc m) ns xs)
+pub nodes-comm : {A : Type 0} (k m : ℕ) (ns : List ℕ) (xs : List A) → k ≤ m → length xs ≡ total ns → nodesWithout m (without k ns) (nodesWithout k ns xs) ≡ nodesWithout k (without (suc m) ns) (nodesWithout (suc m) ns xs)
 unfolding nodesWithout total
 nodes-comm k m [] xs a h = refl
 nodes-comm zero m (n ∷ ns) xs a h = sym (drop-at (take n xs) (nodesWithout m ns (drop n xs)) n (length-take-le n xs (omega arith)))
 nodes-comm (suc k) zero (n ∷ ns) xs a h = absurd (omega arith)
-nodes-comm (suc k) (suc m) (n ∷ ns) xs a h =
+nodes-comm {A} (suc k) (suc m) (n ∷ ns) xs a h =
     beside (nodesWithout k ns (drop n xs)) (λ ys. nodesWithout m (without k ns) ys)
     ∙ ap (λ ys. take n xs ++ ys) (nodes-comm k m ns (drop n xs) (omega arith) (omega (arith, length-drop n xs)))
     ∙ sym (beside (nodesWithout (suc m) ns (drop n xs)) (λ ys. nodesWithout k (without (suc m) ns) ys))
@@ -239,5 +239,5 @@ nodes-comm (suc k) (suc m) (n ∷ ns) xs a h =
     first : length (take n xs) ≡ n
     first = length-take-le n xs (omega arith)
 
-    beside : (ys : List Float) (f : List Float → List Float) → take n (take n xs ++ ys) ++ f (drop n (take n xs ++ ys)) ≡ take n xs ++ f ys
+    beside : (ys : List A) (f : List A → List A) → take n (take n xs ++ ys) ++ f (drop n (take n xs ++ ys)) ≡ take n xs ++ f ys
     beside ys f = ap₂ (λ us vs. us ++ f vs) (take-at (take n xs) ys n first) (drop-at (take n xs) ys n first)

@@ -7,17 +7,17 @@ use native.Mathlib.Nat.{eq-or-lt-of-le}
 use native.Mathlib.Numerals.{add-one}
 use native.Mathlib.Omega.{arith}
 use lib.ListN.{length, take, drop, getD, length-drop, drop-of-length-le}
-use lib.Seq.{drop-cons, getD-take, drop-drop, take-all, length-take-le}
-use lib.Ieee.{Float}
+use lib.Seq.{drop-cons, getD-take, drop-drop, length-take-le}
 use Rattle.layout.specs.Layout.{axesOf}
+use Rattle.layout.proofs.Totals.{take-there}
 
-pub length-axes : (counts : List ℕ) (nodes : List Float) → length (axesOf counts nodes) ≡ length counts
+pub length-axes : {A : Type 0} (counts : List ℕ) (nodes : List A) → length (axesOf counts nodes) ≡ length counts
 unfolding axesOf
 length-axes [] nodes = refl
 length-axes (n ∷ ns) nodes = ap suc (length-axes ns (drop n nodes))
 
 -- a is the next axis, and it starts at `at`
-abbrev pub Walk : List ℕ → List Float → ℕ → ℕ → Type 0
+abbrev pub Walk : {A : Type 0} → List ℕ → List A → ℕ → ℕ → Type 0
 Walk counts nodes a at = drop a (axesOf counts nodes) ≡ axesOf (drop a counts) (drop at nodes)
 
 heads : {A : Type 0} {x y : A} {xs ys : List A} → x ∷ xs ≡ y ∷ ys → x ≡ y
@@ -26,7 +26,7 @@ heads e = cc
 tails : {A : Type 0} {x y : A} {xs ys : List A} → x ∷ xs ≡ y ∷ ys → xs ≡ ys
 tails e = cc
 
-module _ (counts : List ℕ) (nodes : List Float) (a at : ℕ) (l : a < length counts) (w : Walk counts nodes a at) where
+module _ {A : Type 0} (counts : List ℕ) (nodes : List A) (a at : ℕ) (l : a < length counts) (w : Walk counts nodes a at) where
   abbrev count : ℕ
   count = getD counts a 0
 
@@ -42,16 +42,7 @@ module _ (counts : List ℕ) (nodes : List Float) (a at : ℕ) (l : a < length c
 
   -- what is cut off at the end of the nodes is not there
   pub walk-part : take (min count (length nodes - at)) (drop at nodes) ≡ take count (drop at nodes)
-  walk-part = go (eq-or-lt-of-le small)
-    where
-      small : min count (length nodes - at) ≤ count
-      small = omega arith
-
-      go : (min count (length nodes - at) ≡ count) ⊎ (min count (length nodes - at) < count) → take (min count (length nodes - at)) (drop at nodes) ≡ take count (drop at nodes)
-      go (inl e) = ap (λ (k : ℕ). take k (drop at nodes)) e
-      go (inr h) =
-          let q : length (drop at nodes) ≤ min count (length nodes - at) = omega (arith, length-drop at nodes) in
-          take-all (min count (length nodes - at)) (drop at nodes) q ∙ sym (take-all count (drop at nodes) (omega arith))
+  walk-part = ap (λ (k : ℕ). take (min count k) (drop at nodes)) (sym (length-drop at nodes)) ∙ take-there count (drop at nodes)
 
   rest : drop count (drop at nodes) ≡ drop (at + min count (length nodes - at)) nodes
   rest = go (eq-or-lt-of-le small)
@@ -68,7 +59,7 @@ module _ (counts : List ℕ) (nodes : List Float) (a at : ℕ) (l : a < length c
   walk-next = ap (λ (k : ℕ). drop k (axesOf counts nodes)) (add-one a) ∙ tails both ∙ ap₂ axesOf (ap (λ (k : ℕ). drop k counts) (sym (add-one a))) rest
 
 -- ---- the same over the first so many of the counts, as the code goes
-module _ (counts : List ℕ) (axes : ℕ) (nodes : List Float) (a at end : ℕ) (within : axes ≤ length counts) (here : a < axes) (w : Walk (take axes counts) nodes a at) (e : end ≡ at + min (getD counts a 0) (length nodes - at)) where
+module _ {A : Type 0} (counts : List ℕ) (axes : ℕ) (nodes : List A) (a at end : ℕ) (within : axes ≤ length counts) (here : a < axes) (w : Walk (take axes counts) nodes a at) (e : end ≡ at + min (getD counts a 0) (length nodes - at)) where
   below : a < length (take axes counts)
   below = omega (arith, length-take-le axes counts within)
 

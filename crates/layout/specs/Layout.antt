@@ -3,16 +3,16 @@ use mathlib.Core.List.{List, [], _∷_, _++_}
 use Prim.Native.Nat.{ℕ, zero, suc, _+_, _*_, _/_, _%_, _<_}
 use lib.ListN.{take, drop, getD}
 use lib.Ieee.{Float, nan}
-use Rattle.shapes.specs.Shape.{countsOf, size}
-use Rattle.shapes.specs.declared.Shape.{Shape}
+use Rattle.layout.specs.Shape.{countsOf, size}
+use Rattle.layout.specs.declared.Shape.{Shape}
 
 -- "Nodes lie flat, axis after axis"
-unfoldable pub axesOf : List ℕ → List Float → List (List Float)
+unfoldable pub axesOf : {A : Type 0} → List ℕ → List A → List (List A)
 axesOf [] nodes = []
 axesOf (n ∷ ns) nodes = take n nodes ∷ axesOf ns (drop n nodes)
 
 -- the nodes of one axis
-abbrev pub axisOf : Shape → List Float → ℕ → List Float
+abbrev pub axisOf : {A : Type 0} → Shape → List A → ℕ → List A
 axisOf s nodes axis = getD (axesOf (countsOf s) nodes) axis []
 
 -- "values lie flat, last axis fastest": the strides, and where an index list lies by them
@@ -65,7 +65,7 @@ unfoldable pub sliceValues : ℕ → ℕ → List ℕ → List Float → List Fl
 sliceValues k i counts values = tabulate (size (without k counts)) (λ t. table counts values (insert k i (indicesAt (without k counts) t)))
 
 -- "the other axes and their nodes stay, in their order"
-unfoldable pub nodesWithout : ℕ → List ℕ → List Float → List Float
+unfoldable pub nodesWithout : {A : Type 0} → ℕ → List ℕ → List A → List A
 nodesWithout k [] nodes = nodes
 nodesWithout zero (n ∷ ns) nodes = drop n nodes
 nodesWithout (suc k) (n ∷ ns) nodes = take n nodes ++ nodesWithout k ns (drop n nodes)

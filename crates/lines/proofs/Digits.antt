@@ -2,12 +2,12 @@
 use mathlib.Core.Path.{_≡_, refl, sym, ap, _∙_}
 use mathlib.Core.Bool.{Bool, true, false, cond}
 use mathlib.Core.List.{List, [], _∷_, _++_}
-use Prim.Native.Nat.{ℕ, zero, suc, _+_, _-_, _/_, _%_, _^_, _≤_, _<_}
+use Prim.Native.Nat.{ℕ, zero, suc, _+_, _-_, _*_, _/_, _%_, _^_, _≤_, _<_}
 use native.Mathlib.Nat.{pow-suc}
 use native.Mathlib.Omega.{arith}
 use lib.Dec.{ltb}
-use lib.ListN.{length, getD, set, length-append, length-set}
-use borrow.Author.Tests.{lt-ltb, le-ltb}
+use lib.ListN.{length, set, length-append, length-set}
+use borrow.Author.Tests.{lt-ltb, le-ltb, ltb-true, ltb-false}
 use Rattle.lines.specs.Put.{put, Wrote}
 use Rattle.lines.specs.Digit.{glyphOf, digits, places, decimal}
 use Rattle.lines.proofs.Puts.{put-none, put-last}
@@ -20,22 +20,13 @@ pub glyph-high : (d : ℕ) → 10 ≤ d → glyphOf d ≡ 87 + d
 unfolding glyphOf
 glyph-high d h = rw (le-ltb d 10 h)
 
--- the glyphs of n digits from k on
-glyphsFrom : ℕ → ℕ → List ℕ
-glyphsFrom k zero = []
-glyphsFrom k (suc n) = glyphOf k ∷ glyphsFrom (suc k) n
-
-glyphs-at : (k n d : ℕ) → d < n → getD (glyphsFrom k n) d 0 ≡ glyphOf (k + d)
-unfolding glyphsFrom
-glyphs-at k zero d h = absurd (omega arith)
-glyphs-at k (suc n) zero h = ap glyphOf (omega arith)
-glyphs-at k (suc n) (suc d) h = glyphs-at (suc k) n d (omega arith) ∙ ap glyphOf (let e : suc k + d ≡ k + suc d = omega arith in e)
-
--- "0123456789abcdef"
-pub glyph-at : (d : ℕ) → d < 16
-    → getD (48 ∷ 49 ∷ 50 ∷ 51 ∷ 52 ∷ 53 ∷ 54 ∷ 55 ∷ 56 ∷ 57 ∷ 97 ∷ 98 ∷ 99 ∷ 100 ∷ 101 ∷ 102 ∷ []) d 0 ≡ glyphOf d
-unfolding glyphOf glyphsFrom
-glyph-at d h = glyphs-at 0 16 d h ∙ ap glyphOf (let e : 0 + d ≡ d = omega arith in e)
+-- a digit's glyph by arithmetic: (d + 6) / 16 is 0 below ten, then 1
+pub glyph-at : (d : ℕ) → d < 16 → 48 + d + (d + 6) / 16 * 39 ≡ glyphOf d
+glyph-at d h = go (ltb d 10) (ltb-true d 10) (ltb-false d 10)
+  where
+    go : (t : Bool) → (t ≡ true → d < 10) → (t ≡ false → 10 ≤ d) → 48 + d + (d + 6) / 16 * 39 ≡ glyphOf d
+    go true low _ = omega (arith, low refl, glyph-low d (low refl))
+    go false _ high = omega (arith, high refl, glyph-high d (high refl))
 
 pub digits-none : (base k n : ℕ) → k ≡ 0 → digits base k n ≡ []
 unfolding digits

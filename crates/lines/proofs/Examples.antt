@@ -3,22 +3,23 @@ use mathlib.Core.Path.{_≡_, refl}
 use mathlib.Core.List.{[], _∷_}
 use lib.Ieee.{binary64, ofBits, toBits}
 use lib.ListN.{length}
-use Rattle.answer.specs.Answer.{refused, answered, good}
+use Rattle.answer.specs.Faults.{refusal}
+use Rattle.answer.specs.Answer.{refused, answered}
 use Rattle.lines.specs.Digit.{glyphOf, digits, places, decimal}
 use Rattle.lines.specs.Line.{okLine, noLine, lineOf, longest}
 
 -- `ok 4029000000000000`, of 12.5
 pub ok-line : lineOf (answered (ofBits binary64 0x4029_0000_0000_0000))
     ≡ 111 ∷ 107 ∷ 32 ∷ 52 ∷ 48 ∷ 50 ∷ 57 ∷ 48 ∷ 48 ∷ 48 ∷ 48 ∷ 48 ∷ 48 ∷ 48 ∷ 48 ∷ 48 ∷ 48 ∷ 48 ∷ 48 ∷ 10 ∷ []
-unfolding lineOf good answered okLine digits glyphOf ofBits toBits
+unfolding lineOf answered okLine digits glyphOf ofBits toBits
 ok-line = refl
 
 -- `no 11 0 1`
-pub no-line : lineOf (refused 11 0 1) ≡ 110 ∷ 111 ∷ 32 ∷ 49 ∷ 49 ∷ 32 ∷ 48 ∷ 32 ∷ 49 ∷ 10 ∷ []
-unfolding lineOf good refused noLine decimal places digits glyphOf
+pub no-line : lineOf (refused (refusal 11 0 1)) ≡ 110 ∷ 111 ∷ 32 ∷ 49 ∷ 49 ∷ 32 ∷ 48 ∷ 32 ∷ 49 ∷ 10 ∷ []
+unfolding lineOf refused refusal noLine decimal places digits glyphOf
 no-line = refl
 
 -- a longest line is as long as is said
-pub longest-line : length (lineOf (refused 4294967295 18446744073709551615 18446744073709551615)) ≡ longest
-unfolding lineOf good refused noLine decimal places digits glyphOf
+pub longest-line : length (lineOf (refused (refusal 4294967295 18446744073709551615 18446744073709551615))) ≡ longest
+unfolding lineOf refused refusal noLine decimal places digits glyphOf
 longest-line = refl

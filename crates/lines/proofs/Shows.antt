@@ -4,13 +4,11 @@ use mathlib.Core.Bool.{Bool, true, false, cond}
 use mathlib.Core.List.{List}
 use Prim.Native.Nat.{ℕ, _+_, _^_, _≤_, _<_}
 use native.Mathlib.Omega.{arith}
-use lib.Dec.{leb}
+use lib.Dec.{leb, eqb}
 use lib.Ieee.{Float}
 use lib.ListN.{length, length-append}
-use borrow.Author.Tests.{le-leb}
+use borrow.Author.Tests.{le-leb, eq-eqb, ne-eqb}
 use Rattle.answer.specs.declared.Answer.{Answer}
-use Rattle.answer.specs.Answer.{good}
-use Rattle.answer.proofs.Orders.{passes, fails}
 use Rattle.lines.specs.Digit.{decimal}
 use Rattle.lines.specs.Line.{okLine, noLine, lineOf, longest}
 use Rattle.lines.specs.Put.{Wrote, roomFor, lineInto, lineEnd}
@@ -19,11 +17,11 @@ use Rattle.lines.proofs.Digits.{digits-length, decimal-most}
 module _ (a : Answer) where
   pub line-ok : a .number ≡ 0 → lineOf a ≡ okLine (a .value)
   unfolding lineOf
-  line-ok h = rw (passes a a refl h)
+  line-ok h = rw (eq-eqb (a .number) 0 h)
 
   pub line-no : (a .number ≡ 0 → ⊥) → lineOf a ≡ noLine (a .number) (a .axis) (a .place)
   unfolding lineOf
-  line-no h = rw (fails a a refl h)
+  line-no h = rw (ne-eqb (a .number) 0 h)
 
 -- ---- how long a line is
 
@@ -42,7 +40,7 @@ no-fits number axis place l m n =
 -- every line of an answer that the code can hold has room where a longest one has
 pub line-fits : (a : Answer) → a .number < 2 ^ 32 → a .axis < 2 ^ 64 → a .place < 2 ^ 64 → length (lineOf a) ≤ longest
 unfolding lineOf
-line-fits a l m n = go (good a)
+line-fits a l m n = go (eqb (a .number) 0)
   where
     go : (t : Bool) → length (cond t (okLine (a .value)) (noLine (a .number) (a .axis) (a .place))) ≤ longest
     go true = omega (arith, ok-length (a .value))

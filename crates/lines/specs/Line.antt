@@ -4,7 +4,7 @@ use mathlib.Core.List.{List, [], _∷_, _++_}
 use Prim.Native.Nat.{ℕ}
 use lib.Ieee.{Float, binary64, toBits}
 use Rattle.answer.specs.declared.Answer.{Answer}
-use Rattle.answer.specs.Answer.{good}
+use lib.Dec.{eqb}
 use Rattle.lines.specs.Digit.{digits, decimal}
 
 -- "`ok` and 16 lower-case hex digits of the value's bits"
@@ -16,7 +16,7 @@ unfoldable pub noLine : ℕ → ℕ → ℕ → List ℕ
 noLine number axis place = (110 ∷ 111 ∷ 32 ∷ []) ++ decimal number ++ (32 ∷ []) ++ decimal axis ++ (32 ∷ []) ++ decimal place ++ (10 ∷ [])
 
 unfoldable pub lineOf : Answer → List ℕ
-lineOf a = cond (good a) (okLine (a .value)) (noLine (a .number) (a .axis) (a .place))
+lineOf a = cond (eqb (a .number) 0) (okLine (a .value)) (noLine (a .number) (a .axis) (a .place))
 
 -- the length of a longest line: of a number of 32 bits, and an axis and a place of 64
 abbrev pub longest : ℕ

@@ -26,12 +26,12 @@ pub(crate) fn put_bytes(src: &[u8], out: &mut [u8], at: usize) -> usize
     at + i
 }
 
+// From ten on (d + 6) / 16 is 1, and `a` lies 39 past what follows `9`. No table: it would be laid on the stack for each digit.
 fn glyph(d: u64) -> u8
     requires { ⌜ d < 16 ⌝ }
     ensures { λ r. ⌜ r ≡ glyphOf d ⌝ }
 {
-    let glyphs: &[u8] = b"0123456789abcdef";
-    glyphs[d as usize]
+    (48 + d + (d + 6) / 16 * 39) as u8
 }
 
 // The last k digits of n, written from the lowest up.

@@ -2,10 +2,14 @@
 ghost use mathlib.Core.Path.{_≡_};
 ghost use Prim.Native.Nat.{_≤_, _<_};
 ghost use lib.ListN.{length, take};
-ghost use Rattle.lines.specs.Feed.{Filled, Stepped, Reached, Ended};
-ghost use Rattle.ninterp.specs.Records.{recordRule};
-ghost use Rattle.input.specs.Input.{recordSize};
-use shapes::Shape;
+ghost use Rattle.lines.specs.Line.{longest};
+ghost use Rattle.lines.specs.Feed.{Stepped, Reached, Ended};
+ghost use Rattle.program.specs.Run.{mostRecords};
+ghost use Rattle.ninterp.specs.Records.{recordRule, recordSize};
+use layout::Shape;
+use program::input;
+use program::stdin;
+use program::turns;
 
 // What is held of the buffer after a turn, how many records may still come, whether to go on, and whether the output failed.
 struct Next {
@@ -13,15 +17,6 @@ struct Next {
     left: usize,
     go: bool,
     failed: bool,
-}
-
-// Reads on after the bytes that are held, and answers how many bytes there are then.
-fn fill(buf: &mut [u8], held: usize) -> usize
-    requires { ⌜ held ≤ length (now buf) ⌝ }
-    ensures { λ r. ⌜ Filled held (now (buf .entry)) (now (buf .exit)) r ⌝ }
-{
-    let got = io::read_full(0, &mut buf[held..]);
-    held + got
 }
 
 // Reads on after the bytes that are held, answers the whole records, and prints.
@@ -36,9 +31,10 @@ fn step(
     left: usize,
 ) -> Next
     requires { ⌜ held ≤ length (now buf) ⌝ }
-    ensures { λ r. ⌜ Stepped (recordRule shape (now (nodes .entry)) (now (values .entry))) held left (now (buf .entry)) (now (buf .exit)) (r .held) (r .left) ⌝ }
+    ensures { λ r. ⌜ Stepped (recordRule shape (now (nodes .entry)) (now (values .entry))) held left
+        (now (buf .entry)) (now (buf .exit)) (r .held) (r .left) ⌝ }
 {
-    let have = fill(buf, held);
+    let have = stdin::fill(buf, held);
     let full = have == buf.len();
     let turn = turns::take_turn(shape, nodes, values, buf, have, left, out);
     let n = turn.written;
@@ -62,9 +58,9 @@ fn last(
     held: usize,
     left: usize,
 ) -> usize
-    requires { ⌜ (held ≤ length (now buf)) × ((56 ≤ length (now out)) × (held < recordSize shape)) ⌝ }
-    requires { ⌜ Reached (recordRule shape (now nodes) (now values)) 1000000 left (take held (now buf)) ⌝ }
-    ensures { λ r. ⌜ Ended (recordRule shape (now (nodes .entry)) (now (values .entry))) 1000000 (take r (now (out .exit))) ⌝ }
+    requires { ⌜ (held ≤ length (now buf)) × ((longest ≤ length (now out)) × (held < recordSize shape)) ⌝ }
+    requires { ⌜ Reached (recordRule shape (now nodes) (now values)) mostRecords left (take held (now buf)) ⌝ }
+    ensures { λ r. ⌜ Ended (recordRule shape (now (nodes .entry)) (now (values .entry))) mostRecords (take r (now (out .exit))) ⌝ }
     ensures { λ r. ⌜ r ≤ length (now (out .exit)) ⌝ }
 {
     input::finish(held, left, out)
@@ -81,8 +77,8 @@ fn end(
     held: usize,
     left: usize,
 )
-    requires { ⌜ (size ≡ recordSize shape) × ((held ≤ length (now buf)) × (56 ≤ length (now out))) ⌝ }
-    requires { ⌜ Reached (recordRule shape (now nodes) (now values)) 1000000 left (take held (now buf)) ⌝ }
+    requires { ⌜ (size ≡ recordSize shape) × ((held ≤ length (now buf)) × (longest ≤ length (now out))) ⌝ }
+    requires { ⌜ Reached (recordRule shape (now nodes) (now values)) mostRecords left (take held (now buf)) ⌝ }
 {
     if held < size {
         let n = last(shape, nodes, values, buf, out, held, left);
@@ -101,7 +97,7 @@ pub(crate) fn answer_all(shape: Shape, nodes: &[f64], values: &[f64])
     let buf: &mut [u8] = &mut space;
     let out: &mut [u8] = &mut lines;
     let mut held: usize = 0;
-    let mut left: usize = 1000000;
+    let mut left: usize = program::MOST_RECORDS;
     let mut go = true;
     let mut failed = false;
     // More turns than there can be bytes, so that the loop is seen to end.

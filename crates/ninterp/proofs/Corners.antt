@@ -11,20 +11,20 @@ use lib.ListN.{length, take, drop, getD, set, length-set, length-take, length-dr
 use lib.Seq.{getD-set-same, getD-set-other}
 use borrow.Author.Tests.{ltb-true, ltb-false}
 use lib.Ieee.{Float, nan}
-use Rattle.shapes.specs.Shape.{size}
+use Rattle.layout.specs.Shape.{size}
 use Rattle.layout.specs.Layout.{place, table, tabulate, Inside}
-use Rattle.shapes.proofs.Totals.{ahead, past}
+use Rattle.layout.proofs.Totals.{ahead, past}
 use Rattle.layout.proofs.Layouts.{place-cons, place-none, size-cons, size-nil, place-below, getD-tabulate}
 use Rattle.blend.specs.Blend.{linear}
 use Rattle.blend.specs.Rust.{diffs, butterfly}
-use Rattle.blend.specs.Corners.{cornerAt, moreCorners}
-use Rattle.blend.specs.declared.AxisLocation.{AxisLocation}
-use Rattle.blend.specs.declared.AxisLocation.the-variants.{Exact, Between}
+use Rattle.blend.specs.Corners.{cornerAt, moreCorners, cornerPlace}
+use Rattle.axis.specs.declared.AxisLocation.{AxisLocation}
+use Rattle.axis.specs.declared.AxisLocation.the-variants.{Exact, Between}
 use Rattle.blend.proofs.Bits.{power-suc, low-corner, high-corner, fold-linear, butterfly-same}
 use Rattle.blend.proofs.Counts.{few-diffs, few-corners, more-power}
 use Rattle.axis.specs.Locations.{locationIndex, upperOf}
 use Rattle.axis.proofs.Located.{lower-upper}
-use Rattle.ninterp.specs.Locations.{Within, cornerPlace}
+use Rattle.ninterp.specs.Locations.{Within}
 
 -- ---- locations on their axes
 pub corner-inside : (ps : List AxisLocation) (cs : List ℕ) (m : ℕ) → Within ps cs → Inside (cornerAt ps m) cs

@@ -8,117 +8,125 @@ use borrow.Author.Tests.{lt-ltb, le-ltb, leb-false, eq-eqb, ne-eqb}
 use lib.Dec.{leb, ltb, eqb}
 use lib.ListN.{length, take, getD, length-take}
 use lib.Ieee.{Float, nan}
-use Rattle.answer.specs.Answer.{refused, answered, good, when, _or_}
+use Rattle.answer.specs.Faults.{refusal, good, when, _or_}
+use Rattle.answer.specs.Answer.{refused, answered, _then_}
+use Rattle.answer.specs.declared.Fault.{Fault}
 use Rattle.answer.specs.declared.Answer.{Answer}
 use Rattle.answer.proofs.Orders as orders
-use Rattle.words.specs.Words.{floatAt}
-use Rattle.lent.specs.Lent.{directionFault, lengthFault}
-use Rattle.lent.proofs.Rows.{direction-fine, length-same}
-use Rattle.shapes.specs.Shape.{countsOf}
-use Rattle.shapes.specs.Frame.{frameFault}
-use Rattle.table.specs.Table.{axesFault, rangesFault}
+use Rattle.answer.proofs.Answers.{then-good, then-or, then-stops, then-goes-on}
+use Rattle.bytes.specs.Words.{floatAt}
+use Rattle.checks.specs.Numbers.{unknownKindFault, directionFault, lengthFault, axesFault, rangesFault, valuesFault, directionsFault, readingsFault, axesUniformFault}
+use Rattle.checks.proofs.lent.Rows.{direction-fine, length-same}
+use Rattle.layout.specs.Shape.{countsOf}
+use Rattle.checks.specs.Shapes.{frameFault}
 use Rattle.layout.specs.Layout.{tabulate}
-use Rattle.values.specs.Values.{valuesFault}
-use Rattle.lists.specs.Lists.{directionsFault, readingsFault}
-use Rattle.shapes.specs.declared.Shape.{Shape}
-use Rattle.shapes.proofs.Frames.{shape-four}
-use Rattle.table.proofs.Grids.{frame-shape}
+use Rattle.layout.specs.declared.Shape.{Shape}
+use Rattle.checks.proofs.shapes.Frames.{shape-four}
+use Rattle.checks.proofs.table.Grids.{frame-shape}
 use Rattle.layout.proofs.Layouts.{length-tabulate, getD-tabulate}
-use Rattle.spacing.specs.Uniform.{axesUniformFault}
-use Rattle.order.specs.Lookups.{lookupFault, stepFault, linearUniformFault}
+use Rattle.orders.specs.Orders.{lookupFault, stepFault, linearUniformFault}
 use Rattle.blend.specs.Blend.{computed}
 use Rattle.ninterp.specs.Tables.{picked, nearestAnswer, stepAnswer, Judged}
-use Rattle.picks.specs.Picks.{nearestRule, stepRule, pickRule}
+use Rattle.axis.specs.Picks.{nearestRule, stepRule, pickRule}
 use Rattle.ninterp.specs.Linears.{interpolated, linearAnswer, linearUniformAnswer}
 use Rattle.axis.specs.Locations.{locationBy}
-use Rattle.ninterp.specs.Records.{allOf, kindAnswer, recordReadings, recordAnswer}
-use Rattle.input.specs.Input.{recordSize}
+use Rattle.ninterp.specs.Records.{allOf, kindAnswer, recordReadings, recordAnswer, recordSize}
 use Rattle.ninterp.specs.Kinds.{tableFault, kindFault, pickOf, fourOf, kindFound}
 use Rattle.ninterp.proofs.Located.{take-filled}
 use Rattle.ninterp.proofs.Lookups.{judged, four-at, picks-nearest, picks-step}
 
-three : (a b c rest : Answer) → ((a or b or c) or rest) ≡ (a or b or c or rest)
-three a b c rest = orders.or-assoc a (b or c) rest ∙ ap (λ (x : Answer). a or x) (orders.or-assoc b c rest)
+three : (a b c rest : Fault) → ((a or b or c) or rest) ≡ (a or b or c or rest)
+three a b c rest = orders.or-assoc a (b or c) rest ∙ ap (λ (x : Fault). a or x) (orders.or-assoc b c rest)
 
 module _ (s : Shape) (nodes values readings : List Float) (read : length readings ≡ s .axes) where
-  abbrev frame : Answer
+  abbrev frame : Fault
   frame = frameFault s (length nodes) (length values)
 
-  abbrev uniform : Answer
+  abbrev uniform : Fault
   uniform = axesUniformFault (countsOf s) nodes
 
-  abbrev inside : Answer
+  abbrev inside : Fault
   inside = readingsFault readings or rangesFault (countsOf s) nodes readings
 
-  lent : (place : ℕ) (n : ℕ) → n ≡ s .axes → (rest : Answer) → (lengthFault place (s .axes) n or rest) ≡ rest
-  lent place n e rest = orders.or-good (lengthFault place (s .axes) n) rest (orders.passed-fine (lengthFault place (s .axes) n) (length-same place (s .axes) n e))
+  lent : (place : ℕ) (n : ℕ) → n ≡ s .axes → (rest : Fault) → (lengthFault place (s .axes) n or rest) ≡ rest
+  lent place n e rest = orders.or-good (lengthFault place (s .axes) n) rest (orders.passed-no-fault (lengthFault place (s .axes) n) (length-same place (s .axes) n e))
 
   -- ---- each order of checks, of readings as many as the axes
   lookup-split : lookupFault s nodes values readings ≡ (tableFault s nodes values or inside)
   unfolding lookupFault
   lookup-split =
-      ap (λ (x : Answer). frame or x) (lent 2 (length readings) read (axesFault (countsOf s) nodes or valuesFault values or inside))
+      ap (λ (x : Fault). frame or x) (lent 2 (length readings) read (axesFault (countsOf s) nodes or valuesFault values or inside))
       ∙ sym (three frame (axesFault (countsOf s) nodes) (valuesFault values) inside)
 
   uniform-split : linearUniformFault s nodes values readings ≡ (tableFault s nodes values or uniform or inside)
   unfolding linearUniformFault
   uniform-split =
-      ap (λ (x : Answer). frame or x) (lent 2 (length readings) read (axesFault (countsOf s) nodes or valuesFault values or uniform or inside))
+      ap (λ (x : Fault). frame or x) (lent 2 (length readings) read (axesFault (countsOf s) nodes or valuesFault values or uniform or inside))
       ∙ sym (three frame (axesFault (countsOf s) nodes) (valuesFault values) (uniform or inside))
 
   all-pass : (d : ℕ) → d < 2 → good (directionsFault (allOf s d)) ≡ true
   unfolding directionsFault
   all-pass d l =
       ap good (orders.none-good (λ a. directionFault a (getD (allOf s d) a 0)) 0 (length (allOf s d))
-      (λ a _ m. orders.passed-fine (directionFault a (getD (allOf s d) a 0)) (direction-fine a (getD (allOf s d) a 0) (omega (arith, getD-tabulate (s .axes) a (λ (_ : ℕ). d) 0 (omega (arith, m, length-tabulate (s .axes) (λ (_ : ℕ). d))))))))
-      ∙ orders.good-fine
+      (λ a _ m. orders.passed-no-fault (directionFault a (getD (allOf s d) a 0)) (direction-fine a (getD (allOf s d) a 0) (omega (arith, getD-tabulate (s .axes) a (λ (_ : ℕ). d) 0 (omega (arith, m, length-tabulate (s .axes) (λ (_ : ℕ). d))))))))
+      ∙ orders.good-no-fault
 
   step-split : (d : ℕ) → d < 2 → stepFault s nodes values readings (allOf s d) ≡ (tableFault s nodes values or inside)
   unfolding stepFault
   step-split d l =
-      ap (λ (x : Answer). frame or x)
+      ap (λ (x : Fault). frame or x)
       (lent 2 (length readings) read (lengthFault 3 (s .axes) (length (allOf s d)) or axesFault (countsOf s) nodes or valuesFault values or directionsFault (allOf s d) or inside)
       ∙ lent 3 (length (allOf s d)) (length-tabulate (s .axes) (λ (_ : ℕ). d)) (axesFault (countsOf s) nodes or valuesFault values or directionsFault (allOf s d) or inside)
-      ∙ ap (λ (x : Answer). axesFault (countsOf s) nodes or valuesFault values or x) (orders.or-good (directionsFault (allOf s d)) inside (all-pass d l)))
+      ∙ ap (λ (x : Fault). axesFault (countsOf s) nodes or valuesFault values or x) (orders.or-good (directionsFault (allOf s d)) inside (all-pass d l)))
       ∙ sym (three frame (axesFault (countsOf s) nodes) (valuesFault values) inside)
 
   -- ---- the kinds
   abbrev found : ℕ → Answer
   found kind = kindFound kind s nodes values readings
 
-  known : (kind : ℕ) → kind ≤ 4 → (rest : Answer) → (kindFault kind (tableFault s nodes values) uniform or rest) ≡ (tableFault s nodes values or when (eqb kind 1) uniform or rest)
+  abbrev table : Fault
+  table = tableFault s nodes values
+
+  abbrev own : ℕ → Fault
+  own kind = when (eqb kind 1) uniform
+
+  known : (kind : ℕ) → kind ≤ 4 → (rest : Answer) → (kindFault kind table uniform then rest) ≡ (table then own kind then rest)
   known kind l rest =
-      ap (λ (x : Answer). x or rest) (orders.or-good (when (ltb 4 kind) (refused 9 0 0)) (tableFault s nodes values or when (eqb kind 1) uniform) (orders.good-when (ltb 4 kind) (refused 9 0 0) (le-ltb 4 kind l)))
-      ∙ orders.or-assoc (tableFault s nodes values) (when (eqb kind 1) uniform) rest
+      ap (λ (x : Fault). x then rest) (orders.or-good (unknownKindFault kind) (table or own kind) (orders.good-when (ltb 4 kind) (refusal 9 0 0) (le-ltb 4 kind l)))
+      ∙ then-or table (own kind) rest
 
-  plain : (kind : ℕ) → kind ≤ 4 → (kind ≡ 1 → ⊥) → (rest : Answer) → (kindFault kind (tableFault s nodes values) uniform or rest) ≡ (tableFault s nodes values or rest)
-  plain kind l n rest = known kind l rest ∙ ap (λ (x : Answer). tableFault s nodes values or x) (orders.or-good (when (eqb kind 1) uniform) rest (orders.good-when (eqb kind 1) uniform (ne-eqb kind 1 n)))
+  plain : (kind : ℕ) → kind ≤ 4 → (kind ≡ 1 → ⊥) → (rest : Answer) → (kindFault kind table uniform then rest) ≡ (table then rest)
+  plain kind l n rest =
+      known kind l rest ∙ ap (λ (x : Answer). table then x) (then-good (own kind) rest (orders.good-when (eqb kind 1) uniform (ne-eqb kind 1 n)))
 
-  unknown : (kind : ℕ) → 4 < kind → (rest : Answer) → (kindFault kind (tableFault s nodes values) uniform or rest) ≡ refused 9 0 0
+  unknown : (kind : ℕ) → 4 < kind → (rest : Answer) → (kindFault kind table uniform then rest) ≡ refused (refusal 9 0 0)
   unknown kind l rest =
-      orders.or-assoc (when (ltb 4 kind) (refused 9 0 0)) (tableFault s nodes values or when (eqb kind 1) uniform) rest
-      ∙ sym (orders.row-stops (ltb 4 kind) 8 0 0 ((tableFault s nodes values or when (eqb kind 1) uniform) or rest) (lt-ltb 4 kind l))
+      then-or (unknownKindFault kind) (table or own kind) rest
+      ∙ sym (then-stops (refusal 9 0 0) (unknownKindFault kind) (orders.row-met (ltb 4 kind) 8 0 0 (lt-ltb 4 kind l)) (refused (refusal 9 0 0)) ((table or own kind) then rest) (nine refl) refl)
+    where
+      nine : {n : ℕ} → n ≡ refusal 9 0 0 .number → n ≡ 0 → ⊥
+      nine e = unfold refusal in λ z. omega (arith, e, z)
 
   -- a rule whose checks are the table's and the reading's, and whose value is the kind's
-  of-rule : (kind : ℕ) → kind ≤ 4 → (kind ≡ 1 → ⊥) → (checks value : Answer) → kindAnswer kind s nodes values readings ≡ (checks or value)
-      → checks ≡ (tableFault s nodes values or inside) → value ≡ found kind
-      → kindAnswer kind s nodes values readings ≡ (kindFault kind (tableFault s nodes values) uniform or inside or found kind)
+  of-rule : (kind : ℕ) → kind ≤ 4 → (kind ≡ 1 → ⊥) → (checks : Fault) (value : Answer) → kindAnswer kind s nodes values readings ≡ (checks then value)
+      → checks ≡ (table or inside) → value ≡ found kind
+      → kindAnswer kind s nodes values readings ≡ (kindFault kind table uniform then inside then found kind)
   of-rule kind l n checks value e c v =
-      e ∙ ap₂ (λ (x y : Answer). x or y) c v ∙ orders.or-assoc (tableFault s nodes values) inside (found kind) ∙ sym (plain kind l n (inside or found kind))
+      e ∙ ap₂ (λ (x : Fault) (y : Answer). x then y) c v ∙ then-or table inside (found kind) ∙ sym (plain kind l n (inside then found kind))
 
-  linear-order : kindAnswer 0 s nodes values readings ≡ (kindFault 0 (tableFault s nodes values) uniform or inside or found 0)
+  linear-order : kindAnswer 0 s nodes values readings ≡ (kindFault 0 table uniform then inside then found 0)
   unfolding kindAnswer linearAnswer kindFound
   linear-order = of-rule 0 (omega arith) (λ e. omega arith) (lookupFault s nodes values readings) (found 0) refl lookup-split refl
 
-  uniform-order : kindAnswer 1 s nodes values readings ≡ (kindFault 1 (tableFault s nodes values) uniform or inside or found 1)
+  uniform-order : kindAnswer 1 s nodes values readings ≡ (kindFault 1 table uniform then inside then found 1)
   unfolding kindAnswer linearUniformAnswer kindFound when
   uniform-order =
-      ap (λ (x : Answer). x or found 1) uniform-split
-      ∙ orders.or-assoc (tableFault s nodes values) (uniform or inside) (found 1)
-      ∙ ap (λ (x : Answer). tableFault s nodes values or x) (orders.or-assoc uniform inside (found 1))
-      ∙ sym (known 1 (omega arith) (inside or found 1))
+      ap (λ (x : Fault). x then found 1) uniform-split
+      ∙ then-or table (uniform or inside) (found 1)
+      ∙ ap (λ (x : Answer). table then x) (then-or uniform inside (found 1))
+      ∙ sym (known 1 (omega arith) (inside then found 1))
 
-  kind-unknown : (kind : ℕ) → 4 < kind → kindAnswer kind s nodes values readings ≡ refused 9 0 0
+  kind-unknown : (kind : ℕ) → 4 < kind → kindAnswer kind s nodes values readings ≡ refused (refusal 9 0 0)
   unfolding kindAnswer
   kind-unknown kind l = rw (ne-eqb kind 0 (λ e. omega arith), ne-eqb kind 1 (λ e. omega arith), ne-eqb kind 2 (λ e. omega arith), ne-eqb kind 3 (λ e. omega arith), ne-eqb kind 4 (λ e. omega arith))
 
@@ -129,7 +137,7 @@ module _ (s : Shape) (nodes values readings : List Float) (read : length reading
     used : length (countsOf s) ≤ s .axes
     used = omega (arith, length-take (s .axes) (s .counts))
 
-    nearest-order : kindAnswer 2 s nodes values readings ≡ (kindFault 2 (tableFault s nodes values) uniform or inside or found 2)
+    nearest-order : kindAnswer 2 s nodes values readings ≡ (kindFault 2 (tableFault s nodes values) uniform then inside then found 2)
     unfolding kindAnswer nearestAnswer kindFound
     nearest-order =
         of-rule 2 (omega arith) (λ e. omega arith) (lookupFault s nodes values readings) (answered (picked nearestRule (countsOf s) nodes values readings)) refl lookup-split
@@ -142,36 +150,36 @@ module _ (s : Shape) (nodes values readings : List Float) (read : length reading
         let e : getD (fourOf d) a 0 ≡ d = four-at d a (omega (arith, few)) in
         (e ∙ sym (getD-tabulate (s .axes) a (λ (_ : ℕ). d) 0 (omega (arith, used))), omega (arith, e))))
 
-    lower-order : kindAnswer 3 s nodes values readings ≡ (kindFault 3 (tableFault s nodes values) uniform or inside or found 3)
+    lower-order : kindAnswer 3 s nodes values readings ≡ (kindFault 3 (tableFault s nodes values) uniform then inside then found 3)
     unfolding kindAnswer stepAnswer kindFound
     lower-order =
         of-rule 3 (omega arith) (λ e. omega arith) (stepFault s nodes values readings (allOf s 0)) (answered (picked (stepRule (allOf s 0)) (countsOf s) nodes values readings)) refl (step-split 0 (omega arith))
         (ap answered (step-value 0 (omega arith)))
 
-    upper-order : kindAnswer 4 s nodes values readings ≡ (kindFault 4 (tableFault s nodes values) uniform or inside or found 4)
+    upper-order : kindAnswer 4 s nodes values readings ≡ (kindFault 4 (tableFault s nodes values) uniform then inside then found 4)
     unfolding kindAnswer stepAnswer kindFound
     upper-order =
         of-rule 4 (omega arith) (λ e. omega arith) (stepFault s nodes values readings (allOf s 1)) (answered (picked (stepRule (allOf s 1)) (countsOf s) nodes values readings)) refl (step-split 1 (omega arith))
         (ap answered (step-value 1 (omega arith)))
 
-    pub kind-order : (kind : ℕ) → kindAnswer kind s nodes values readings ≡ (kindFault kind (tableFault s nodes values) uniform or inside or found kind)
+    pub kind-order : (kind : ℕ) → kindAnswer kind s nodes values readings ≡ (kindFault kind (tableFault s nodes values) uniform then inside then found kind)
     kind-order zero = linear-order
     kind-order (suc zero) = uniform-order
     kind-order (suc (suc zero)) = nearest-order
     kind-order (suc (suc (suc zero))) = lower-order
     kind-order (suc (suc (suc (suc zero)))) = upper-order
     kind-order (suc (suc (suc (suc (suc k))))) =
-        kind-unknown (suc (suc (suc (suc (suc k))))) (omega arith) ∙ sym (unknown (suc (suc (suc (suc (suc k))))) (omega arith) (inside or found (suc (suc (suc (suc (suc k)))))))
+        kind-unknown (suc (suc (suc (suc (suc k))))) (omega arith) ∙ sym (unknown (suc (suc (suc (suc (suc k))))) (omega arith) (inside then found (suc (suc (suc (suc (suc k)))))))
 
-    -- ---- what is known where a check passed
-    module _ (table : good (tableFault s nodes values) ≡ true) where
-      pub table-four : s .axes ≤ 4
-      table-four = shape-four s (frame-shape s four nodes values (orders.first-passed frame (axesFault (countsOf s) nodes or valuesFault values) table))
+  -- ---- what is known where a check passed
+  module _ (table : good (tableFault s nodes values) ≡ true) where
+    pub table-four : s .axes ≤ 4
+    table-four = shape-four s (frame-shape s nodes values (orders.first-passed frame (axesFault (countsOf s) nodes or valuesFault values) table))
 
-      pub point-judged : good inside ≡ true → Judged s nodes values readings
-      point-judged h =
-          judged s four nodes values readings (orders.first-passed frame (axesFault (countsOf s) nodes or valuesFault values) table) (orders.passed-fine (lengthFault 2 (s .axes) (length readings)) (length-same 2 (s .axes) (length readings) read))
-          (orders.first-passed (axesFault (countsOf s) nodes) (valuesFault values) (orders.second-passed frame (axesFault (countsOf s) nodes or valuesFault values) table)) h
+    pub point-judged : good inside ≡ true → Judged s nodes values readings
+    point-judged h =
+        judged s nodes values readings (orders.first-passed frame (axesFault (countsOf s) nodes or valuesFault values) table) (orders.passed-no-fault (lengthFault 2 (s .axes) (length readings)) (length-same 2 (s .axes) (length readings) read))
+        (orders.first-passed (axesFault (countsOf s) nodes) (valuesFault values) (orders.second-passed frame (axesFault (countsOf s) nodes or valuesFault values) table)) h
 
 -- ---- what is found
 pub kind-nearest : (kind : ℕ) → kind ≡ 2 → 2 ≡ pickOf kind
@@ -208,7 +216,7 @@ read-enough s rec xs e =
     omega (arith, length-take (s .axes) xs)
 
 module _ (s : Shape) (nodes values : List Float) (rec : List ℕ) where
-  pub record-short : leb (recordSize s) (length rec) ≡ false → refused 3 0 2 ≡ recordAnswer s nodes values rec
+  pub record-short : leb (recordSize s) (length rec) ≡ false → refused (refusal 3 0 2) ≡ recordAnswer s nodes values rec
   unfolding recordAnswer
   record-short e = rw (lt-ltb (length rec) (recordSize s) (leb-false (recordSize s) (length rec) e))
 
@@ -217,30 +225,30 @@ module _ (s : Shape) (nodes values : List Float) (rec : List ℕ) where
   record-whole l = rw (le-ltb (length rec) (recordSize s) l)
 
 -- ---- a whole record: r is what was found of its kind, of the table and of 8
-module _ (s : Shape) (four : length (s .counts) ≡ 4) (nodes values : List Float) (rec : List ℕ) (table uniform : Answer)
-    (t : table ≡ tableFault s nodes values) (u : uniform ≡ axesUniformFault (countsOf s) nodes) (r : Answer) (e : r ≡ kindFault (getD rec 0 0) table uniform) where
+module _ (s : Shape) (four : length (s .counts) ≡ 4) (nodes values : List Float) (rec : List ℕ) (table uniform : Fault)
+    (t : table ≡ tableFault s nodes values) (u : uniform ≡ axesUniformFault (countsOf s) nodes) (r : Fault) (e : r ≡ kindFault (getD rec 0 0) table uniform) where
   same : r ≡ kindFault (getD rec 0 0) (tableFault s nodes values) (axesUniformFault (countsOf s) nodes)
   same = e ∙ ap₂ (kindFault (getD rec 0 0)) t u
 
-  ordered : kindAnswer (getD rec 0 0) s nodes values (recordReadings s rec) ≡ (kindFault (getD rec 0 0) (tableFault s nodes values) (axesUniformFault (countsOf s) nodes) or (readingsFault (recordReadings s rec) or rangesFault (countsOf s) nodes (recordReadings s rec)) or kindFound (getD rec 0 0) s nodes values (recordReadings s rec))
+  ordered : kindAnswer (getD rec 0 0) s nodes values (recordReadings s rec) ≡ (kindFault (getD rec 0 0) (tableFault s nodes values) (axesUniformFault (countsOf s) nodes) then (readingsFault (recordReadings s rec) or rangesFault (countsOf s) nodes (recordReadings s rec)) then kindFound (getD rec 0 0) s nodes values (recordReadings s rec))
   ordered = kind-order s nodes values (recordReadings s rec) (length-readings s rec) four (getD rec 0 0)
 
-  pub whole-refused : (r .number ≡ 0 → ⊥) → r ≡ kindAnswer (getD rec 0 0) s nodes values (recordReadings s rec)
-  whole-refused h = orders.or-stops r (kindFault (getD rec 0 0) (tableFault s nodes values) (axesUniformFault (countsOf s) nodes)) same _ h ∙ sym ordered
+  pub whole-refused : (r .number ≡ 0 → ⊥) → (x : Answer) → x ≡ refused r → x ≡ kindAnswer (getD rec 0 0) s nodes values (recordReadings s rec)
+  whole-refused h x q = then-stops r (kindFault (getD rec 0 0) (tableFault s nodes values) (axesUniformFault (countsOf s) nodes)) same x _ h q ∙ sym ordered
 
   pub whole-table : r .number ≡ 0 → good (tableFault s nodes values) ≡ true
   whole-table h =
       orders.first-passed (tableFault s nodes values) (when (eqb (getD rec 0 0) 1) (axesUniformFault (countsOf s) nodes))
-      (orders.second-passed (when (ltb 4 (getD rec 0 0)) (refused 9 0 0)) (tableFault s nodes values or when (eqb (getD rec 0 0) 1) (axesUniformFault (countsOf s) nodes))
+      (orders.second-passed (when (ltb 4 (getD rec 0 0)) (refusal 9 0 0)) (tableFault s nodes values or when (eqb (getD rec 0 0) 1) (axesUniformFault (countsOf s) nodes))
       (orders.passes r (kindFault (getD rec 0 0) (tableFault s nodes values) (axesUniformFault (countsOf s) nodes)) same h))
 
   pub whole-four : r .number ≡ 0 → s .axes ≤ 4
-  whole-four h = table-four s nodes values (recordReadings s rec) (length-readings s rec) four (whole-table h)
+  whole-four h = table-four s nodes values (recordReadings s rec) (length-readings s rec) (whole-table h)
 
   pub whole-found : r .number ≡ 0 → (point : List Float) → point ≡ recordReadings s rec → (x : Answer)
-      → x ≡ ((readingsFault point or rangesFault (countsOf s) nodes point) or kindFound (getD rec 0 0) s nodes values point)
+      → x ≡ ((readingsFault point or rangesFault (countsOf s) nodes point) then kindFound (getD rec 0 0) s nodes values point)
       → x ≡ kindAnswer (getD rec 0 0) s nodes values (recordReadings s rec)
   whole-found h point p x q =
-      orders.or-goes-on r (kindFault (getD rec 0 0) (tableFault s nodes values) (axesUniformFault (countsOf s) nodes)) same x _ h
-      (q ∙ ap (λ (ys : List Float). (readingsFault ys or rangesFault (countsOf s) nodes ys) or kindFound (getD rec 0 0) s nodes values ys) p)
+      then-goes-on r (kindFault (getD rec 0 0) (tableFault s nodes values) (axesUniformFault (countsOf s) nodes)) same x _ h
+      (q ∙ ap (λ (ys : List Float). (readingsFault ys or rangesFault (countsOf s) nodes ys) then kindFound (getD rec 0 0) s nodes values ys) p)
       ∙ sym ordered

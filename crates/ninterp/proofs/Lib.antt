@@ -8,3 +8,4 @@ pub mod Located
 pub mod LinearDemands
 pub mod KindOrder
 pub mod RecordLines
+pub mod Wholes

@@ -7,33 +7,29 @@ use native.Mathlib.Omega.{arith}
 use lib.ListN.{length, getD}
 use lib.Ieee.{Float, nan, eq}
 use lib.Ieee.Scale.{finite}
-use Rattle.answer.specs.Answer.{good, refused, answered, _or_}
+use Rattle.answer.specs.Faults.{good, refusal, _or_}
+use Rattle.answer.specs.Answer.{refused, answered}
 use Rattle.answer.proofs.Orders as orders
-use Rattle.judge.specs.Check.{node}
-use Rattle.numbers.specs.Numbers.{resultFault}
-use Rattle.numbers.proofs.Rows.{result-wild, result-fine}
-use Rattle.shapes.specs.Shape.{countsOf, size}
+use Rattle.answer.proofs.Answers.{then-good, then-bad}
+use Rattle.checks.specs.Nodes.{node}
+use Rattle.checks.specs.Numbers.{resultFault, lengthFault, axesFault, rangesFault, valuesFault, readingsFault, axesUniformFault}
+use Rattle.checks.proofs.numbers.Rows.{result-wild, result-fine}
+use Rattle.layout.specs.Shape.{countsOf, size}
 use Rattle.layout.specs.Layout.{axesOf, place, table, tabulate, axisOf}
-use Rattle.shapes.specs.Frame.{frameFault}
-use Rattle.lent.specs.Lent.{lengthFault}
-use Rattle.table.specs.Table.{axesFault, rangesFault}
-use Rattle.values.specs.Values.{valuesFault}
-use Rattle.lists.specs.Lists.{readingsFault}
-use Rattle.shapes.specs.declared.Shape.{Shape}
+use Rattle.checks.specs.Shapes.{frameFault}
+use Rattle.layout.specs.declared.Shape.{Shape}
 use Rattle.layout.proofs.Walks.{length-axes}
 use Rattle.layout.proofs.Layouts.{tabulate-same, place-below}
-use Rattle.values.proofs.Rows.{values-finite}
-use Rattle.table.proofs.Grids.{frame-values, grid-of}
-use Rattle.spacing.specs.Uniform.{axesUniformFault}
-use Rattle.order.specs.Lookups.{lookupFault, linearUniformFault}
+use Rattle.checks.proofs.values.Rows.{values-finite}
+use Rattle.checks.proofs.table.Grids.{frame-values, grid-of}
+use Rattle.orders.specs.Orders.{lookupFault, linearUniformFault}
 use Rattle.blend.specs.Blend.{linear, computed}
 use Rattle.blend.specs.Rust.{rustLinear}
-use Rattle.blend.specs.declared.AxisLocation.{AxisLocation}
-use Rattle.blend.specs.declared.AxisLocation.the-variants.{Exact}
+use Rattle.axis.specs.declared.AxisLocation.{AxisLocation}
+use Rattle.axis.specs.declared.AxisLocation.the-variants.{Exact}
 use Rattle.blend.proofs.Bits.{rust-linear}
-use Rattle.axis.specs.Utils.{axisLocation}
+use Rattle.axis.specs.Locations.{axisLocation, uniformLocation}
 use Rattle.ninterp.specs.Tables.{indices}
-use Rattle.axis.specs.Locations.{uniformLocation}
 use Rattle.ninterp.specs.Linears.{locations, interpolated, linearAnswer, linearUniformAnswer}
 use Rattle.axis.proofs.Laws.{node-located}
 use Rattle.ninterp.proofs.Picks.{list-inside}
@@ -43,18 +39,18 @@ use Rattle.ninterp.proofs.Demands.{Accepted, InRange}
 -- ---- a computed result: the value where it is finite, 12 exactly where it is not
 pub computed-finite : (x : Float) → finite x ≡ true → computed x ≡ answered x
 unfolding computed
-computed-finite x h = orders.or-good (resultFault 0 x) (answered x) (orders.passed-fine (resultFault 0 x) (result-fine 0 x h))
+computed-finite x h = then-good (resultFault 0 x) (answered x) (orders.passed-no-fault (resultFault 0 x) (result-fine 0 x h))
 
-pub computed-wild : (x : Float) → finite x ≡ false → computed x ≡ refused 12 0 0
+pub computed-wild : (x : Float) → finite x ≡ false → computed x ≡ refused (refusal 12 0 0)
 unfolding computed
-computed-wild x h = orders.or-bad (resultFault 0 x) (answered x) (ap good (sym (result-wild 0 x h)) ∙ orders.bad-refused 11 0 0) ∙ sym (result-wild 0 x h)
+computed-wild x h = then-bad (resultFault 0 x) (answered x) (ap good (sym (result-wild 0 x h)) ∙ orders.bad-refused 11 0 0) ∙ ap refused (sym (result-wild 0 x h))
 
 -- ---- locations that are all exact give the stored value
 linear-exact : (n : ℕ) (f : ℕ → ℕ) (g : List ℕ → Float) → linear (tabulate n (λ a. Exact (f a))) g ≡ g (tabulate n f)
 linear-exact zero f g = refl
 linear-exact (suc n) f g = linear-exact n (λ a. f (suc a)) (λ is. g (f 0 ∷ is))
 
-module _ (s : Shape) (four : length (s .counts) ≡ 4) (nodes values readings : List Float) (t : Accepted s nodes values) (r : InRange s nodes readings) where
+module _ (s : Shape) (nodes values readings : List Float) (t : Accepted s nodes values) (r : InRange s nodes readings) where
   -- the Rust's value over the locations of a rule
   abbrev rust : (List Float → Float → AxisLocation) → Float
   rust rule = rustLinear (locations rule (axesOf (countsOf s) nodes) readings) (table (countsOf s) values)
@@ -63,14 +59,14 @@ module _ (s : Shape) (four : length (s .counts) ≡ 4) (nodes values readings : 
   pub linear-demand : linearAnswer s nodes values readings ≡ computed (rustLinear (locations axisLocation (axesOf (countsOf s) nodes) readings) (table (countsOf s) values))
   unfolding linearAnswer interpolated
   linear-demand =
-      orders.or-good (lookupFault s nodes values readings) (computed (linear (locations axisLocation (axesOf (countsOf s) nodes) readings) (table (countsOf s) values))) (demands.lookup-passed s four nodes values readings t r)
+      then-good (lookupFault s nodes values readings) (computed (linear (locations axisLocation (axesOf (countsOf s) nodes) readings) (table (countsOf s) values))) (demands.lookup-passed s nodes values readings t r)
       ∙ ap computed (sym (rust-linear (locations axisLocation (axesOf (countsOf s) nodes) readings) (table (countsOf s) values)))
 
   pub linear-answers : finite (rustLinear (locations axisLocation (axesOf (countsOf s) nodes) readings) (table (countsOf s) values)) ≡ true
       → linearAnswer s nodes values readings ≡ answered (rustLinear (locations axisLocation (axesOf (countsOf s) nodes) readings) (table (countsOf s) values))
   linear-answers h = linear-demand ∙ computed-finite (rust axisLocation) h
 
-  pub linear-refuses : finite (rustLinear (locations axisLocation (axesOf (countsOf s) nodes) readings) (table (countsOf s) values)) ≡ false → linearAnswer s nodes values readings ≡ refused 12 0 0
+  pub linear-refuses : finite (rustLinear (locations axisLocation (axesOf (countsOf s) nodes) readings) (table (countsOf s) values)) ≡ false → linearAnswer s nodes values readings ≡ refused (refusal 12 0 0)
   linear-refuses h = linear-demand ∙ computed-wild (rust axisLocation) h
 
   -- ---- demand 2 for LinearUniform, on a table that passes 8 too
@@ -79,22 +75,22 @@ module _ (s : Shape) (four : length (s .counts) ≡ 4) (nodes values readings : 
     unfolding linearUniformFault
     uniform-passed =
         orders.both-passed (frameFault s (length nodes) (length values)) _ (t .frame)
-        (orders.both-passed (lengthFault 2 (s .axes) (length readings)) _ (demands.reading-length s four nodes values readings t r)
+        (orders.both-passed (lengthFault 2 (s .axes) (length readings)) _ (demands.reading-length s nodes values readings t r)
         (orders.both-passed (axesFault (countsOf s) nodes) _ (t .axes)
         (orders.both-passed (valuesFault values) _ (t .stored)
-        (orders.both-passed (axesUniformFault (countsOf s) nodes) (readingsFault readings or rangesFault (countsOf s) nodes readings) u (demands.point-good s four nodes values readings t r)))))
+        (orders.both-passed (axesUniformFault (countsOf s) nodes) (readingsFault readings or rangesFault (countsOf s) nodes readings) u (demands.point-good s nodes values readings t r)))))
 
     pub linear-uniform-demand : linearUniformAnswer s nodes values readings ≡ computed (rustLinear (locations uniformLocation (axesOf (countsOf s) nodes) readings) (table (countsOf s) values))
     unfolding linearUniformAnswer interpolated
     linear-uniform-demand =
-        orders.or-good (linearUniformFault s nodes values readings) (computed (linear (locations uniformLocation (axesOf (countsOf s) nodes) readings) (table (countsOf s) values))) uniform-passed
+        then-good (linearUniformFault s nodes values readings) (computed (linear (locations uniformLocation (axesOf (countsOf s) nodes) readings) (table (countsOf s) values))) uniform-passed
         ∙ ap computed (sym (rust-linear (locations uniformLocation (axesOf (countsOf s) nodes) readings) (table (countsOf s) values)))
 
     pub linear-uniform-answers : finite (rustLinear (locations uniformLocation (axesOf (countsOf s) nodes) readings) (table (countsOf s) values)) ≡ true
         → linearUniformAnswer s nodes values readings ≡ answered (rustLinear (locations uniformLocation (axesOf (countsOf s) nodes) readings) (table (countsOf s) values))
     linear-uniform-answers h = linear-uniform-demand ∙ computed-finite (rust uniformLocation) h
 
-    pub linear-uniform-refuses : finite (rustLinear (locations uniformLocation (axesOf (countsOf s) nodes) readings) (table (countsOf s) values)) ≡ false → linearUniformAnswer s nodes values readings ≡ refused 12 0 0
+    pub linear-uniform-refuses : finite (rustLinear (locations uniformLocation (axesOf (countsOf s) nodes) readings) (table (countsOf s) values)) ≡ false → linearUniformAnswer s nodes values readings ≡ refused (refusal 12 0 0)
     linear-uniform-refuses h = linear-uniform-demand ∙ computed-wild (rust uniformLocation) h
 
   -- ---- where every reading is a node, the stored bits of that node
@@ -103,7 +99,7 @@ module _ (s : Shape) (four : length (s .counts) ≡ 4) (nodes values readings : 
     is = indices (λ a xs p. at a) (axesOf (countsOf s) nodes) readings
 
     counted : length (countsOf s) ≡ s .axes
-    counted = demands.counted s four nodes values readings t r
+    counted = demands.counted s nodes values readings t r
 
     all-exact : locations axisLocation (axesOf (countsOf s) nodes) readings ≡ tabulate (length (axesOf (countsOf s) nodes)) (λ a. Exact (at a))
     unfolding locations
@@ -111,19 +107,19 @@ module _ (s : Shape) (four : length (s .counts) ≡ 4) (nodes values readings : 
         tabulate-same (length (axesOf (countsOf s) nodes)) (λ a. axisLocation (axisOf s nodes a) (getD readings a nan)) (λ a. Exact (at a))
         (λ a l.
         let k : a < s .axes = omega (arith, counted, length-axes (countsOf s) nodes, l) in
-        node-located (axisOf s nodes a) (getD readings a nan) (demands.axis-at s four nodes values readings t r a k) (r .finites a k) (at a) (within a k) (on a k))
+        node-located (axisOf s nodes a) (getD readings a nan) (demands.axis-at s nodes values readings t r a k) (r .finites a k) (at a) (within a k) (on a k))
 
     stored-value : finite (table (countsOf s) values is) ≡ true
     unfolding table
     stored-value =
-        let g = grid-of s four nodes values (t .frame) (t .axes) in
+        let g = grid-of s nodes values (t .frame) (t .axes) in
         let below : place (countsOf s) is < size (countsOf s) = place-below is (countsOf s) (list-inside (λ a xs p. at a) (countsOf s) nodes readings (g .flat) (λ a l. within a (omega (arith, counted, l)))) in
-        values-finite values (t .stored) (place (countsOf s) is) (omega (arith, below, frame-values s four nodes values (t .frame)))
+        values-finite values (t .stored) (place (countsOf s) is) (omega (arith, below, frame-values s nodes values (t .frame)))
 
     pub linear-stored : linearAnswer s nodes values readings ≡ answered (table (countsOf s) values (indices (λ a xs p. at a) (axesOf (countsOf s) nodes) readings))
     unfolding linearAnswer interpolated indices
     linear-stored =
-        orders.or-good (lookupFault s nodes values readings) (computed (linear (locations axisLocation (axesOf (countsOf s) nodes) readings) (table (countsOf s) values))) (demands.lookup-passed s four nodes values readings t r)
+        then-good (lookupFault s nodes values readings) (computed (linear (locations axisLocation (axesOf (countsOf s) nodes) readings) (table (countsOf s) values))) (demands.lookup-passed s nodes values readings t r)
         ∙ ap (λ (ls : List AxisLocation). computed (linear ls (table (countsOf s) values))) all-exact
         ∙ ap computed (linear-exact (length (axesOf (countsOf s) nodes)) at (table (countsOf s) values))
         ∙ computed-finite (table (countsOf s) values is) stored-value

@@ -5,12 +5,12 @@ use Prim.Native.Nat.{ℕ, zero, suc, _≤_, _<_}
 use native.Mathlib.Omega.{arith}
 use lib.ListN.{length, take, getD}
 use lib.Ieee.{Float, nan, fits}
-use Rattle.shapes.specs.Shape.{total}
+use Rattle.layout.specs.Shape.{total}
 use Rattle.layout.specs.Layout.{axesOf, tabulate}
 use Rattle.layout.proofs.Walks.{length-axes}
 use Rattle.layout.proofs.Layouts.{length-tabulate}
-use Rattle.table.proofs.Grids.{length-axis}
-use Rattle.blend.specs.declared.AxisLocation.{AxisLocation}
+use Rattle.checks.proofs.table.Grids.{length-axis}
+use Rattle.axis.specs.declared.AxisLocation.{AxisLocation}
 use Rattle.ninterp.specs.Linears.{locations}
 use Rattle.axis.specs.Locations.{upperOf}
 use Rattle.ninterp.specs.Locations.{Within}

@@ -6,54 +6,50 @@ use Prim.Native.Nat.{ℕ, zero, suc, _≤_, _<_}
 use native.Mathlib.Omega.{arith}
 use lib.ListN.{length, getD}
 use lib.Ieee.{Float, nan}
-use Rattle.answer.specs.Answer.{good, _or_}
-use Rattle.answer.specs.declared.Answer.{Answer}
+use Rattle.answer.specs.Faults.{good, _or_}
+use Rattle.answer.specs.declared.Fault.{Fault}
 use Rattle.answer.proofs.Orders as orders
-use Rattle.lent.specs.Lent.{directionFault, lengthFault}
-use Rattle.lent.proofs.Rows.{direction-passed, length-passed}
-use Rattle.shapes.specs.Shape.{countsOf}
+use Rattle.checks.specs.Numbers.{directionFault, lengthFault, axesFault, rangesFault, valuesFault, directionsFault, readingsFault, axesUniformFault}
+use Rattle.checks.proofs.lent.Rows.{direction-passed, length-passed}
+use Rattle.layout.specs.Shape.{countsOf}
 use Rattle.layout.specs.Layout.{axesOf, place, table}
-use Rattle.shapes.specs.Frame.{frameFault}
-use Rattle.table.specs.Table.{axesFault, rangesFault}
-use Rattle.values.specs.Values.{valuesFault}
-use Rattle.lists.specs.Lists.{directionsFault, readingsFault}
-use Rattle.shapes.specs.declared.Shape.{Shape}
+use Rattle.checks.specs.Shapes.{frameFault}
+use Rattle.layout.specs.declared.Shape.{Shape}
 use Rattle.layout.proofs.Walks.{length-axes}
-use Rattle.shapes.proofs.Frames.{shape-some, shape-four}
+use Rattle.checks.proofs.shapes.Frames.{shape-some, shape-four}
 use Rattle.layout.proofs.Layouts.{tabulate-same}
-use Rattle.table.proofs.Grids.{frame-shape, frame-values, frame-axes, grid-of}
-use Rattle.lists.proofs.Rows.{readings-finite}
-use Rattle.picks.specs.Utils.{stepIndex}
-use Rattle.spacing.specs.Uniform.{axesUniformFault}
-use Rattle.order.specs.Lookups.{lookupFault, stepFault, linearUniformFault}
-use Rattle.picks.specs.Picks.{nearestRule, stepRule, pickRule}
-use Rattle.picks.proofs.Picks.{is-step, is-nearest}
+use Rattle.checks.proofs.table.Grids.{frame-shape, frame-values, frame-axes, grid-of}
+use Rattle.checks.proofs.lists.Rows.{readings-finite}
+use Rattle.axis.specs.Steps.{stepIndex}
+use Rattle.orders.specs.Orders.{lookupFault, stepFault, linearUniformFault}
+use Rattle.axis.specs.Picks.{nearestRule, stepRule, pickRule}
+use Rattle.axis.proofs.picks.Picks.{is-step, is-nearest}
 use Rattle.ninterp.specs.Tables.{indices, picked, Judged}
 use Rattle.ninterp.specs.Kinds.{fourOf}
 
 -- ---- a judged table and reading
-module _ (s : Shape) (four : length (s .counts) ≡ 4) (nodes values readings : List Float) where
-  abbrev frame : Answer
+module _ (s : Shape) (nodes values readings : List Float) where
+  abbrev frame : Fault
   frame = frameFault s (length nodes) (length values)
 
-  abbrev reading : Answer
+  abbrev reading : Fault
   reading = lengthFault 2 (s .axes) (length readings)
 
-  abbrev nodes-part : Answer
+  abbrev nodes-part : Fault
   nodes-part = axesFault (countsOf s) nodes
 
-  abbrev point-part : Answer
+  abbrev point-part : Fault
   point-part = readingsFault readings or rangesFault (countsOf s) nodes readings
 
   pub judged : good frame ≡ true → good reading ≡ true → good nodes-part ≡ true → good point-part ≡ true → Judged s nodes values readings
   judged f r x p =
       let n : length readings ≡ s .axes = length-passed 2 (s .axes) (length readings) r in
       record {
-        grid = grid-of s four nodes values f x;
-        some = shape-some s (frame-shape s four nodes values f);
-        four = shape-four s (frame-shape s four nodes values f);
-        count = frame-axes s four nodes values f;
-        stored = frame-values s four nodes values f;
+        grid = grid-of s nodes values f x;
+        some = shape-some s (frame-shape s nodes values f);
+        four = shape-four s (frame-shape s nodes values f);
+        count = frame-axes s nodes values f;
+        stored = frame-values s nodes values f;
         read = n;
         finites = λ a l. readings-finite readings (orders.first-passed (readingsFault readings) (rangesFault (countsOf s) nodes readings) p) a (omega arith);
       }
@@ -62,7 +58,7 @@ module _ (s : Shape) (four : length (s .counts) ≡ 4) (nodes values readings : 
   unfolding lookupFault
   lookup-judged h = judged (orders.first-passed frame (reading or after-reading) h) (orders.first-passed reading after-reading h1) (orders.first-passed nodes-part (valuesFault values or point-part) h2) (orders.second-passed (valuesFault values) point-part (orders.second-passed nodes-part (valuesFault values or point-part) h2))
     where
-      after-reading : Answer
+      after-reading : Fault
       after-reading = nodes-part or valuesFault values or point-part
 
       h1 : good (reading or after-reading) ≡ true
@@ -72,7 +68,7 @@ module _ (s : Shape) (four : length (s .counts) ≡ 4) (nodes values readings : 
       h2 = orders.second-passed reading after-reading h1
 
   module _ (h : good (linearUniformFault s nodes values readings) ≡ true) where
-    abbrev after-values : Answer
+    abbrev after-values : Fault
     after-values = axesUniformFault (countsOf s) nodes or point-part
 
     u1 : good (reading or nodes-part or valuesFault values or after-values) ≡ true
@@ -93,13 +89,13 @@ module _ (s : Shape) (four : length (s .counts) ≡ 4) (nodes values readings : 
         (orders.second-passed (axesUniformFault (countsOf s) nodes) point-part u3)
 
   module _ (directions : List ℕ) (h : good (stepFault s nodes values readings directions) ≡ true) where
-    abbrev lent : Answer
+    abbrev lent : Fault
     lent = lengthFault 3 (s .axes) (length directions)
 
-    abbrev tail : Answer
+    abbrev tail : Fault
     tail = directionsFault directions or point-part
 
-    abbrev after-lent : Answer
+    abbrev after-lent : Fault
     after-lent = nodes-part or valuesFault values or tail
 
     h1 : good (reading or lent or after-lent) ≡ true

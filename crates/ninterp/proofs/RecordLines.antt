@@ -10,14 +10,13 @@ use lib.Dec.{leb}
 use lib.ListN.{length, take, drop, getD, length-take, length-drop}
 use lib.Ieee.{Float}
 use Rattle.answer.specs.declared.Answer.{Answer}
-use Rattle.shapes.specs.declared.Shape.{Shape}
+use Rattle.layout.specs.declared.Shape.{Shape}
 use Rattle.lines.specs.Line.{lineOf, longest}
 use Rattle.lines.specs.Put.{Wrote, lineInto, lineEnd}
 use Rattle.lines.specs.Stream.{Block}
 use Rattle.lines.proofs.Shows.{line-wrote}
 use Rattle.lines.proofs.Blocks.{Going, go-start, go-turn, go-done}
-use Rattle.ninterp.specs.Records.{kindAnswer, recordReadings, recordAnswer, recordRule}
-use Rattle.input.specs.Input.{recordSize}
+use Rattle.ninterp.specs.Records.{kindAnswer, recordReadings, recordAnswer, recordRule, recordSize}
 use Rattle.ninterp.proofs.KindOrder.{record-whole}
 
 module _ (s : Shape) (nodes values : List Float) where

@@ -5,26 +5,27 @@ use Prim.Native.Nat.{ℕ, _-_}
 use lib.Dec.{ltb, eqb}
 use lib.ListN.{length}
 use lib.Ieee.{Float}
-use Rattle.answer.specs.Answer.{refused, answered, when, _or_}
+use Rattle.answer.specs.Faults.{when, _or_}
+use Rattle.answer.specs.Answer.{answered}
+use Rattle.answer.specs.declared.Fault.{Fault}
 use Rattle.answer.specs.declared.Answer.{Answer}
-use Rattle.shapes.specs.Shape.{countsOf}
-use Rattle.shapes.specs.Frame.{frameFault}
-use Rattle.table.specs.Table.{axesFault}
-use Rattle.values.specs.Values.{valuesFault}
-use Rattle.shapes.specs.declared.Shape.{Shape}
+use Rattle.layout.specs.Shape.{countsOf}
+use Rattle.checks.specs.Shapes.{frameFault}
+use Rattle.checks.specs.Numbers.{unknownKindFault, axesFault, valuesFault}
+use Rattle.layout.specs.declared.Shape.{Shape}
 use Rattle.blend.specs.Blend.{computed}
 use Rattle.ninterp.specs.Tables.{picked}
-use Rattle.picks.specs.Picks.{pickRule}
+use Rattle.axis.specs.Picks.{pickRule}
 use Rattle.ninterp.specs.Linears.{interpolated}
 use Rattle.axis.specs.Locations.{locationBy}
 
 -- 1 to 7, the same for every record
-abbrev pub tableFault : Shape → List Float → List Float → Answer
+abbrev pub tableFault : Shape → List Float → List Float → Fault
 tableFault s nodes values = frameFault s (length nodes) (length values) or axesFault (countsOf s) nodes or valuesFault values
 
 -- 9 of an unknown kind; then what the table has, and 8 for LinearUniform
-abbrev pub kindFault : ℕ → Answer → Answer → Answer
-kindFault kind table uniform = when (ltb 4 kind) (refused 9 0 0) or table or when (eqb kind 1) uniform
+abbrev pub kindFault : ℕ → Fault → Fault → Fault
+kindFault kind table uniform = unknownKindFault kind or table or when (eqb kind 1) uniform
 
 -- the pick of Nearest, and of Step with one direction
 abbrev pub pickOf : ℕ → ℕ

@@ -3,3 +3,4 @@ pub mod Linears
 pub mod Locations
 pub mod Records
 pub mod Kinds
+pub mod Kernels

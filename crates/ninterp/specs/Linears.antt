@@ -3,16 +3,15 @@ use mathlib.Core.List.{List, []}
 use Prim.Native.Nat.{ℕ}
 use lib.ListN.{length, getD}
 use lib.Ieee.{Float, nan}
-use Rattle.answer.specs.Answer.{_or_}
+use Rattle.answer.specs.Answer.{_then_}
 use Rattle.answer.specs.declared.Answer.{Answer}
-use Rattle.shapes.specs.Shape.{countsOf}
+use Rattle.layout.specs.Shape.{countsOf}
 use Rattle.layout.specs.Layout.{axesOf, table, tabulate}
-use Rattle.shapes.specs.declared.Shape.{Shape}
-use Rattle.order.specs.Lookups.{lookupFault, linearUniformFault}
+use Rattle.layout.specs.declared.Shape.{Shape}
+use Rattle.orders.specs.Orders.{lookupFault, linearUniformFault}
 use Rattle.blend.specs.Blend.{linear, computed}
-use Rattle.blend.specs.declared.AxisLocation.{AxisLocation}
-use Rattle.axis.specs.Utils.{axisLocation}
-use Rattle.axis.specs.Locations.{uniformLocation}
+use Rattle.axis.specs.declared.AxisLocation.{AxisLocation}
+use Rattle.axis.specs.Locations.{axisLocation, uniformLocation}
 
 -- a rule gives each axis a location, from its nodes and its reading: `axisLocation` for Linear, `uniformLocation` for LinearUniform
 unfoldable pub locations : (List Float → Float → AxisLocation) → List (List Float) → List Float → List AxisLocation
@@ -24,8 +23,8 @@ interpolated rule counts nodes values readings = linear (locations rule (axesOf 
 
 -- "Order for a lookup: .. 10 for all axes; 11 for all axes; 12"
 unfoldable pub linearAnswer : Shape → List Float → List Float → List Float → Answer
-linearAnswer s nodes values readings = lookupFault s nodes values readings or computed (interpolated axisLocation (countsOf s) nodes values readings)
+linearAnswer s nodes values readings = lookupFault s nodes values readings then computed (interpolated axisLocation (countsOf s) nodes values readings)
 
 -- ".. 8 for LinearUniform, all axes; .."
 unfoldable pub linearUniformAnswer : Shape → List Float → List Float → List Float → Answer
-linearUniformAnswer s nodes values readings = linearUniformFault s nodes values readings or computed (interpolated uniformLocation (countsOf s) nodes values readings)
+linearUniformAnswer s nodes values readings = linearUniformFault s nodes values readings then computed (interpolated uniformLocation (countsOf s) nodes values readings)

@@ -5,14 +5,14 @@ use Prim.Native.Nat.{ℕ, _+_, _*_}
 use lib.Dec.{ltb, eqb}
 use lib.ListN.{length, getD}
 use lib.Ieee.{Float}
+use Rattle.answer.specs.Faults.{refusal}
 use Rattle.answer.specs.Answer.{refused}
 use Rattle.answer.specs.declared.Answer.{Answer}
-use Rattle.words.specs.Words.{floatAt}
+use Rattle.bytes.specs.Words.{floatAt}
 use Rattle.lines.specs.Line.{lineOf, longest}
 use Rattle.lines.specs.Stream.{Rule}
 use Rattle.layout.specs.Layout.{tabulate}
-use Rattle.shapes.specs.declared.Shape.{Shape}
-use Rattle.input.specs.Input.{recordSize}
+use Rattle.layout.specs.declared.Shape.{Shape}
 use Rattle.ninterp.specs.Tables.{nearestAnswer, stepAnswer}
 use Rattle.ninterp.specs.Linears.{linearAnswer, linearUniformAnswer}
 
@@ -27,7 +27,11 @@ kindAnswer kind s nodes values readings =
     (cond (eqb kind 1) (linearUniformAnswer s nodes values readings)
     (cond (eqb kind 2) (nearestAnswer s nodes values readings)
     (cond (eqb kind 3) (stepAnswer s nodes values readings (allOf s 0))
-    (cond (eqb kind 4) (stepAnswer s nodes values readings (allOf s 1)) (refused 9 0 0)))))
+    (cond (eqb kind 4) (stepAnswer s nodes values readings (allOf s 1)) (refused (refusal 9 0 0))))))
+
+-- "a kind byte .. and one f64 per axis"
+abbrev pub recordSize : Shape → ℕ
+recordSize s = 1 + 8 * s .axes
 
 -- "one f64 per axis"
 unfoldable pub recordReadings : Shape → List ℕ → List Float
@@ -36,8 +40,9 @@ recordReadings s rec = tabulate (s .axes) (λ a. floatAt rec (1 + 8 * a))
 -- "A short last record prints `no 3 0 2`"
 unfoldable pub recordAnswer : Shape → List Float → List Float → List ℕ → Answer
 recordAnswer s nodes values rec =
-    cond (ltb (length rec) (recordSize s)) (refused 3 0 2) (kindAnswer (getD rec 0 0) s nodes values (recordReadings s rec))
+    cond (ltb (length rec) (recordSize s)) (refused (refusal 3 0 2)) (kindAnswer (getD rec 0 0) s nodes values (recordReadings s rec))
 
--- what the program prints of the records of a table, by the laws of lines that come of records
+-- what the program prints of the records of a table, by the laws of lines that come of records (lines/specs/Stream.antt); of a short last record it prints
+-- `no 3 0 2` (`cut`)
 abbrev pub recordRule : Shape → List Float → List Float → Rule
-recordRule s nodes values = record { size = recordSize s; line = λ rec. lineOf (recordAnswer s nodes values rec); cut = lineOf (refused 3 0 2); longest = longest }
+recordRule s nodes values = record { size = recordSize s; line = λ rec. lineOf (recordAnswer s nodes values rec); cut = lineOf (refused (refusal 3 0 2)); longest = longest }

@@ -6,27 +6,30 @@ use Prim.Native.Nat.{ℕ, _≤_, _<_}
 use lib.ListN.{length, getD}
 use lib.Ieee.{Float, nan}
 use lib.Ieee.Scale.{finite}
-use Rattle.answer.specs.Answer.{answered, _or_}
+use Rattle.answer.specs.Answer.{answered, _then_}
 use Rattle.answer.specs.declared.Answer.{Answer}
-use Rattle.shapes.specs.Shape.{countsOf, size}
+use Rattle.layout.specs.Shape.{countsOf, size}
 use Rattle.layout.specs.Layout.{axesOf, table, tabulate}
-use Rattle.table.specs.Table.{Grid}
-use Rattle.shapes.specs.declared.Shape.{Shape}
-use Rattle.order.specs.Lookups.{lookupFault, stepFault}
-use Rattle.picks.specs.Picks.{nearestRule, stepRule}
+use Rattle.checks.specs.Passed.{Grid}
+use Rattle.layout.specs.declared.Shape.{Shape}
+use Rattle.orders.specs.Orders.{lookupFault, stepFault}
+use Rattle.axis.specs.Picks.{nearestRule, stepRule}
 
 -- a rule gives each axis an index, from the axis's number, its nodes and its reading: the stored value there
 unfoldable pub indices : (ℕ → List Float → Float → ℕ) → List (List Float) → List Float → List ℕ
 indices rule axes readings = tabulate (length axes) (λ a. rule a (getD axes a []) (getD readings a nan))
 
+-- "the stored value" at those indices
 unfoldable pub picked : (ℕ → List Float → Float → ℕ) → List ℕ → List Float → List Float → List Float → Float
 picked rule counts nodes values readings = table counts values (indices rule (axesOf counts nodes) readings)
 
+-- the lookup by Nearest: its checks, then the stored value at the nearest node of each axis
 unfoldable pub nearestAnswer : Shape → List Float → List Float → List Float → Answer
-nearestAnswer s nodes values readings = lookupFault s nodes values readings or answered (picked nearestRule (countsOf s) nodes values readings)
+nearestAnswer s nodes values readings = lookupFault s nodes values readings then answered (picked nearestRule (countsOf s) nodes values readings)
 
+-- the lookup by Step: its checks, then the stored value at the step index of each axis
 unfoldable pub stepAnswer : Shape → List Float → List Float → List Float → List ℕ → Answer
-stepAnswer s nodes values readings directions = stepFault s nodes values readings directions or answered (picked (stepRule directions) (countsOf s) nodes values readings)
+stepAnswer s nodes values readings directions = stepFault s nodes values readings directions then answered (picked (stepRule directions) (countsOf s) nodes values readings)
 
 -- what follows of a table and a reading passing the checks before a lookup (`lookup-judged`)
 pub record Judged (s : Shape) (nodes values readings : List Float) : Type 0 where

@@ -2,18 +2,17 @@
 ghost use mathlib.Core.Path.{_≡_};
 ghost use mathlib.Core.Bool.{true};
 ghost use Prim.Native.Nat.{_+_, _*_, _≤_};
-ghost use lib.Dec.{eqb};
+ghost use lib.Dec.{leb, eqb};
 ghost use lib.ListN.{length, getD};
-ghost use Rattle.answer.specs.Answer.{good, when, _or_};
-ghost use Rattle.shapes.specs.Shape.{countsOf};
-ghost use Rattle.lists.specs.Lists.{readingsFault};
+ghost use Rattle.answer.specs.Faults.{good, when, _or_};
+ghost use Rattle.answer.specs.Answer.{_then_};
+ghost use Rattle.layout.specs.Shape.{countsOf};
+ghost use Rattle.checks.specs.Numbers.{readingsFault, rangesFault, axesUniformFault};
 ghost use Rattle.layout.specs.Layout.{tabulate};
-ghost use Rattle.table.specs.Table.{rangesFault};
-ghost use Rattle.words.specs.Words.{floatAt};
-ghost use Rattle.spacing.specs.Uniform.{axesUniformFault};
+ghost use Rattle.bytes.specs.Words.{floatAt};
 ghost use Rattle.ninterp.specs.Tables.{Judged};
-ghost use Rattle.input.specs.Input.{recordSize};
-ghost use Rattle.ninterp.specs.Records.{kindAnswer, recordReadings, recordAnswer};
+ghost use Rattle.ninterp.specs.Records.{recordSize, kindAnswer, recordReadings, recordAnswer};
+ghost use Rattle.ninterp.specs.Kernels.{Known};
 ghost use Rattle.ninterp.specs.Kinds.{tableFault, kindFault, pickOf, kindFound};
 
 pub mod block;
@@ -21,15 +20,19 @@ pub mod block;
 use crate::interpolator::n::corners;
 use crate::interpolator::n::pick;
 use answer::Answer;
-use shapes::Shape;
+use answer::Fault;
+use checks::shapes;
+use checks::table;
+use layout::Shape;
+use orders::stages;
 
 // ---- what is judged
 
 // 1 to 7.
-pub(crate) fn table_fault(shape: Shape, nodes: &[f64], values: &[f64]) -> Answer
+pub(crate) fn whole_table_fault(shape: Shape, nodes: &[f64], values: &[f64]) -> Fault
     ensures { λ r. ⌜ r ≡ tableFault shape (now (nodes .entry)) (now (values .entry)) ⌝ }
 {
-    let fault = frames::frame_fault(shape, nodes.len(), values.len());
+    let fault = shapes::frame_fault(shape, nodes.len(), values.len());
     if fault.number != 0 {
         return fault;
     }
@@ -37,18 +40,22 @@ pub(crate) fn table_fault(shape: Shape, nodes: &[f64], values: &[f64]) -> Answer
 }
 
 // 8, of LinearUniform alone.
-fn uniform_row(kind: u8, uniform: Answer) -> Answer
+fn uniform_row(kind: u8, uniform: Fault) -> Fault
     ensures { λ r. ⌜ r ≡ when (eqb kind 1) uniform ⌝ }
 {
-    if kind == 1 { uniform } else { answer::pass() }
+    if kind == 1 {
+        uniform
+    } else {
+        answer::no_fault()
+    }
 }
 
 // 9 of an unknown kind, 1 to 7 as they were found, 8.
-fn kind_fault(kind: u8, table: Answer, uniform: Answer) -> Answer
+fn kind_fault(kind: u8, table: Fault, uniform: Fault) -> Fault
     ensures { λ r. ⌜ r ≡ kindFault kind table uniform ⌝ }
 {
     if kind > 4 {
-        return answer::refuse(9, 0, 0);
+        return answer::refusal(9, 0, 0);
     }
     if table.number != 0 {
         return table;
@@ -79,27 +86,40 @@ fn found(kind: u8, shape: Shape, nodes: &[f64], values: &[f64], point: &[f64]) -
 
 // 10; 11; and what is found.
 fn point_answer(kind: u8, shape: Shape, nodes: &[f64], values: &[f64], point: &[f64]) -> Answer
-    requires { ⌜ (good (tableFault shape (now nodes) (now values)) ≡ true) × (length (now point) ≡ shape .axes) ⌝ }
-    ensures { λ r. ⌜ r ≡ ((readingsFault (now (point .entry)) or rangesFault (countsOf shape) (now (nodes .entry)) (now (point .entry))) or kindFound kind shape (now (nodes .entry)) (now (values .entry)) (now (point .entry))) ⌝ }
+    requires { ⌜ good (tableFault shape (now nodes) (now values)) ≡ true ⌝ }
+    requires { ⌜ length (now point) ≡ shape .axes ⌝ }
+    ensures { λ r. ⌜ r ≡ ((readingsFault (now (point .entry))
+        or rangesFault (countsOf shape) (now (nodes .entry)) (now (point .entry)))
+        then kindFound kind shape (now (nodes .entry)) (now (values .entry)) (now (point .entry))) ⌝ }
 {
     let fault = stages::inside_fault(shape, nodes, point);
     if fault.number != 0 {
-        return fault;
+        return answer::refuse(fault);
     }
     found(kind, shape, nodes, values, point)
 }
 
 // ---- a record
 
-// The readings of a record, and what follows them up to four. All four are read without a loop: an array that a loop fills is copied when it is returned,
-// and the copy waits for what was just stored.
+// Whether so many bytes hold a whole record.
+pub(crate) fn is_whole(shape: Shape, len: usize) -> bool
+    ensures { λ r. ⌜ r ≡ leb (recordSize shape) len ⌝ }
+{
+    if len == 0 {
+        return false;
+    }
+    shape.axes <= (len - 1) / 8
+}
+
+// The readings of a record, and what follows them up to four. All four are read without a loop: an array that a loop fills is
+// copied when it is returned, and the copy waits for what was just stored.
 fn readings_of(rec: &[u8]) -> [f64; 4]
     ensures { λ r. ⌜ r ≡ tabulate 4 (λ a. floatAt (now (rec .entry)) (1 + 8 * a)) ⌝ }
 {
-    let first = words::float(rec, 1);
-    let second = words::float(rec, 9);
-    let third = words::float(rec, 17);
-    let fourth = words::float(rec, 25);
+    let first = bytes::float(rec, 1);
+    let second = bytes::float(rec, 9);
+    let third = bytes::float(rec, 17);
+    let fourth = bytes::float(rec, 25);
     [first, second, third, fourth]
 }
 
@@ -108,17 +128,19 @@ pub(crate) fn whole_answer(
     shape: Shape,
     nodes: &[f64],
     values: &[f64],
-    table: Answer,
-    uniform: Answer,
+    table: Fault,
+    uniform: Fault,
     rec: &[u8],
 ) -> Answer
-    requires { ⌜ (table ≡ tableFault shape (now nodes) (now values)) × ((uniform ≡ axesUniformFault (countsOf shape) (now nodes)) × (recordSize shape ≤ length (now rec))) ⌝ }
-    ensures { λ r. ⌜ r ≡ kindAnswer (getD (now (rec .entry)) 0 0) shape (now (nodes .entry)) (now (values .entry)) (recordReadings shape (now (rec .entry))) ⌝ }
+    requires { ⌜ Known shape (now nodes) (now values) table uniform ⌝ }
+    requires { ⌜ recordSize shape ≤ length (now rec) ⌝ }
+    ensures { λ r. ⌜ r ≡ kindAnswer (getD (now (rec .entry)) 0 0) shape (now (nodes .entry)) (now (values .entry))
+        (recordReadings shape (now (rec .entry))) ⌝ }
 {
     let kind = rec[0];
     let fault = kind_fault(kind, table, uniform);
     if fault.number != 0 {
-        return fault;
+        return answer::refuse(fault);
     }
     let axes = shape.axes;
     let readings = readings_of(rec);
@@ -129,10 +151,10 @@ pub(crate) fn whole_answer(
 pub fn record_answer(shape: Shape, nodes: &[f64], values: &[f64], rec: &[u8]) -> Answer
     ensures { λ r. ⌜ r ≡ recordAnswer shape (now (nodes .entry)) (now (values .entry)) (now (rec .entry)) ⌝ }
 {
-    if !input::is_whole(shape, rec.len()) {
-        return answer::refuse(3, 0, 2);
+    if !is_whole(shape, rec.len()) {
+        return answer::refuse(answer::refusal(3, 0, 2));
     }
-    let table = table_fault(shape, nodes, values);
-    let uniform = spacing::axes_uniform_fault(shape, nodes);
+    let table = whole_table_fault(shape, nodes, values);
+    let uniform = table::axes_uniform_fault(shape, nodes);
     whole_answer(shape, nodes, values, table, uniform, rec)
 }

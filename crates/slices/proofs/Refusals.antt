@@ -1,73 +1,47 @@
--- Demand 1: a refused slice has value +0.0 and leaves the output as it was; what lies beyond the shape is never touched. Assumes nothing.
+-- Demand 1: a refused slice has value +0.0 and no shape and leaves the output as it was; what lies beyond the shape is never touched. Assumes nothing.
 use mathlib.Core.Path.{_≡_}
 use mathlib.Core.Bool.{true, false}
 use mathlib.Core.List.{List}
 use Prim.Native.Nat.{ℕ}
 use lib.Ieee.{Float}
-use Rattle.answer.specs.Answer.{good}
-use Rattle.answer.specs.declared.Answer.{Answer}
+use Rattle.answer.specs.Faults.{good}
+use Rattle.answer.specs.declared.Fault.{Fault}
 use Rattle.answer.proofs.Orders as orders
-use Rattle.shapes.specs.declared.Shape.{Shape}
-use Rattle.lent.specs.Lent.{roomFault}
-use Rattle.fronts.specs.Fronts.{nearestFront, stepFront, linearFront, linearUniformFront, noAxisFault, notFirstFault}
-use Rattle.runs.specs.Runs.{resultsFault}
-use Rattle.numbers.specs.Numbers.{resultFault}
-use Rattle.blend.specs.declared.AxisLocation.{AxisLocation}
-use Rattle.axis.specs.Utils.{axisLocation}
-use Rattle.axis.specs.Locations.{uniformLocation}
-use Rattle.slices.specs.LinearSlices.{linearValues, linearRest, linearSliceFault, linearUniformSliceFault}
-use Rattle.slices.specs.Slices.{shapeWithout, pointFault, nearestSliceFault, stepSliceFault, sliceAnswer}
-use Rattle.frames.specs.None.{noShape}
-use Rattle.spacing.proofs.Bares.{bare-uniform}
-use Rattle.lent.proofs.Bares.{bare-length}
-use Rattle.shapes.proofs.Bares.{bare-frame}
-use Rattle.table.proofs.Bares.{bare-axes}
-use Rattle.values.proofs.Bares.{bare-values}
-use Rattle.lists.proofs.Bares.{bare-directions}
-use Rattle.ranges.proofs.Bares.{bare-range}
-use Rattle.numbers.proofs.Bares.{bare-reading}
-use Rattle.answer.proofs.Bares.{Bare, bare-or, bare-first, row}
+use Rattle.answer.proofs.Answers.{Quiet, quiet}
+use Rattle.layout.specs.Shape.{noShape}
+use Rattle.layout.specs.declared.Shape.{Shape}
+use Rattle.slices.specs.Slices.{shapeWithout, sliceAnswer, nearestSlice, stepSlice}
+use Rattle.slices.specs.LinearSlices.{linearSlice, linearUniformSlice}
 
-bare-point : (s : Shape) (nodes : List Float) (axis : ℕ) (p : Float) (room : ℕ) → Bare (pointFault s nodes axis p room)
-unfolding pointFault roomFault
-bare-point s nodes axis p room = bare-or _ _ (bare-reading axis p) (bare-or _ _ (bare-range axis _ p) (row _ 14 0 1))
+-- ---- of any slice, by its fault
+module _ (f : Fault) (s : Shape) (axis : ℕ) where
+  pub slice-quiet : Quiet (sliceAnswer f s axis .answer)
+  unfolding sliceAnswer
+  slice-quiet = quiet f
 
-pub nearest-slice-bare : (s : Shape) (nodes values : List Float) (axis : ℕ) (p : Float) (room : ℕ) → Bare (nearestSliceFault s nodes values axis p room)
-unfolding nearestSliceFault nearestFront noAxisFault
-nearest-slice-bare s nodes values axis p room =
-    bare-or _ _ (bare-or _ _ (bare-frame s _ _) (bare-or _ _ (row _ 15 0 0) (bare-or _ _ (bare-axes _ nodes) (bare-values values)))) (bare-point s nodes axis p room)
+  pub no-shape : good f ≡ false → sliceAnswer f s axis .shape ≡ noShape
+  unfolding sliceAnswer
+  no-shape h = orders.given-bad f (shapeWithout s axis) noShape h
 
-pub step-slice-bare : (s : Shape) (nodes values : List Float) (directions : List ℕ) (axis : ℕ) (p : Float) (room : ℕ) → Bare (stepSliceFault s nodes values directions axis p room)
-unfolding stepSliceFault stepFront noAxisFault
-step-slice-bare s nodes values directions axis p room =
-    bare-or _ _ (bare-or _ _ (bare-frame s _ _) (bare-or _ _ (bare-length 3 _ _) (bare-or _ _ (row _ 15 0 0) (bare-or _ _ (bare-axes _ nodes) (bare-or _ _ (bare-values values) (bare-directions directions)))))) (bare-point s nodes axis p room)
+  -- a slice that is made has the shape that is left
+  pub made-shape : good f ≡ true → sliceAnswer f s axis .shape ≡ shapeWithout s axis
+  unfolding sliceAnswer
+  made-shape h = orders.given-good f (shapeWithout s axis) noShape h
 
-bare-results : (values : List Float) → Bare (resultsFault values)
-unfolding resultsFault resultFault
-bare-results values = bare-first _ (λ i. row _ 11 0 i) 0 _
+-- ---- of the four
+module _ (s : Shape) (nodes values : List Float) (axis : ℕ) (p : Float) (room : ℕ) where
+  pub nearest-slice-quiet : Quiet (nearestSlice s nodes values axis p room .answer)
+  unfolding nearestSlice
+  nearest-slice-quiet = slice-quiet _ s axis
 
-bare-linear-front : (s : Shape) (nodes values : List Float) (axis : ℕ) → Bare (linearFront s nodes values axis)
-unfolding linearFront notFirstFault
-bare-linear-front s nodes values axis = bare-or _ _ (bare-frame s _ _) (bare-or _ _ (row _ 15 0 0) (bare-or _ _ (bare-axes _ nodes) (bare-values values)))
+  pub step-slice-quiet : (directions : List ℕ) → Quiet (stepSlice s nodes values directions axis p room .answer)
+  unfolding stepSlice
+  step-slice-quiet directions = slice-quiet _ s axis
 
-bare-linear-rest : (rule : List Float → Float → AxisLocation) (s : Shape) (nodes values : List Float) (axis : ℕ) (p : Float) (room : ℕ) → Bare (linearRest rule s nodes values axis p room)
-unfolding linearRest
-bare-linear-rest rule s nodes values axis p room = bare-or _ _ (bare-point s nodes axis p room) (bare-results (linearValues rule s nodes values p))
+  pub linear-slice-quiet : Quiet (linearSlice s nodes values axis p room .answer)
+  unfolding linearSlice
+  linear-slice-quiet = slice-quiet _ s axis
 
-pub linear-slice-bare : (s : Shape) (nodes values : List Float) (axis : ℕ) (p : Float) (room : ℕ) → Bare (linearSliceFault s nodes values axis p room)
-unfolding linearSliceFault
-linear-slice-bare s nodes values axis p room = bare-or _ _ (bare-linear-front s nodes values axis) (bare-linear-rest axisLocation s nodes values axis p room)
-
-pub linear-uniform-slice-bare : (s : Shape) (nodes values : List Float) (axis : ℕ) (p : Float) (room : ℕ) → Bare (linearUniformSliceFault s nodes values axis p room)
-unfolding linearUniformSliceFault linearUniformFront
-linear-uniform-slice-bare s nodes values axis p room =
-    bare-or _ _ (bare-or _ _ (bare-linear-front s nodes values axis) (bare-uniform _ nodes)) (bare-linear-rest uniformLocation s nodes values axis p room)
-
-pub no-shape : (a : Answer) (s : Shape) (axis : ℕ) → good a ≡ false → sliceAnswer a s axis .shape ≡ noShape
-unfolding sliceAnswer
-no-shape a s axis h = orders.given-bad a (shapeWithout s axis) noShape h
-
--- ---- a slice that is made has the shape that is left
-pub made-shape : (a : Answer) (s : Shape) (axis : ℕ) → good a ≡ true → sliceAnswer a s axis .shape ≡ shapeWithout s axis
-unfolding sliceAnswer
-made-shape a s axis h = orders.given-good a (shapeWithout s axis) noShape h
+  pub linear-uniform-slice-quiet : Quiet (linearUniformSlice s nodes values axis p room .answer)
+  unfolding linearUniformSlice
+  linear-uniform-slice-quiet = slice-quiet _ s axis

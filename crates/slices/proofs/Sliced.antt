@@ -1,179 +1,181 @@
 -- What the slices answer and write, put together: what is known where their checks were passed, and the two outcomes. Assumes nothing.
-use mathlib.Core.Path.{_≡_, sym, ap, ap₂, _∙_}
+use mathlib.Core.Path.{_≡_, refl, sym, ap, ap₂, _∙_, subst}
 use mathlib.Core.Bool.{true}
 use mathlib.Core.List.{List, _++_}
-use Prim.Native.Nat.{ℕ, _≤_, _<_}
+use Prim.Native.Nat.{ℕ, _<_}
 use native.Mathlib.Omega.{arith}
 use lib.ListN.{length, drop, getD}
-use lib.Ieee.{Float, nan}
-use Rattle.answer.specs.Answer.{good, _or_, filledInto}
+use lib.Ieee.{Float}
+use Rattle.answer.specs.Faults.{good, _or_, filledInto}
+use Rattle.answer.specs.Answer.{refused, fine}
+use Rattle.answer.specs.declared.Fault.{Fault}
 use Rattle.answer.specs.declared.Answer.{Answer}
 use Rattle.answer.proofs.Orders as orders
-use lib.Ieee.Scale.{finite}
-use Rattle.lent.specs.Lent.{directionFault, roomFault, lengthFault}
-use Rattle.numbers.specs.Numbers.{readingFault}
-use Rattle.lent.proofs.Rows.{direction-passed, room-passed, length-passed}
-use Rattle.fronts.proofs.Rows.{axis-many, axis-in, first-many, first-axis}
-use Rattle.numbers.proofs.Rows.{reading-finite}
-use Rattle.shapes.specs.Shape.{countsOf, size}
-use Rattle.frames.specs.None.{noShape}
-use Rattle.layout.specs.Layout.{without, axisOf}
-use Rattle.shapes.specs.Frame.{frameFault}
-use Rattle.table.specs.Table.{axesFault, Grid}
-use Rattle.values.specs.Values.{valuesFault}
-use Rattle.lists.specs.Lists.{directionsFault}
-use Rattle.ranges.specs.Ranges.{rangeFault}
-use Rattle.shapes.specs.declared.Shape.{Shape}
-use Rattle.table.proofs.Grids.{frame-shape, frame-values, grid-of}
-use Rattle.values.proofs.Rows.{values-finite}
-use Rattle.shapes.proofs.Frames.{shape-four}
-use Rattle.fronts.specs.Fronts.{nearestFront, stepFront, linearFront, linearUniformFront, noAxisFault, notFirstFault}
-use Rattle.spacing.specs.Uniform.{axesUniformFault}
-use Rattle.slices.specs.Slices.{shapeWithout, pointFault, sliceAnswer}
+use Rattle.answer.proofs.Answers.{then-stops, then-goes-on}
+use Rattle.checks.specs.Numbers.{lengthFault, axesFault, valuesFault, directionFault, directionsFault, rangeFault, roomFault, noAxisFault, notFirstFault}
+use Rattle.checks.specs.Shapes.{frameFault}
+use Rattle.checks.proofs.lent.Rows.{direction-passed, room-passed, length-passed}
+use Rattle.checks.proofs.numbers.Rows.{reading-finite}
+use Rattle.checks.proofs.table.Grids.{frame-shape, frame-values, frame-axes, grid-of}
+use Rattle.checks.proofs.values.Rows.{values-finite}
+use Rattle.checks.proofs.shapes.Frames.{shape-four}
+use Rattle.layout.specs.Shape.{countsOf, size, noShape}
+use Rattle.layout.specs.Layout.{without, sliceValues, axisOf}
+use Rattle.layout.specs.declared.Shape.{Shape}
+use Rattle.orders.specs.Orders.{nearestFront, stepFront, linearFront, linearUniformFront, pointFault}
+use Rattle.orders.proofs.before_slice.Rows.{axis-many, axis-in, first-many, first-axis}
+use Rattle.axis.specs.declared.AxisLocation.{AxisLocation}
+use Rattle.slices.specs.Slices.{shapeWithout, sliceAnswer, refusedSlice}
+use Rattle.slices.specs.LinearSlices.{linearRest}
+use Rattle.slices.specs.Ready.{Ready, Taken, Filled}
 use Rattle.slices.specs.declared.SliceAnswer.{SliceAnswer}
 
--- ---- a table that can be sliced on an axis
-pub record Sliceable (s : Shape) (nodes values : List Float) (axis : ℕ) : Type 0 where
-  pub grid : Grid (countsOf s) nodes
-  pub four : s .axes ≤ 4
-  pub within : axis < s .axes
-  pub many : 1 < s .axes
-  pub stored : length values ≡ size (countsOf s)
+-- ---- what each of the four fronts has passed
+pub record Fronted (s : Shape) (nodes values : List Float) : Type 0 where
+  pub frame : good (frameFault s (length nodes) (length values)) ≡ true
+  pub axes : good (axesFault (countsOf s) nodes) ≡ true
+  pub stored : good (valuesFault values) ≡ true
 
--- .. by the two linears
-pub record FirstSliceable (s : Shape) (nodes values : List Float) (axis : ℕ) : Type 0 where
-  pub grid : Grid (countsOf s) nodes
-  pub four : s .axes ≤ 4
-  pub first : axis ≡ 0
-  pub many : 1 < s .axes
-  pub stored : length values ≡ size (countsOf s)
-  pub finites : (t : ℕ) → t < length values → finite (getD values t nan) ≡ true
-
-module _ (s : Shape) (four : length (s .counts) ≡ 4) (nodes values : List Float) (axis : ℕ) where
-  abbrev frame : Answer
+module _ (s : Shape) (nodes values : List Float) where
+  abbrev frame : Fault
   frame = frameFault s (length nodes) (length values)
 
-  abbrev missing : Answer
-  missing = noAxisFault (s .axes) axis
-
-  abbrev axes : Answer
+  abbrev axes : Fault
   axes = axesFault (countsOf s) nodes
 
-  sliceable : good frame ≡ true → good missing ≡ true → good axes ≡ true → Sliceable s nodes values axis
-  sliceable f m x = record {
-    grid = grid-of s four nodes values f x;
-    four = shape-four s (frame-shape s four nodes values f);
-    within = axis-in (s .axes) axis m;
-    many = axis-many (s .axes) axis m;
-    stored = frame-values s four nodes values f;
+  fronted : good (frameFault s (length nodes) (length values)) ≡ true → good (axesFault (countsOf s) nodes or valuesFault values) ≡ true → Fronted s nodes values
+  fronted f h = record { frame = f; axes = orders.first-passed axes (valuesFault values) h; stored = orders.second-passed axes (valuesFault values) h }
+
+  ready : (axis : ℕ) → Fronted s nodes values → axis < s .axes → 1 < s .axes → Ready s nodes values axis
+  ready axis f within many = record {
+    grid = grid-of s nodes values (f .frame) (f .axes);
+    four = shape-four s (frame-shape s nodes values (f .frame));
+    count = frame-axes s nodes values (f .frame);
+    within = within;
+    many = many;
+    stored = frame-values s nodes values (f .frame);
+    finites = values-finite values (f .stored);
   }
 
-  pub nearest-sliceable : good (nearestFront s nodes values axis) ≡ true → Sliceable s nodes values axis
-  unfolding nearestFront
-  nearest-sliceable h =
-      let h1 : good (missing or axes or valuesFault values) ≡ true = orders.second-passed frame (missing or axes or valuesFault values) h in
-      let h2 : good (axes or valuesFault values) ≡ true = orders.second-passed missing (axes or valuesFault values) h1 in
-      sliceable (orders.first-passed frame (missing or axes or valuesFault values) h) (orders.first-passed missing (axes or valuesFault values) h1) (orders.first-passed axes (valuesFault values) h2)
+  module _ (axis : ℕ) where
+    -- an axis that is there
+    ready-there : Fronted s nodes values → good (noAxisFault (s .axes) axis) ≡ true → Ready s nodes values axis
+    ready-there f h = ready axis f (axis-in (s .axes) axis h) (axis-many (s .axes) axis h)
 
-  -- the two linears, on their first axis
-  pub linear-sliceable : good (linearFront s nodes values axis) ≡ true → FirstSliceable s nodes values axis
-  unfolding linearFront
-  linear-sliceable h =
-      let f : good frame ≡ true = orders.first-passed frame (notFirstFault (s .axes) axis or axes or valuesFault values) h in
-      let h1 : good (notFirstFault (s .axes) axis or axes or valuesFault values) ≡ true = orders.second-passed frame (notFirstFault (s .axes) axis or axes or valuesFault values) h in
-      let n : good (notFirstFault (s .axes) axis) ≡ true = orders.first-passed (notFirstFault (s .axes) axis) (axes or valuesFault values) h1 in
-      let h2 : good (axes or valuesFault values) ≡ true = orders.second-passed (notFirstFault (s .axes) axis) (axes or valuesFault values) h1 in
-      record {
-        grid = grid-of s four nodes values f (orders.first-passed axes (valuesFault values) h2);
-        four = shape-four s (frame-shape s four nodes values f);
-        first = first-axis (s .axes) axis n;
-        many = first-many (s .axes) axis n;
-        stored = frame-values s four nodes values f;
-        finites = values-finite values (orders.second-passed axes (valuesFault values) h2);
-      }
+    -- ---- Nearest
+    module _ (h : good (nearestFront s nodes values axis) ≡ true) where
+      nearest-rest : good (noAxisFault (s .axes) axis or axes or valuesFault values) ≡ true
+      unfolding nearestFront
+      nearest-rest = orders.second-passed _ _ h
 
-  pub linear-uniform-sliceable : good (linearUniformFront s nodes values axis) ≡ true → FirstSliceable s nodes values axis
-  unfolding linearUniformFront
-  linear-uniform-sliceable h = linear-sliceable (orders.first-passed (linearFront s nodes values axis) (axesUniformFault (countsOf s) nodes) h)
+      pub nearest-fronted : Fronted s nodes values
+      unfolding nearestFront
+      nearest-fronted = fronted (orders.first-passed _ _ h) (orders.second-passed _ _ nearest-rest)
 
-  module _ (directions : List ℕ) (h : good (stepFront s nodes values directions axis) ≡ true) where
-    abbrev lent : Answer
-    lent = lengthFault 3 (s .axes) (length directions)
+      pub nearest-ready : Ready s nodes values axis
+      nearest-ready = ready-there nearest-fronted (orders.first-passed _ _ nearest-rest)
 
-    abbrev rest : Answer
-    rest = axes or valuesFault values or directionsFault directions
+    -- ---- Step
+    module _ (directions : List ℕ) (h : good (stepFront s nodes values directions axis) ≡ true) where
+      step-rest : good (lengthFault 3 (s .axes) (length directions) or noAxisFault (s .axes) axis or axes or valuesFault values or directionsFault directions) ≡ true
+      unfolding stepFront
+      step-rest = orders.second-passed _ _ h
 
-    h1 : good (lent or missing or rest) ≡ true
-    unfolding stepFront
-    h1 = orders.second-passed frame (lent or missing or rest) h
+      past-lent : good (noAxisFault (s .axes) axis or axes or valuesFault values or directionsFault directions) ≡ true
+      past-lent = orders.second-passed _ _ step-rest
 
-    h2 : good (missing or rest) ≡ true
-    h2 = orders.second-passed lent (missing or rest) h1
+      past-axes : good (valuesFault values or directionsFault directions) ≡ true
+      past-axes = orders.second-passed axes _ (orders.second-passed _ _ past-lent)
 
-    h3 : good rest ≡ true
-    h3 = orders.second-passed missing rest h2
+      pub step-fronted : Fronted s nodes values
+      unfolding stepFront
+      step-fronted = record { frame = orders.first-passed _ _ h; axes = orders.first-passed axes _ (orders.second-passed _ _ past-lent); stored = orders.first-passed _ _ past-axes }
 
-    pub step-sliceable : Sliceable s nodes values axis
-    unfolding stepFront
-    step-sliceable =
-        sliceable (orders.first-passed frame (lent or missing or rest) h) (orders.first-passed missing rest h2) (orders.first-passed axes (valuesFault values or directionsFault directions) h3)
+      pub step-ready : Ready s nodes values axis
+      step-ready = ready-there step-fronted (orders.first-passed _ _ past-lent)
 
-    pub step-axis-lent : length directions ≡ s .axes
-    step-axis-lent = length-passed 3 (s .axes) (length directions) (orders.first-passed lent (missing or rest) h1)
+      pub step-lent : length directions ≡ s .axes
+      step-lent = length-passed 3 (s .axes) (length directions) (orders.first-passed _ _ step-rest)
 
-    pub step-axis-direction : getD directions axis 0 < 2
-    unfolding directionsFault
-    step-axis-direction =
-        let k : axis < s .axes = axis-in (s .axes) axis (orders.first-passed missing rest h2) in
-        let d : good (directionsFault directions) ≡ true = orders.second-passed (valuesFault values) (directionsFault directions) (orders.second-passed axes (valuesFault values or directionsFault directions) h3) in
-        direction-passed axis (getD directions axis 0) (orders.all-passed (λ b. directionFault b (getD directions b 0)) 0 (length directions) d axis (omega arith) (omega (arith, step-axis-lent)))
+      pub step-directions : (a : ℕ) → a < length directions → getD directions a 0 < 2
+      unfolding directionsFault
+      step-directions a l =
+          direction-passed a (getD directions a 0)
+          (orders.all-passed (λ b. directionFault b (getD directions b 0)) 0 (length directions) (orders.second-passed (valuesFault values) (directionsFault directions) past-axes) a (omega arith) (omega arith))
 
--- ---- the two outcomes
-module _ (s : Shape) (axis : ℕ) (r a : Answer) (e : r ≡ a) where
-  pub slice-refused : (r .number ≡ 0 → ⊥) → (z : Shape) → z ≡ noShape → _≡_ {A = SliceAnswer} (record { answer = r; shape = z }) (sliceAnswer a s axis)
-  unfolding sliceAnswer
-  slice-refused h z q = ap₂ (λ (b : Answer) (x : Shape). record { answer = b; shape = x }) e (q ∙ orders.given-refused r a e (shapeWithout s axis) noShape h)
+    -- ---- the two linears, on their first axis
+    module _ (h : good (linearFront s nodes values axis) ≡ true) where
+      linear-rest : good (notFirstFault (s .axes) axis or axes or valuesFault values) ≡ true
+      unfolding linearFront
+      linear-rest = orders.second-passed _ _ h
 
-  pub slice-made : r .number ≡ 0 → (z : Shape) → z ≡ shapeWithout s axis → _≡_ {A = SliceAnswer} (record { answer = r; shape = z }) (sliceAnswer a s axis)
-  unfolding sliceAnswer
-  slice-made h z q = ap₂ (λ (b : Answer) (x : Shape). record { answer = b; shape = x }) e (orders.given-kept r a e (shapeWithout s axis) noShape z h q)
+      pub linear-fronted : Fronted s nodes values
+      unfolding linearFront
+      linear-fronted = fronted (orders.first-passed _ _ h) (orders.second-passed _ _ linear-rest)
 
-  module _ (values out : List Float) where
-    pub out-kept : (r .number ≡ 0 → ⊥) → out ≡ filledInto a values out
-    unfolding filledInto
-    out-kept h = orders.given-refused r a e (values ++ drop (length values) out) out h
+      pub linear-first : axis ≡ 0
+      linear-first = first-axis (s .axes) axis (orders.first-passed _ _ linear-rest)
 
-    pub out-written : (n : ℕ) → n ≡ length values → (after : List Float) → r .number ≡ 0 → after ≡ values ++ drop n out → after ≡ filledInto a values out
-    unfolding filledInto
-    out-written n l after h q = orders.given-kept r a e (values ++ drop (length values) out) out after h (q ∙ ap (λ (k : ℕ). values ++ drop k out) l)
+      pub linear-ready : Ready s nodes values 0
+      linear-ready = let m : 1 < s .axes = first-many (s .axes) axis (orders.first-passed _ _ linear-rest) in ready 0 linear-fronted (omega arith) m
 
--- ---- a front that was passed, or not, before the rest of the checks
-module _ (s : Shape) (axis : ℕ) (r front back : Answer) (e : r ≡ front) where
-  pub front-passed : r .number ≡ 0 → back ≡ (front or back)
-  front-passed h = sym (orders.or-good front back (orders.passes r front e h))
-
-  pub front-refused : (r .number ≡ 0 → ⊥) → r ≡ (front or back)
-  front-refused h = orders.or-stops r front e back h
+    pub uniform-linear : good (linearUniformFront s nodes values axis) ≡ true → good (linearFront s nodes values axis) ≡ true
+    unfolding linearUniformFront
+    uniform-linear h = orders.first-passed _ _ h
 
 -- ---- what the one reading and the room are, where they were passed
 module _ (s : Shape) (nodes : List Float) (axis : ℕ) (p : Float) (room : ℕ) (h : good (pointFault s nodes axis p room) ≡ true) where
-  abbrev reading : Answer
-  reading = readingFault axis p
-
-  abbrev range : Answer
-  range = rangeFault axis (axisOf s nodes axis) p
-
-  abbrev wanted : Answer
-  wanted = roomFault 1 (size (without axis (countsOf s))) room
-
-  pub point-finite : finite p ≡ true
+  past-reading : good (rangeFault axis (axisOf s nodes axis) p or roomFault 1 (size (without axis (countsOf s))) room) ≡ true
   unfolding pointFault
-  point-finite = reading-finite axis p (orders.first-passed reading (range or wanted) h)
+  past-reading = orders.second-passed _ _ h
 
-  pub point-range : good range ≡ true
+  pub point-taken : Taken s axis p room
   unfolding pointFault
-  point-range = orders.first-passed range wanted (orders.second-passed reading (range or wanted) h)
+  point-taken = record {
+    finite-point = reading-finite axis p (orders.first-passed _ _ h);
+    enough = room-passed 1 (size (without axis (countsOf s))) room (orders.second-passed _ _ past-reading);
+  }
 
-  pub point-room : size (without axis (countsOf s)) ≤ room
-  unfolding pointFault
-  point-room = room-passed 1 (size (without axis (countsOf s))) room (orders.second-passed range wanted (orders.second-passed reading (range or wanted) h))
+  pub point-range : good (rangeFault axis (axisOf s nodes axis) p) ≡ true
+  point-range = orders.first-passed _ _ past-reading
+
+-- ---- an output, where what was judged is r
+module _ (r f : Fault) (e : r ≡ f) (xs out : List Float) where
+  pub kept : (r .number ≡ 0 → ⊥) → Filled f xs out r out
+  unfolding filledInto
+  kept h = record { judged = e; output = orders.given-refused r f e (xs ++ drop (length xs) out) out h }
+
+  pub written : r .number ≡ 0 → (n : ℕ) → n ≡ length xs → (after : List Float) → after ≡ xs ++ drop n out → Filled f xs out r after
+  unfolding filledInto
+  written h n l after q = record { judged = e; output = orders.given-kept r f e (xs ++ drop (length xs) out) out after h (q ∙ ap (λ (k : ℕ). xs ++ drop k out) l) }
+
+-- .. before the rest of the checks, which judge and write
+module _ (r f : Fault) (e : r ≡ f) (rest : Fault) (xs out : List Float) where
+  pub or-kept : (r .number ≡ 0 → ⊥) → Filled (f or rest) xs out r out
+  or-kept h = kept r (f or rest) (orders.or-stops r f e rest h) xs out h
+
+  pub or-filled : r .number ≡ 0 → {q : Fault} {after : List Float} → Filled rest xs out q after → Filled (f or rest) xs out q after
+  or-filled h {q = q} w = let same = orders.or-goes-on r f e q rest h (w .judged) in record { judged = same; output = w .output ∙ ap (λ (g : Fault). filledInto g xs out) (orders.or-goes-on r f e rest rest h refl) }
+
+-- .. at the index that the rule takes, and on the axis that was asked for
+pub at-index : {f q : Fault} {out after : List Float} (axis i j : ℕ) (counts : List ℕ) (values : List Float) → i ≡ j → Filled f (sliceValues axis i counts values) out q after → Filled f (sliceValues axis j counts values) out q after
+at-index {f = f} {q = q} {out = out} {after = after} axis i j counts values e w = subst (λ (k : ℕ). Filled f (sliceValues axis k counts values) out q after) e w
+
+pub on-axis : {q : Fault} {xs out after : List Float} (rule : List Float → Float → AxisLocation) (s : Shape) (nodes values : List Float) (axis : ℕ) (p : Float) (room : ℕ) → axis ≡ 0
+    → Filled (linearRest rule s nodes values 0 p room) xs out q after → Filled (linearRest rule s nodes values axis p room) xs out q after
+on-axis {q = q} {xs = xs} {out = out} {after = after} rule s nodes values axis p room e w = subst (λ (k : ℕ). Filled (linearRest rule s nodes values k p room) xs out q after) (sym e) w
+
+-- ---- the answer of a slice, of what was judged
+module _ (s : Shape) (axis : ℕ) (f : Fault) where
+  pub answer-refused : (f .number ≡ 0 → ⊥) → (a : SliceAnswer) → a ≡ refusedSlice f → a ≡ sliceAnswer f s axis
+  unfolding sliceAnswer refusedSlice
+  answer-refused h a e =
+      e ∙ ap₂ (λ (b : Answer) (z : Shape). record { answer = b; shape = z }) (then-stops f f refl (refused f) fine h refl) (orders.given-refused f f refl (shapeWithout s axis) noShape h)
+
+  pub answer-made : f .number ≡ 0 → (a : Answer) (z : Shape) → a ≡ fine → z ≡ shapeWithout s axis → _≡_ {A = SliceAnswer} (record { answer = a; shape = z }) (sliceAnswer f s axis)
+  unfolding sliceAnswer
+  answer-made h a z p q = ap₂ (λ (b : Answer) (x : Shape). record { answer = b; shape = x }) (then-goes-on f f refl a fine h p) (orders.given-kept f f refl (shapeWithout s axis) noShape z h q)
+
+  -- .. and the output with it
+  pub sliced : {r : Fault} {xs out after : List Float} → Filled f xs out r after → (a : SliceAnswer) → a ≡ sliceAnswer r s axis → (a ≡ sliceAnswer f s axis) × (after ≡ filledInto f xs out)
+  sliced w a e = (e ∙ ap (λ (g : Fault). sliceAnswer g s axis) (w .judged), w .output)

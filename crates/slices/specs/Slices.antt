@@ -3,50 +3,40 @@ use mathlib.Core.List.{List}
 use Prim.Native.Nat.{ℕ, _-_}
 use lib.ListN.{length, getD}
 use lib.Ieee.{Float}
-use Rattle.answer.specs.Answer.{_or_, given, filledInto}
-use Rattle.answer.specs.declared.Answer.{Answer}
-use Rattle.numbers.specs.Numbers.{readingFault}
-use Rattle.lent.specs.Lent.{roomFault}
-use Rattle.shapes.specs.Shape.{countsOf, size}
-use Rattle.frames.specs.None.{noShape}
+use Rattle.answer.specs.Faults.{given, filledInto}
+use Rattle.answer.specs.Answer.{refused, fine, _then_}
+use Rattle.answer.specs.declared.Fault.{Fault}
+use Rattle.layout.specs.Shape.{countsOf, noShape}
 use Rattle.layout.specs.Layout.{tabulate, without, sliceValues, axisOf}
-use Rattle.ranges.specs.Ranges.{rangeFault}
-use Rattle.shapes.specs.declared.Shape.{Shape}
-use Rattle.fronts.specs.Fronts.{nearestFront, stepFront}
-use Rattle.picks.specs.Picks.{nearestRule, stepRule}
+use Rattle.layout.specs.declared.Shape.{Shape}
+use Rattle.orders.specs.Orders.{nearestSliceFault, stepSliceFault}
+use Rattle.axis.specs.Picks.{nearestRule, stepRule}
 use Rattle.slices.specs.declared.SliceAnswer.{SliceAnswer}
 
 -- "the other axes .. stay, in their order": the shape of what is left, its unused counts zero
 unfoldable pub shapeWithout : Shape → ℕ → Shape
 shapeWithout s axis = record { axes = s .axes - 1; counts = tabulate 4 (λ a. getD (without axis (countsOf s)) a 0) }
 
--- "applies 10 and 11 only to its one reading", then 15
-unfoldable pub pointFault : Shape → List Float → ℕ → Float → ℕ → Answer
-pointFault s nodes axis p room =
-    readingFault axis p
-    or rangeFault axis (axisOf s nodes axis) p
-    or roomFault 1 (size (without axis (countsOf s))) room
+-- what a slice answers: its fault, or success and the new shape; "any .. shape it would give is zero" on a refusal
+unfoldable pub sliceAnswer : Fault → Shape → ℕ → SliceAnswer
+sliceAnswer f s axis = record { answer = f then fine; shape = given f (shapeWithout s axis) noShape }
 
-unfoldable pub nearestSliceFault : Shape → List Float → List Float → ℕ → Float → ℕ → Answer
-nearestSliceFault s nodes values axis p room = nearestFront s nodes values axis or pointFault s nodes axis p room
-
-unfoldable pub stepSliceFault : Shape → List Float → List Float → List ℕ → ℕ → Float → ℕ → Answer
-stepSliceFault s nodes values directions axis p room = stepFront s nodes values directions axis or pointFault s nodes axis p room
-
--- the answer with the new shape
-unfoldable pub sliceAnswer : Answer → Shape → ℕ → SliceAnswer
-sliceAnswer a s axis = record { answer = a; shape = given a (shapeWithout s axis) noShape }
+-- the same of a fault that is known to be one
+unfoldable pub refusedSlice : Fault → SliceAnswer
+refusedSlice f = record { answer = refused f; shape = noShape }
 
 -- "Each of its values is what the same rule gives along that axis alone."
 unfoldable pub ruleSlice : (ℕ → List Float → Float → ℕ) → Shape → List Float → List Float → ℕ → Float → List Float
 ruleSlice rule s nodes values axis p = sliceValues axis (rule axis (axisOf s nodes axis) p) (countsOf s) values
 
+-- what the slice by Nearest answers, given so much room, and what its output holds afterwards
 unfoldable pub nearestSlice : Shape → List Float → List Float → ℕ → Float → ℕ → SliceAnswer
 nearestSlice s nodes values axis p room = sliceAnswer (nearestSliceFault s nodes values axis p room) s axis
 
 unfoldable pub nearestSliced : Shape → List Float → List Float → ℕ → Float → List Float → List Float
 nearestSliced s nodes values axis p out = filledInto (nearestSliceFault s nodes values axis p (length out)) (ruleSlice nearestRule s nodes values axis p) out
 
+-- the same by Step
 unfoldable pub stepSlice : Shape → List Float → List Float → List ℕ → ℕ → Float → ℕ → SliceAnswer
 stepSlice s nodes values directions axis p room = sliceAnswer (stepSliceFault s nodes values directions axis p room) s axis
 

@@ -4,12 +4,16 @@ ghost use mathlib.Core.Bool.{cond};
 ghost use Prim.Native.Nat.{ℕ, suc, _+_, _<_, _≤_};
 ghost use lib.Dec.{ltb};
 ghost use lib.ListN.{take, drop, getD};
-ghost use Rattle.shapes.specs.Shape.{countsOf, size, total};
+ghost use Rattle.layout.specs.Shape.{countsOf, size, total};
 ghost use Rattle.layout.specs.Layout.{without};
-ghost use Rattle.table.specs.Table.{Grid};
-ghost use Rattle.slices.specs.Slices.{shapeWithout, pointFault};
-use answer::Answer;
-use shapes::Shape;
+ghost use Rattle.slices.specs.Slices.{shapeWithout};
+ghost use Rattle.slices.specs.Ready.{Ready};
+ghost use Rattle.orders.specs.Orders.{pointFault};
+use answer::Fault;
+use checks::lent;
+use checks::numbers;
+use checks::ranges;
+use layout::Shape;
 
 // The number that axis a of what is left has in the whole.
 fn axis_past(axis: usize, a: usize) -> usize
@@ -21,7 +25,8 @@ fn axis_past(axis: usize, a: usize) -> usize
 
 // A count of what is left, 0 past the last.
 fn count_without(shape: Shape, axis: usize, a: usize) -> usize
-    requires { ⌜ (shape .axes ≤ 4) × (a < 4) ⌝ }
+    requires { ⌜ shape .axes ≤ 4 ⌝ }
+    requires { ⌜ a < 4 ⌝ }
     ensures { λ r. ⌜ r ≡ getD (without axis (countsOf shape)) a 0 ⌝ }
 {
     let counts = shape.counts;
@@ -29,8 +34,10 @@ fn count_without(shape: Shape, axis: usize, a: usize) -> usize
     if b < shape.axes { counts[b] } else { 0 }
 }
 
+// The shape that is left.
 pub(crate) fn shape_without(shape: Shape, axis: usize) -> Shape
-    requires { ⌜ (1 ≤ shape .axes) × (shape .axes ≤ 4) ⌝ }
+    requires { ⌜ 1 ≤ shape .axes ⌝ }
+    requires { ⌜ shape .axes ≤ 4 ⌝ }
     ensures { λ r. ⌜ r ≡ shapeWithout shape axis ⌝ }
 {
     let a = count_without(shape, axis, 0);
@@ -45,8 +52,10 @@ pub(crate) fn shape_without(shape: Shape, axis: usize) -> Shape
 
 // How many nodes the axes before one have.
 pub(crate) fn axis_start(counts: [usize; 4], axis: usize) -> usize
-    requires { ⌜ (axis ≤ 4) × ((a : ℕ) → a < axis → getD counts a 0 ≤ 64) ⌝ }
-    ensures { λ r. ⌜ (r ≡ total (take axis counts)) × (r ≤ 256) ⌝ }
+    requires { ⌜ axis ≤ 4 ⌝ }
+    requires { ⌜ ((a : ℕ) → a < axis → getD counts a 0 ≤ 64) ⌝ }
+    ensures { λ r. ⌜ r ≡ total (take axis counts) ⌝ }
+    ensures { λ r. ⌜ r ≤ 256 ⌝ }
 {
     let mut sum: usize = 0;
     let mut a = axis;
@@ -59,7 +68,9 @@ pub(crate) fn axis_start(counts: [usize; 4], axis: usize) -> usize
 
 // How many values the axes after one have.
 pub(crate) fn stride(counts: [usize; 4], axes: usize, axis: usize) -> usize
-    requires { ⌜ (axes ≤ 4) × ((axis < axes) × ((a : ℕ) → a < axes → getD counts a 0 ≤ 64)) ⌝ }
+    requires { ⌜ axes ≤ 4 ⌝ }
+    requires { ⌜ axis < axes ⌝ }
+    requires { ⌜ ((a : ℕ) → a < axes → getD counts a 0 ≤ 64) ⌝ }
     ensures { λ r. ⌜ r ≡ size (drop (suc axis) (take axes counts)) ⌝ }
 {
     let mut product: usize = 1;
@@ -75,12 +86,12 @@ pub(crate) fn stride(counts: [usize; 4], axes: usize, axis: usize) -> usize
 pub(crate) fn point_fault(
     shape: Shape,
     nodes: &[f64],
-    values: usize,
+    values: &[f64],
     axis: usize,
     point: f64,
     room: usize,
-) -> Answer
-    requires { ⌜ (Grid (countsOf shape) (now nodes) × ((shape .axes ≤ 4) × (axis < shape .axes))) × (values ≡ size (countsOf shape)) ⌝ }
+) -> Fault
+    requires { ⌜ Ready shape (now nodes) (now values) axis ⌝ }
     ensures { λ r. ⌜ r ≡ pointFault shape (now (nodes .entry)) axis point room ⌝ }
 {
     let fault = numbers::reading_fault(axis, point);
@@ -95,5 +106,5 @@ pub(crate) fn point_fault(
     if fault.number != 0 {
         return fault;
     }
-    lent::room_fault(1, values / n, room)
+    lent::room_fault(1, values.len() / n, room)
 }

@@ -2,14 +2,12 @@
 ghost use mathlib.Core.Path.{_≡_};
 ghost use mathlib.Core.Bool.{cond};
 ghost use mathlib.Core.List.{_++_};
-ghost use Prim.Native.Nat.{ℕ, _+_, _*_, _/_, _%_, _<_, _≤_};
+ghost use Prim.Native.Nat.{_+_, _<_, _≤_};
 ghost use lib.Dec.{eqb};
-ghost use lib.ListN.{length, take, drop, getD};
-ghost use lib.Ieee.{nan};
-ghost use Rattle.layout.specs.Layout.{tabulate};
-ghost use Rattle.answer.specs.Answer.{filledInto};
-ghost use Rattle.runs.specs.Runs.{blends, resultsFault};
-use answer::Answer;
+ghost use lib.ListN.{length, drop};
+ghost use Rattle.slices.specs.Ready.{Results, Runs, Neighbours, runValues, blendedRuns};
+use answer::Fault;
+use blend::runs;
 
 // The place in a run after place j: the first of the next run after the last.
 fn next_in_run(j: usize, inner: usize) -> usize
@@ -21,7 +19,9 @@ fn next_in_run(j: usize, inner: usize) -> usize
 
 // Where the value after place j of a run stands, runs lying `skip` values apart.
 fn next_from(from: usize, j: usize, inner: usize, skip: usize) -> usize
-    requires { ⌜ (j < inner) × ((from ≤ 1000000) × (skip ≤ 1000000)) ⌝ }
+    requires { ⌜ j < inner ⌝ }
+    requires { ⌜ from ≤ 1000000 ⌝ }
+    requires { ⌜ skip ≤ 1000000 ⌝ }
     ensures { λ r. ⌜ r ≡ cond (eqb (j + 1) inner) (from + 1 + skip) (from + 1) ⌝ }
 {
     if j + 1 == inner {
@@ -33,9 +33,8 @@ fn next_from(from: usize, j: usize, inner: usize, skip: usize) -> usize
 
 // Writes the values at node i of an axis with n nodes, in runs of `inner` that lie n runs apart.
 pub(crate) fn fill(values: &[f64], n: usize, inner: usize, i: usize, count: usize, out: &mut [f64])
-    requires { ⌜ ((0 < inner) × ((i < n) × (n ≤ 64))) × ((inner ≤ 4096) × ((length (now values) ≤ 4096) × (count ≤ length (now out)))) ⌝ }
-    requires { ⌜ ((t : ℕ) → t < count → (t / inner * n + i) * inner + t % inner < length (now values)) ⌝ }
-    ensures { λ _. ⌜ now (out .exit) ≡ tabulate count (λ t. getD (now (values .entry)) ((t / inner * n + i) * inner + t % inner) nan) ++ drop count (now (out .entry)) ⌝ }
+    requires { ⌜ Runs (now values) n inner i count (length (now out)) ⌝ }
+    ensures { λ _. ⌜ now (out .exit) ≡ runValues (now (values .entry)) n inner i count ++ drop count (now (out .entry)) ⌝ }
 {
     let skip = (n - 1) * inner;
     let mut from = i * inner;
@@ -56,17 +55,19 @@ pub(crate) fn blend_runs(
     lower: usize,
     frac: f64,
     out: &mut [f64],
-) -> Answer
-    requires { ⌜ (lower * rest + rest + rest ≤ length (now values)) × ((length (now values) ≤ 4096) × (rest ≤ length (now out))) ⌝ }
-    ensures { λ r. ⌜ (r ≡ resultsFault (blends frac (take rest (drop (lower * rest) (now (values .entry)))) (take rest (drop (lower * rest + rest) (now (values .entry)))))) × (now (out .exit) ≡ filledInto (resultsFault (blends frac (take rest (drop (lower * rest) (now (values .entry)))) (take rest (drop (lower * rest + rest) (now (values .entry)))))) (blends frac (take rest (drop (lower * rest) (now (values .entry)))) (take rest (drop (lower * rest + rest) (now (values .entry))))) (now (out .entry))) ⌝ }
+) -> Fault
+    requires { ⌜ Neighbours (now values) lower rest (length (now out)) ⌝ }
+    ensures { λ r. ⌜ Results (blendedRuns frac lower rest (now (values .entry))) (now (out .entry)) r (now (out .exit)) ⌝ }
 {
     let start = lower * rest;
     let middle = start + rest;
     let end = middle + rest;
-    let fault = runs::blend_fault(&values[start..middle], &values[middle..end], frac);
+    let low = &values[start..middle];
+    let high = &values[middle..end];
+    let fault = runs::blend_fault(low, high, frac);
     if fault.number != 0 {
         return fault;
     }
-    runs::blend_into(&values[start..middle], &values[middle..end], frac, out);
+    runs::blend_into(low, high, frac, out);
     fault
 }

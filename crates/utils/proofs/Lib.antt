@@ -1,4 +1,3 @@
 pub mod Primitives
-pub mod Laws
 pub mod Refusals
 pub mod Unique

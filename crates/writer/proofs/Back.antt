@@ -11,8 +11,8 @@ use lib.Ieee.{Float, binary64, ofBits, toBits, fits}
 use lib.Ieee.Bits.{ofBits-toBits, toBits-lt, ofBits-fits}
 use lib.Ieee.Fits.{nan-fits}
 use Rattle.binary64.proofs.Held.{Held}
-use Rattle.words.specs.Words.{ofBytes, toBytes, wordAt, floatAt}
-use Rattle.words.proofs.Bytes.{length-bytes, bytes-back}
+use Rattle.bytes.specs.Words.{ofBytes, toBytes, wordAt, floatAt}
+use Rattle.bytes.proofs.Bytes.{length-bytes, bytes-back}
 use Rattle.image.specs.Image.{floatsAt}
 use Rattle.writer.specs.Made.{fieldBytes, floatBytes}
 

@@ -4,9 +4,9 @@ use mathlib.Core.Bool.{false, true}
 use mathlib.Core.List.{[], _∷_}
 use lib.IntN.{pos, negsuc}
 use lib.Ieee.{fin, toBits}
-use Rattle.shapes.specs.Shape.{size, total}
-use Rattle.shapes.specs.declared.Shape.{Shape}
-use Rattle.words.specs.Words.{toBytes}
+use Rattle.layout.specs.Shape.{size, total}
+use Rattle.layout.specs.declared.Shape.{Shape}
+use Rattle.bytes.specs.Words.{toBytes}
 use Rattle.image.proofs.Examples.{img}
 use Rattle.writer.specs.Made.{axisAt, valuesAt, imageLength, countIn, offsetIn, floatBytes, imageOf}
 

@@ -8,12 +8,12 @@ use lib.ListN.{length, take, getD, length-take, List·getD-eq-default}
 use borrow.Author.Tests.{ltb-true, ltb-false}
 use lib.Dec.{ltb}
 use lib.Seq.{getD-take, take-all, ext-getD}
-use Rattle.answer.specs.Answer.{good}
-use Rattle.shapes.specs.Shape.{countsOf, size, total}
+use Rattle.answer.specs.Faults.{good}
+use Rattle.layout.specs.Shape.{countsOf, size, total}
 use Rattle.layout.specs.Layout.{tabulate}
-use Rattle.shapes.specs.Frame.{shapeFault}
-use Rattle.shapes.specs.declared.Shape.{Shape}
-use Rattle.shapes.proofs.Frames.{shape-four, shape-few, shape-size}
+use Rattle.checks.specs.Shapes.{shapeFault}
+use Rattle.layout.specs.declared.Shape.{Shape}
+use Rattle.checks.proofs.shapes.Frames.{shape-four, shape-few, shape-size}
 use Rattle.layout.proofs.Layouts.{getD-tabulate, length-tabulate}
 use Rattle.image.proofs.Floats.{total-small}
 use Rattle.writer.specs.Made.{axisAt, valuesAt, imageLength, countIn, offsetIn, headerFields}

@@ -6,10 +6,10 @@ use native.Mathlib.Omega.{arith}
 use lib.ListN.{length, length-append}
 use lib.Seq.{sets}
 use lib.Ieee.{Float, binary64, toBits}
-use Rattle.shapes.specs.Shape.{countsOf, size, total}
-use Rattle.shapes.specs.declared.Shape.{Shape}
-use Rattle.words.specs.Words.{toBytes}
-use Rattle.words.proofs.Bytes.{length-bytes}
+use Rattle.layout.specs.Shape.{countsOf, size, total}
+use Rattle.layout.specs.declared.Shape.{Shape}
+use Rattle.bytes.specs.Words.{toBytes}
+use Rattle.bytes.proofs.Bytes.{length-bytes}
 use Rattle.image.proofs.Floats.{sets-append}
 use Rattle.writer.specs.Made.{valuesAt, imageLength, headerFields, fieldBytes, floatBytes, imageOf}
 

@@ -9,17 +9,15 @@ use lib.Dec.{ltb}
 use lib.ListN.{List·getD-eq-default, length, drop, getD, length-take, length-append, drop-of-length-le}
 use lib.Seq.{drop-cons}
 use lib.Ieee.{Float}
-use Rattle.answer.specs.Answer.{good}
-use Rattle.shapes.specs.Shape.{countsOf, size, total}
+use Rattle.layout.specs.Shape.{countsOf, size, total}
 use Rattle.layout.specs.Layout.{tabulate}
-use Rattle.shapes.specs.Frame.{shapeFault}
-use Rattle.shapes.specs.declared.Shape.{Shape}
-use Rattle.shapes.proofs.Frames.{shape-four}
+use Rattle.layout.specs.declared.Shape.{Shape}
+use Rattle.checks.proofs.shapes.Frames.{shape-four}
 use Rattle.image.specs.Image.{floatsAt, nodesFrom, nodesIn, valuesIn}
-use Rattle.headers.specs.Fields.{axesField, countField, offsetField, valuesField, shapeOf}
-use Rattle.words.specs.Words.{wordAt}
+use Rattle.image.specs.Fields.{axesField, countField, offsetField, valuesField, shapeOf}
+use Rattle.bytes.specs.Words.{wordAt}
 use Rattle.writer.specs.Made.{axisAt, valuesAt, imageLength, countIn, offsetIn, headerFields, fieldBytes, floatBytes, imageOf}
-use Rattle.writer.specs.Write.{plain}
+use Rattle.writer.specs.Write.{Framed, plain}
 use Rattle.writer.proofs.Headers.{count-in, next-at, length-small, at-before, values-before, count-in-few}
 use Rattle.writer.proofs.Images.{length-header, length-floats}
 use Rattle.binary64.proofs.Held.{Held}
@@ -33,7 +31,7 @@ pub count-none-of : (s : Shape) (a : ℕ) → s .axes ≤ a → countIn s a ≡ 
 unfolding countIn
 count-none-of s a l = List·getD-eq-default (countsOf s) 0 (omega (arith, length-take (s .axes) (s .counts)))
 
-module _ (s : Shape) (four : length (s .counts) ≡ 4) (h : good (shapeFault s) ≡ true) (nodes values : List Float) (en : length nodes ≡ total (countsOf s)) (ev : length values ≡ size (countsOf s)) where
+module _ (s : Shape) (four : length (s .counts) ≡ 4) (nodes values : List Float) (w : Framed s nodes values) where
   abbrev img : List ℕ
   img = imageOf s nodes values
 
@@ -42,11 +40,11 @@ module _ (s : Shape) (four : length (s .counts) ≡ 4) (h : good (shapeFault s) 
   offset-small a = go (ltb a (s .axes))
     where
       go : (b : Bool) → cond b (axisAt s a) 0 < 4294967296
-      go true = omega (arith, at-before s a, values-before s, length-small s h)
+      go true = omega (arith, at-before s a, values-before s, length-small s (w .judged))
       go false = omega arith
 
   fit : Fit (headerFields s)
-  fit = omega (arith, shape-four s h, length-small s h, values-before s, count-in-few s h 0, count-in-few s h 1, count-in-few s h 2, count-in-few s h 3, offset-small 0, offset-small 1, offset-small 2, offset-small 3)
+  fit = omega (arith, shape-four s (w .judged), length-small s (w .judged), values-before s, count-in-few s (w .judged) 0, count-in-few s (w .judged) 1, count-in-few s (w .judged) 2, count-in-few s (w .judged) 3, offset-small 0, offset-small 1, offset-small 2, offset-small 3)
 
   pub heads : Fields (headerFields s) img 0
   unfolding imageOf
@@ -84,7 +82,7 @@ module _ (s : Shape) (four : length (s .counts) ≡ 4) (h : good (shapeFault s) 
 
   pub used-back : (a : ℕ) → a < s .axes → offsetField img a ≡ axisAt s a
   unfolding offsetIn
-  used-back a l = offset-back a (omega (arith, shape-four s h)) ∙ ap (λ (b : Bool). cond b (axisAt s a) 0) (lt-ltb a (s .axes) l)
+  used-back a l = offset-back a (omega (arith, shape-four s (w .judged))) ∙ ap (λ (b : Bool). cond b (axisAt s a) 0) (lt-ltb a (s .axes) l)
 
   pub count-some : (a : ℕ) → countIn s a ≡ getD (countsOf s) a 0
   count-some = count-some-of s
@@ -111,7 +109,7 @@ module _ (s : Shape) (four : length (s .counts) ≡ 4) (h : good (shapeFault s) 
   area-at held = floats-back nodes (fieldBytes (headerFields s)) (floatBytes values) 40 (length-header s) held
 
   axes-long : length (countsOf s) ≡ s .axes
-  axes-long = omega (arith, length-take (s .axes) (s .counts), four, shape-four s h)
+  axes-long = omega (arith, length-take (s .axes) (s .counts), four, shape-four s (w .judged))
 
   from : (k a : ℕ) → a + k ≡ s .axes → nodesFrom img a k ≡ floatsAt img (axisAt s a) (total (drop a (countsOf s)))
   unfolding nodesFrom countIn total floatsAt
@@ -123,7 +121,7 @@ module _ (s : Shape) (four : length (s .counts) ≡ 4) (h : good (shapeFault s) 
       let c = getD (countsOf s) a 0 in
       let t = total (drop (suc a) (countsOf s)) in
       ap₂ (λ (x y : List Float). x ++ y)
-      (ap₂ (floatsAt img) (used-back a l) (count-back a (omega (arith, shape-four s h))))
+      (ap₂ (floatsAt img) (used-back a l) (count-back a (omega (arith, shape-four s (w .judged)))))
       (from k (suc a) (omega (arith, e)) ∙ ap (λ (j : ℕ). floatsAt img j t) (sym (next-at s a c (axisAt s a) refl refl)))
       ∙ sym (floats-add img c t (axisAt s a))
       ∙ ap (λ (l : List ℕ). floatsAt img (axisAt s a) (total l)) (sym (drop-cons (countsOf s) a 0 (omega (arith, axes-long, l))))
@@ -133,17 +131,17 @@ module _ (s : Shape) (four : length (s .counts) ≡ 4) (h : good (shapeFault s) 
   nodes-back held =
       ap (nodesFrom img 0) axes-back
       ∙ from (s .axes) 0 (omega arith)
-      ∙ ap (floatsAt img 40) (sym en)
+      ∙ ap (floatsAt img 40) (sym (w .nodes-long))
       ∙ area-at held
 
   pub counts-back : countsOf (shapeOf img) ≡ countsOf s
-  counts-back = ap countsOf shape-back ∙ count-in s h four
+  counts-back = ap countsOf shape-back ∙ count-in s (w .judged) four
 
   pub values-back : Held values → valuesIn img ≡ values
   unfolding valuesIn imageOf valuesAt
   values-back held =
       let p = fieldBytes (headerFields s) ++ floatBytes nodes in
-      let at : length p ≡ 40 + 8 * total (countsOf s) = length-append (fieldBytes (headerFields s)) (floatBytes nodes) ∙ omega (arith, length-header s, length-floats nodes, en) in
-      ap₂ (floatsAt img) values-field (ap size counts-back ∙ sym ev)
+      let at : length p ≡ 40 + 8 * total (countsOf s) = length-append (fieldBytes (headerFields s)) (floatBytes nodes) ∙ omega (arith, length-header s, length-floats nodes, w .nodes-long) in
+      ap₂ (floatsAt img) values-field (ap size counts-back ∙ sym (w .values-long))
       ∙ ap (λ (l : List ℕ). floatsAt l (40 + 8 * total (countsOf s)) (length values)) (sym (append-assoc (fieldBytes (headerFields s)) (floatBytes nodes) (floatBytes values)) ∙ ap (λ (l : List ℕ). p ++ l) (sym (append-nil (floatBytes values))))
       ∙ floats-back values p [] (40 + 8 * total (countsOf s)) at held

@@ -7,8 +7,8 @@ use native.Mathlib.Omega.{arith}
 use lib.ListN.{length, drop, getD, set, drop-of-length-le}
 use lib.Seq.{sets, drop-cons}
 use lib.Ieee.{Float, nan, binary64, toBits}
-use Rattle.words.specs.Words.{toBytes}
-use Rattle.words.proofs.Bytes.{length-bytes}
+use Rattle.bytes.specs.Words.{toBytes}
+use Rattle.bytes.proofs.Bytes.{length-bytes}
 use Rattle.image.proofs.Floats.{sets-append}
 use Rattle.writer.specs.Made.{fieldBytes, floatBytes}
 use Rattle.writer.specs.Fields.{sum, pairs}

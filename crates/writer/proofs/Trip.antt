@@ -10,124 +10,123 @@ use lib.ListN.{length, take, drop, getD}
 use lib.Seq.{getD-take, take-at}
 use lib.Ieee.{Float, binary64}
 use lib.Ieee.Fits.{nan-fits}
-use Rattle.answer.specs.Answer.{fine, good, _or_, firstOf, given, filledInto}
+use Rattle.answer.specs.Faults.{noFault, good, _or_, firstOf, given, filledInto}
+use Rattle.answer.specs.Answer.{fine, _then_}
+use Rattle.answer.specs.declared.Fault.{Fault}
 use Rattle.answer.specs.declared.Answer.{Answer}
 use Rattle.answer.proofs.Orders as orders
-use Rattle.counts.proofs.Rows.{axes-right, count-fine}
-use Rattle.lent.proofs.Rows.{room-enough, length-same}
-use Rattle.shapes.specs.Shape.{countsOf, size, total}
-use Rattle.frames.specs.None.{noShape}
+use Rattle.answer.proofs.Answers.{then-good}
+use Rattle.checks.proofs.counts.Rows.{axes-right, count-fine}
+use Rattle.checks.proofs.lent.Rows.{room-enough, length-same}
+use Rattle.layout.specs.Shape.{countsOf, size, total, noShape}
 use Rattle.layout.specs.Layout.{tabulate}
-use Rattle.shapes.specs.Frame.{shapeFault, frameFault, productRow}
-use Rattle.counts.specs.Counts.{axesCountFault}
-use Rattle.lent.specs.Lent.{lengthFault, roomFault}
-use Rattle.table.specs.Table.{axesFault}
-use Rattle.values.specs.Values.{valueFault, valuesFault}
-use Rattle.shapes.specs.declared.Shape.{Shape}
+use Rattle.checks.specs.Shapes.{shapeFault, frameFault}
+use Rattle.checks.specs.Numbers.{productFault, axesCountFault, lengthFault, roomFault, axesFault, valueFault, valuesFault, areaFault, fieldFault, shortFault}
+use Rattle.layout.specs.declared.Shape.{Shape}
 use Rattle.layout.proofs.Layouts.{getD-tabulate, tabulate-same}
-use Rattle.shapes.proofs.Frames.{shape-some, shape-four, shape-enough, shape-few, shape-size}
-use Rattle.words.specs.Words.{wordAt}
+use Rattle.checks.proofs.shapes.Frames.{shape-some, shape-four, shape-enough, shape-few, shape-size}
+use Rattle.bytes.specs.Words.{wordAt}
 use Rattle.image.specs.Image.{floatsAt, nodesFrom, nodesIn, valuesIn}
-use Rattle.headers.specs.Fields.{axesField, countField, offsetField, valuesField, shapeOf}
-use Rattle.image.specs.Load.{areaFault, areasFault, roomsFault, contentsFault, loadFault, loadAnswer}
-use Rattle.headers.specs.Head.{fieldFault, shortFault, startFault, countRow, offsetRow, headFault}
+use Rattle.image.specs.Fields.{axesField, countField, offsetField, valuesField, shapeOf}
+use Rattle.image.specs.Load.{areasFault, roomsFault, contentsFault, loadFault, loadAnswer}
+use Rattle.image.specs.Head.{startFault, countRow, offsetRow, headFault}
 use Rattle.image.proofs.Floats.{nodes-total, values-size}
-use Rattle.headers.proofs.Heads.{unused-zero}
+use Rattle.image.proofs.Heads.{unused-zero}
 use Rattle.image.proofs.Laws.{Loadable, load-means, loaded-shape}
-use Rattle.image.proofs.Rows.{area-right}
-use Rattle.headers.proofs.Rows.{field-right, short-right, length-right, count-used, count-unused}
+use Rattle.image.proofs.Tests.{field-right, short-right, stated-right, area-right, count-used, count-unused}
 use Rattle.writer.specs.Made.{axisAt, imageLength, countIn, imageOf}
-use Rattle.writer.specs.Write.{writeFault, writeAnswer, plain, written}
+use Rattle.writer.specs.Write.{writeFault, writeAnswer, Framed, plain, written}
 use Rattle.writer.proofs.Headers.{first-at, next-at, axis-after, at-before, values-after, values-end, values-before, length-small, count-in}
 use Rattle.writer.proofs.Images.{length-image}
-use Rattle.writer.proofs.Writes.{written-shape, written-nodes, written-values, written-axes, written-stored}
+use Rattle.writer.proofs.Laws.{write-means}
+use Rattle.writer.proofs.Writes.{written-frame}
 use Rattle.binary64.proofs.Held.{Held}
 use Rattle.writer.proofs.Back.{floats-held, held-append}
 use Rattle.writer.proofs.Made as made
 
 -- ---- the image of a judged table passes the checks of the header and of the areas
-module _ (s : Shape) (four : length (s .counts) ≡ 4) (h : good (shapeFault s) ≡ true) (nodes values : List Float) (en : length nodes ≡ total (countsOf s)) (ev : length values ≡ size (countsOf s)) where
+module _ (s : Shape) (four : length (s .counts) ≡ 4) (nodes values : List Float) (w : Framed s nodes values) where
   abbrev img : List ℕ
   img = imageOf s nodes values
 
   long : length img ≡ imageLength s
-  long = length-image s nodes values en ev
+  long = length-image s nodes values (w .nodes-long) (w .values-long)
 
   forty : 40 ≤ imageLength s
   forty = omega (arith, first-at s, at-before s 0, values-before s)
 
   axes-is : axesField img ≡ s .axes
-  axes-is = made.axes-back s four h nodes values en ev
+  axes-is = made.axes-back s four nodes values w
 
   starts : good (startFault img) ≡ true
   unfolding startFault
   starts =
-      orders.both-passed (shortFault (length img)) _ (orders.passed-fine _ (short-right (length img) (omega (arith, long, forty))))
-      (orders.both-passed (fieldFault 0 1 (wordAt 1 img 0)) _ (orders.passed-fine _ (field-right 0 1 (wordAt 1 img 0) (made.heads s four h nodes values en ev .0)))
-      (orders.both-passed (axesCountFault (axesField img)) _ (orders.passed-fine _ (axes-right (axesField img) (omega (arith, axes-is, shape-some s h)) (omega (arith, axes-is, shape-four s h))))
-      (orders.both-passed (fieldFault 2 0 (wordAt 2 img 2)) _ (orders.passed-fine _ (field-right 2 0 (wordAt 2 img 2) (made.heads s four h nodes values en ev .1 .1 .0)))
-      (orders.passed-fine _ (length-right (wordAt 4 img 4) (length img) (stated ∙ sym long) (omega (arith, stated, forty)) (omega (arith, stated, length-small s h)))))))
+      orders.both-passed (shortFault (length img)) _ (orders.passed-no-fault _ (short-right (length img) (omega (arith, long, forty))))
+      (orders.both-passed (fieldFault 0 1 (wordAt 1 img 0)) _ (orders.passed-no-fault _ (field-right 0 1 (wordAt 1 img 0) (made.heads s four nodes values w .0)))
+      (orders.both-passed (axesCountFault (axesField img)) _ (orders.passed-no-fault _ (axes-right (axesField img) (omega (arith, axes-is, shape-some s (w .judged))) (omega (arith, axes-is, shape-four s (w .judged)))))
+      (orders.both-passed (fieldFault 2 0 (wordAt 2 img 2)) _ (orders.passed-no-fault _ (field-right 2 0 (wordAt 2 img 2) (made.heads s four nodes values w .1 .1 .0)))
+      (orders.passed-no-fault _ (stated-right (wordAt 4 img 4) (length img) (stated ∙ sym long) (omega (arith, stated, forty)) (omega (arith, stated, length-small s (w .judged))))))))
     where
       stated : wordAt 4 img 4 ≡ imageLength s
-      stated = made.length-back s four h nodes values en ev
+      stated = made.length-back s four nodes values w
 
   counts : good (firstOf (countRow img) 0 4) ≡ true
-  counts = ap good (orders.none-good (countRow img) 0 4 (λ a l m. each a (omega (arith, m)) (ltb a (s .axes)) (ltb-true a (s .axes)) (ltb-false a (s .axes)))) ∙ orders.good-fine
+  counts = ap good (orders.none-good (countRow img) 0 4 (λ a l m. each a (omega (arith, m)) (ltb a (s .axes)) (ltb-true a (s .axes)) (ltb-false a (s .axes)))) ∙ orders.good-no-fault
     where
       each : (a : ℕ) → a < 4 → (b : Bool) → (b ≡ true → a < s .axes) → (b ≡ false → s .axes ≤ a) → good (countRow img a) ≡ true
       each a m true t f =
           let l = t refl in
-          let c : countField img a ≡ getD (s .counts) a 0 = made.count-back s four h nodes values en ev a m ∙ made.count-some s four h nodes values en ev a ∙ getD-take (s .axes) (s .counts) a 0 l in
-          orders.passed-fine _ (count-fine a (countField img a) (omega (arith, c, shape-enough s h a l)) (omega (arith, c, shape-few s h a l)) ∙ count-used img a (omega (arith, axes-is, l)))
+          let c : countField img a ≡ getD (s .counts) a 0 = made.count-back s four nodes values w a m ∙ made.count-some s four nodes values w a ∙ getD-take (s .axes) (s .counts) a 0 l in
+          orders.passed-no-fault _ (count-fine a (countField img a) (omega (arith, c, shape-enough s (w .judged) a l)) (omega (arith, c, shape-few s (w .judged) a l)) ∙ count-used img a (omega (arith, axes-is, l)))
       each a m false t f =
-          orders.passed-fine _ (field-right (8 + 2 * a) 0 (countField img a) (made.count-back s four h nodes values en ev a m ∙ made.count-none s four h nodes values en ev a (f refl)) ∙ count-unused img a (omega (arith, axes-is, f refl)))
+          orders.passed-no-fault _ (field-right (8 + 2 * a) 0 (countField img a) (made.count-back s four nodes values w a m ∙ made.count-none s four nodes values w a (f refl)) ∙ count-unused img a (omega (arith, axes-is, f refl)))
 
   same : countsOf (shapeOf img) ≡ countsOf s
-  same = made.counts-back s four h nodes values en ev
+  same = made.counts-back s four nodes values w
 
-  product : good (productRow (shapeOf img)) ≡ true
-  unfolding productRow
-  product = orders.good-when (ltb 4096 (size (countsOf (shapeOf img)))) _ (le-ltb 4096 (size (countsOf (shapeOf img))) (omega (arith, ap size same, shape-size s h)))
+  product : good (productFault (shapeOf img)) ≡ true
+  unfolding productFault
+  product = orders.good-when (ltb 4096 (size (countsOf (shapeOf img)))) _ (le-ltb 4096 (size (countsOf (shapeOf img))) (omega (arith, ap size same, shape-size s (w .judged))))
 
   offsets : good (firstOf (offsetRow img) (axesField img) (4 - axesField img)) ≡ true
   unfolding offsetRow
-  offsets = ap good (orders.none-good (offsetRow img) (axesField img) (4 - axesField img) each) ∙ orders.good-fine
+  offsets = ap good (orders.none-good (offsetRow img) (axesField img) (4 - axesField img) each) ∙ orders.good-no-fault
     where
       each : (a : ℕ) → axesField img ≤ a → a < axesField img + (4 - axesField img) → good (offsetRow img a) ≡ true
       each a l m =
-          let n : a < 4 = omega (arith, axes-is, shape-four s h, m) in
-          orders.passed-fine _ (field-right (16 + 4 * a) 0 (offsetField img a) (made.offset-back s four h nodes values en ev a n ∙ made.offset-none s four h nodes values en ev a (omega (arith, axes-is, l))))
+          let n : a < 4 = omega (arith, axes-is, shape-four s (w .judged), m) in
+          orders.passed-no-fault _ (field-right (16 + 4 * a) 0 (offsetField img a) (made.offset-back s four nodes values w a n ∙ made.offset-none s four nodes values w a (omega (arith, axes-is, l))))
 
   pub made-head : good (headFault img) ≡ true
   unfolding headFault
   made-head =
       orders.both-passed (startFault img) _ starts
       (orders.both-passed (firstOf (countRow img) 0 4) _ counts
-      (orders.both-passed (productRow (shapeOf img)) _ product
+      (orders.both-passed (productFault (shapeOf img)) _ product
       (orders.both-passed (firstOf (offsetRow img) (axesField img) (4 - axesField img)) _ offsets
-      (orders.passed-fine _ (field-right 36 0 (wordAt 4 img 36) (made.end-back s four h nodes values en ev))))))
+      (orders.passed-no-fault _ (field-right 36 0 (wordAt 4 img 36) (made.end-back s four nodes values w))))))
 
-  abbrev axis : ℕ → Answer
+  abbrev axis : ℕ → Fault
   axis a = areaFault (length img) a (offsetField img a) (countField img a)
 
   pub made-areas : good (areasFault img) ≡ true
   unfolding areasFault
-  made-areas = orders.both-passed (firstOf axis 0 (axesField img)) _ (ap good (orders.none-good axis 0 (axesField img) each) ∙ orders.good-fine) stored
+  made-areas = orders.both-passed (firstOf axis 0 (axesField img)) _ (ap good (orders.none-good axis 0 (axesField img) each) ∙ orders.good-no-fault) stored
     where
       each : (a : ℕ) → 0 ≤ a → a < 0 + axesField img → good (axis a) ≡ true
       each a k m =
           let l : a < s .axes = omega (arith, axes-is, m) in
-          let o = made.used-back s four h nodes values en ev a l in
-          let c : countField img a ≡ getD (countsOf s) a 0 = made.count-back s four h nodes values en ev a (omega (arith, l, shape-four s h)) ∙ made.count-some s four h nodes values en ev a in
+          let o = made.used-back s four nodes values w a l in
+          let c : countField img a ≡ getD (countsOf s) a 0 = made.count-back s four nodes values w a (omega (arith, l, shape-four s (w .judged))) ∙ made.count-some s four nodes values w a in
           let up = next-at s a (getD (countsOf s) a 0) (axisAt s a) refl refl in
-          orders.passed-fine _ (area-right (length img) a (offsetField img a) (countField img a) (omega (arith, o, axis-after s a .0)) (ap (λ (j : ℕ). j % 8) o ∙ axis-after s a .1) (omega (arith, o, c, up, long, at-before s (suc a), values-before s)))
+          orders.passed-no-fault _ (area-right (length img) a (offsetField img a) (countField img a) (omega (arith, o, axis-after s a .0)) (ap (λ (j : ℕ). j % 8) o ∙ axis-after s a .1) (omega (arith, o, c, up, long, at-before s (suc a), values-before s)))
 
       stored : good (areaFault (length img) (axesField img) (valuesField img) (size (countsOf (shapeOf img)))) ≡ true
       stored =
-          let o = made.values-field s four h nodes values en ev in
+          let o = made.values-field s four nodes values w in
           let n = ap size same in
-          let v = subst (λ (k : ℕ). (40 ≤ k) × (k % 8 ≡ 0)) (values-after s h) (axis-after s 4) in
-          orders.passed-fine _ (area-right (length img) (axesField img) (valuesField img) (size (countsOf (shapeOf img))) (omega (arith, o, v .0)) (ap (λ (j : ℕ). j % 8) o ∙ v .1) (omega (arith, o, n, values-end s, long)))
+          let v = subst (λ (k : ℕ). (40 ≤ k) × (k % 8 ≡ 0)) (values-after s (w .judged)) (axis-after s 4) in
+          orders.passed-no-fault _ (area-right (length img) (axesField img) (valuesField img) (size (countsOf (shapeOf img))) (omega (arith, o, v .0)) (ap (λ (j : ℕ). j % 8) o ∙ v .1) (omega (arith, o, n, values-end s, long)))
 
 -- ---- writing, then loading
 
@@ -137,37 +136,31 @@ judged : (img : List ℕ) (n v : ℕ) → good (headFault img) ≡ true → good
 unfolding loadFault contentsFault
 judged img n v g k = orders.or-good (headFault img) _ g ∙ orders.or-good (areasFault img) _ k
 
-stored-fine : (values : List Float) → good (valuesFault values) ≡ true → valuesFault values ≡ fine
+stored-fine : (values : List Float) → good (valuesFault values) ≡ true → valuesFault values ≡ noFault
 unfolding valuesFault
 stored-fine values g = orders.none-good (valueFault values) 0 (length values) (λ j l m. orders.all-passed (valueFault values) 0 (length values) g j l m)
 
 rooms-passed : (s : Shape) (n v : ℕ) → total (countsOf s) ≤ n → size (countsOf s) ≤ v → good (roomsFault s n v) ≡ true
 unfolding roomsFault
-rooms-passed s n v p q = orders.both-passed _ _ (orders.passed-fine _ (room-enough 0 (total (countsOf s)) n p)) (orders.passed-fine _ (room-enough 1 (size (countsOf s)) v q))
+rooms-passed s n v p q = orders.both-passed _ _ (orders.passed-no-fault _ (room-enough 0 (total (countsOf s)) n p)) (orders.passed-no-fault _ (room-enough 1 (size (countsOf s)) v q))
 
-rooms-fine : (s : Shape) (n v : ℕ) → good (roomsFault s n v) ≡ true → roomsFault s n v ≡ fine
+rooms-fine : (s : Shape) (n v : ℕ) → good (roomsFault s n v) ≡ true → roomsFault s n v ≡ noFault
 unfolding roomsFault roomFault
 rooms-fine s n v g =
     orders.or-good (roomFault 0 (total (countsOf s)) n) (roomFault 1 (size (countsOf s)) v) (orders.first-passed (roomFault 0 (total (countsOf s)) n) _ g)
     ∙ orders.when-false (ltb v (size (countsOf s))) _ (orders.row-good (ltb v (size (countsOf s))) 14 0 1 (orders.second-passed (roomFault 0 (total (countsOf s)) n) (roomFault 1 (size (countsOf s)) v) g))
 
-rooms-or : (s : Shape) (n v : ℕ) → (roomsFault s n v or fine) ≡ roomsFault s n v
+rooms-or : (s : Shape) (n v : ℕ) → (roomsFault s n v or noFault) ≡ roomsFault s n v
 rooms-or s n v = go (good (roomsFault s n v)) refl
   where
-    go : (b : Bool) → good (roomsFault s n v) ≡ b → (roomsFault s n v or fine) ≡ roomsFault s n v
-    go true e = orders.or-good (roomsFault s n v) fine e ∙ sym (rooms-fine s n v e)
-    go false e = orders.or-bad (roomsFault s n v) fine e
+    go : (b : Bool) → good (roomsFault s n v) ≡ b → (roomsFault s n v or noFault) ≡ roomsFault s n v
+    go true e = orders.or-good (roomsFault s n v) noFault e ∙ sym (rooms-fine s n v e)
+    go false e = orders.or-bad (roomsFault s n v) noFault e
 
 -- a table that the writer accepts; its output had room for it
 module _ (s : Shape) (four : length (s .counts) ≡ 4) (nodes values : List Float) (held : Held nodes) (kept : Held values) (out : List ℕ) (g : good (writeFault s nodes values (length out)) ≡ true) where
-  h : good (shapeFault s) ≡ true
-  h = written-shape s nodes values (length out) four g
-
-  en : length nodes ≡ total (countsOf s)
-  en = written-nodes s nodes values (length out) four g
-
-  ev : length values ≡ size (countsOf s)
-  ev = written-values s nodes values (length out) four g
+  w : Framed s nodes values
+  w = written-frame s nodes values (length out) g
 
   abbrev image : List ℕ
   image = written s nodes values out
@@ -176,54 +169,54 @@ module _ (s : Shape) (four : length (s .counts) ≡ 4) (nodes values : List Floa
   unfolding writeAnswer filledInto
   image-is =
       ap₂ take (orders.given-good (writeFault s nodes values (length out)) (imageLength s) 0 g) (orders.given-good (writeFault s nodes values (length out)) (imageOf s nodes values ++ drop (length (imageOf s nodes values)) out) out g)
-      ∙ take-at (imageOf s nodes values) (drop (length (imageOf s nodes values)) out) (imageLength s) (length-image s nodes values en ev)
+      ∙ take-at (imageOf s nodes values) (drop (length (imageOf s nodes values)) out) (imageLength s) (length-image s nodes values (w .nodes-long) (w .values-long))
 
   pub written-shape-back : shapeOf image ≡ plain s
-  written-shape-back = ap shapeOf image-is ∙ made.shape-back s four h nodes values en ev
+  written-shape-back = ap shapeOf image-is ∙ made.shape-back s four nodes values w
 
   pub written-nodes-back : nodesIn image ≡ nodes
-  written-nodes-back = ap nodesIn image-is ∙ made.nodes-back s four h nodes values en ev held
+  written-nodes-back = ap nodesIn image-is ∙ made.nodes-back s four nodes values w held
 
   pub written-values-back : valuesIn image ≡ values
-  written-values-back = ap valuesIn image-is ∙ made.values-back s four h nodes values en ev kept
+  written-values-back = ap valuesIn image-is ∙ made.values-back s four nodes values w kept
 
   same-counts : countsOf (plain s) ≡ countsOf s
-  same-counts = count-in s h four
+  same-counts = count-in s (w .judged) four
 
   -- for every room: 15, or nothing is wrong
   pub written-judged : (n v : ℕ) → loadFault image n v ≡ roomsFault (plain s) n v
   written-judged n v =
       ap (λ (l : List ℕ). loadFault l n v) image-is
-      ∙ judged (imageOf s nodes values) n v (made-head s four h nodes values en ev) (made-areas s four h nodes values en ev)
-      ∙ ap (λ (t : Shape). roomsFault t n v or axesFault (countsOf t) (nodesIn (imageOf s nodes values)) or valuesFault (valuesIn (imageOf s nodes values))) (made.shape-back s four h nodes values en ev)
-      ∙ ap (λ (t : Answer). roomsFault (plain s) n v or t) contents
+      ∙ judged (imageOf s nodes values) n v (made-head s four nodes values w) (made-areas s four nodes values w)
+      ∙ ap (λ (t : Shape). roomsFault t n v or axesFault (countsOf t) (nodesIn (imageOf s nodes values)) or valuesFault (valuesIn (imageOf s nodes values))) (made.shape-back s four nodes values w)
+      ∙ ap (λ (t : Fault). roomsFault (plain s) n v or t) contents
       ∙ right
     where
-      contents : (axesFault (countsOf (plain s)) (nodesIn (imageOf s nodes values)) or valuesFault (valuesIn (imageOf s nodes values))) ≡ fine
+      contents : (axesFault (countsOf (plain s)) (nodesIn (imageOf s nodes values)) or valuesFault (valuesIn (imageOf s nodes values))) ≡ noFault
       contents =
-          ap₂ (λ (xs ys : List Float). axesFault (countsOf (plain s)) xs or valuesFault ys) (made.nodes-back s four h nodes values en ev held) (made.values-back s four h nodes values en ev kept)
+          ap₂ (λ (xs ys : List Float). axesFault (countsOf (plain s)) xs or valuesFault ys) (made.nodes-back s four nodes values w held) (made.values-back s four nodes values w kept)
           ∙ ap (λ (cs : List ℕ). axesFault cs nodes or valuesFault values) same-counts
-          ∙ orders.or-good (axesFault (countsOf s) nodes) _ (written-axes s nodes values (length out) four g)
-          ∙ stored-fine values (written-stored s nodes values (length out) four g)
+          ∙ orders.or-good (axesFault (countsOf s) nodes) _ (write-means s nodes values (length out) g .axes)
+          ∙ stored-fine values (write-means s nodes values (length out) g .stored)
 
-      right : (roomsFault (plain s) n v or fine) ≡ roomsFault (plain s) n v
+      right : (roomsFault (plain s) n v or noFault) ≡ roomsFault (plain s) n v
       right = rooms-or (plain s) n v
 
   -- "Writing and loading returns the table", whatever the two outputs hold beyond
   module _ (ns vs : List Float) (ln : length nodes ≤ length ns) (lv : length values ≤ length vs) where
-    nothing : loadFault image (length ns) (length vs) ≡ fine
+    nothing : loadFault image (length ns) (length vs) ≡ noFault
     nothing =
         written-judged (length ns) (length vs)
         ∙ rooms-fine (plain s) (length ns) (length vs)
-        (rooms-passed (plain s) (length ns) (length vs) (omega (arith, ap total same-counts, en, ln)) (omega (arith, ap size same-counts, ev, lv)))
+        (rooms-passed (plain s) (length ns) (length vs) (omega (arith, ap total same-counts, w .nodes-long, ln)) (omega (arith, ap size same-counts, w .values-long, lv)))
 
     passes : good (loadFault image (length ns) (length vs)) ≡ true
-    passes = ap good nothing ∙ orders.good-fine
+    passes = ap good nothing ∙ orders.good-no-fault
 
     pub answer-back : loadAnswer image (length ns) (length vs) ≡ record { answer = fine; shape = plain s }
     unfolding loadAnswer
     answer-back =
-        ap₂ (λ (a : Answer) (t : Shape). record { answer = a; shape = t }) nothing
+        ap₂ (λ (a : Answer) (t : Shape). record { answer = a; shape = t }) (then-good (loadFault image (length ns) (length vs)) fine passes)
         (orders.given-good (loadFault image (length ns) (length vs)) (shapeOf image) noShape passes ∙ written-shape-back)
 
     filled : (xs ys zs : List Float) → xs ≡ ys → filledInto (loadFault image (length ns) (length vs)) xs zs ≡ ys ++ drop (length ys) zs
@@ -275,10 +268,10 @@ module _ (img : List ℕ) (n v : ℕ) (g : good (loadFault img n v) ≡ true) wh
     loaded-writes =
         orders.both-passed (frameFault (shapeOf img) (length (nodesIn img)) (length (valuesIn img))) _
         (orders.both-passed (shapeFault (shapeOf img)) _ s-good
-        (orders.both-passed (lengthFault 0 (total (countsOf (shapeOf img))) (length (nodesIn img))) _ (orders.passed-fine _ (length-same 0 (total (countsOf (shapeOf img))) (length (nodesIn img)) (nodes-total img s-good)))
-        (orders.passed-fine _ (length-same 1 (size (countsOf (shapeOf img))) (length (valuesIn img)) (values-size img)))))
+        (orders.both-passed (lengthFault 0 (total (countsOf (shapeOf img))) (length (nodesIn img))) _ (orders.passed-no-fault _ (length-same 0 (total (countsOf (shapeOf img))) (length (nodesIn img)) (nodes-total img s-good)))
+        (orders.passed-no-fault _ (length-same 1 (size (countsOf (shapeOf img))) (length (valuesIn img)) (values-size img)))))
         (orders.both-passed (axesFault (countsOf (shapeOf img)) (nodesIn img)) _ (l .axes)
-        (orders.both-passed (valuesFault (valuesIn img)) _ (l .stored) (orders.passed-fine _ (room-enough 2 (imageLength (shapeOf img)) (length out) room))))
+        (orders.both-passed (valuesFault (valuesIn img)) _ (l .stored) (orders.passed-no-fault _ (room-enough 2 (imageLength (shapeOf img)) (length out) room))))
 
     abbrev again : List ℕ
     again = written (shapeOf img) (nodesIn img) (valuesIn img) out
@@ -294,13 +287,13 @@ module _ (img : List ℕ) (n v : ℕ) (g : good (loadFault img n v) ≡ true) wh
     again-fault n′ v′ =
         written-judged (shapeOf img) four (nodesIn img) (valuesIn img) loaded-held loaded-kept out loaded-writes n′ v′
         ∙ ap (λ (t : Shape). roomsFault t n′ v′) loaded-plain
-        ∙ sym (judged img n′ v′ (l .head) (l .areas) ∙ ap (λ (t : Answer). roomsFault (shapeOf img) n′ v′ or t) contents ∙ rooms-or (shapeOf img) n′ v′)
+        ∙ sym (judged img n′ v′ (l .head) (l .areas) ∙ ap (λ (t : Fault). roomsFault (shapeOf img) n′ v′ or t) contents ∙ rooms-or (shapeOf img) n′ v′)
       where
-        contents : (axesFault (countsOf (shapeOf img)) (nodesIn img) or valuesFault (valuesIn img)) ≡ fine
+        contents : (axesFault (countsOf (shapeOf img)) (nodesIn img) or valuesFault (valuesIn img)) ≡ noFault
         contents = orders.or-good (axesFault (countsOf (shapeOf img)) (nodesIn img)) _ (l .axes) ∙ stored-fine (valuesIn img) (l .stored)
 
     pub again-answer : (n′ v′ : ℕ) → loadAnswer again n′ v′ ≡ loadAnswer img n′ v′
     unfolding loadAnswer
     again-answer n′ v′ =
-        ap₂ (λ (a : Answer) (t : Shape). record { answer = a; shape = given a t noShape }) (again-fault n′ v′)
+        ap₂ (λ (a : Fault) (t : Shape). record { answer = a then fine; shape = given a t noShape }) (again-fault n′ v′)
         (written-shape-back (shapeOf img) four (nodesIn img) (valuesIn img) loaded-held loaded-kept out loaded-writes ∙ loaded-plain)

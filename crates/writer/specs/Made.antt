@@ -5,17 +5,19 @@ use Prim.Native.Nat.{ℕ, _+_, _*_}
 use lib.Dec.{ltb}
 use lib.ListN.{take, getD}
 use lib.Ieee.{Float, binary64, toBits}
-use Rattle.shapes.specs.Shape.{countsOf, size, total}
-use Rattle.shapes.specs.declared.Shape.{Shape}
-use Rattle.words.specs.Words.{toBytes}
+use Rattle.layout.specs.Shape.{countsOf, size, total}
+use Rattle.layout.specs.declared.Shape.{Shape}
+use Rattle.bytes.specs.Words.{toBytes}
 
 -- "The writer places the axes from byte 40 without gaps, then the values"
 unfoldable pub axisAt : Shape → ℕ → ℕ
 axisAt s a = 40 + 8 * total (take a (countsOf s))
 
+-- ".. then the values"
 unfoldable pub valuesAt : Shape → ℕ
 valuesAt s = 40 + 8 * total (countsOf s)
 
+-- where the image ends
 unfoldable pub imageLength : Shape → ℕ
 imageLength s = valuesAt s + 8 * size (countsOf s)
 
@@ -45,5 +47,6 @@ unfoldable pub floatBytes : List Float → List ℕ
 floatBytes [] = []
 floatBytes (x ∷ xs) = toBytes 8 (toBits binary64 x) ++ floatBytes xs
 
+-- the whole image: the header, the axes, the values
 unfoldable pub imageOf : Shape → List Float → List Float → List ℕ
 imageOf s nodes values = fieldBytes (headerFields s) ++ (floatBytes nodes ++ floatBytes values)

@@ -1,21 +1,23 @@
 // The header: counts and offsets of a shape, each in its width.
 ghost use mathlib.Core.Path.{_≡_};
 ghost use mathlib.Core.Bool.{true, cond};
-ghost use Prim.Native.Nat.{_+_, _≤_, _<_};
 ghost use lib.Dec.{ltb};
-ghost use lib.ListN.{length, getD};
+ghost use lib.ListN.{length};
 ghost use lib.Seq.{sets};
-ghost use Rattle.answer.specs.Answer.{good};
-ghost use Rattle.shapes.specs.Shape.{countsOf};
-ghost use Rattle.shapes.specs.Frame.{shapeFault};
+ghost use Rattle.answer.specs.Faults.{good};
+ghost use Rattle.checks.specs.Shapes.{shapeFault};
 ghost use Rattle.writer.specs.Made.{fieldBytes, headerFields};
-ghost use Rattle.writer.specs.Fields.{sum, pairs, widths};
-use crate::bytes;
-use shapes::Shape;
+ghost use Rattle.writer.specs.Fields.{pairs, Fitting, Axis, Count, Header, HeaderRoom};
+use crate::put;
+use checks::shapes;
+use layout::Shape;
+
+// Where the first axis stands.
+const FIRST: u64 = image::HEADER as u64;
 
 // Numbers of these widths, one after the other.
 fn put_fields(out: &mut [u8], widths: &[usize], fields: &[u64])
-    requires { ⌜ (length (now widths) ≡ length (now fields)) × (sum (now widths) ≤ length (now out)) ⌝ }
+    requires { ⌜ Fitting (now widths) (now fields) (length (now out)) ⌝ }
     ensures { λ _. ⌜ now (out .exit) ≡ sets (now (out .entry)) 0 (fieldBytes (pairs (now (widths .entry)) (now (fields .entry)))) ⌝ }
 {
     let mut at: usize = 0;
@@ -23,7 +25,7 @@ fn put_fields(out: &mut [u8], widths: &[usize], fields: &[u64])
     while k < widths.len() {
         let width = widths[k];
         let field = fields[k];
-        bytes::put_word(out, at, width, field);
+        put::put_word(out, at, width, field);
         at = at + width;
         k += 1;
     }
@@ -31,8 +33,8 @@ fn put_fields(out: &mut [u8], widths: &[usize], fields: &[u64])
 
 // An axis's count, 0 where there is no such axis.
 fn count_in(shape: Shape, axis: usize) -> u64
-    requires { ⌜ (good (shapeFault shape) ≡ true) × (axis < 4) ⌝ }
-    ensures { λ r. ⌜ (r ≡ getD (countsOf shape) axis 0) × (r ≤ 64) ⌝ }
+    requires { ⌜ Axis shape axis ⌝ }
+    ensures { λ r. ⌜ Count shape axis r ⌝ }
 {
     let counts = shape.counts;
     if axis < shape.axes {
@@ -49,20 +51,21 @@ fn offset_in(shape: Shape, axis: usize, at: u64) -> u64
     if axis < shape.axes { at } else { 0 }
 }
 
+// The fourteen fields.
 fn header_fields(shape: Shape) -> [u64; 14]
     requires { ⌜ good (shapeFault shape) ≡ true ⌝ }
-    ensures { λ r. ⌜ (length r ≡ 14) × (pairs widths r ≡ headerFields shape) ⌝ }
+    ensures { λ r. ⌜ Header shape r ⌝ }
 {
     let count0 = count_in(shape, 0);
     let count1 = count_in(shape, 1);
     let count2 = count_in(shape, 2);
     let count3 = count_in(shape, 3);
-    let at1 = 40 + 8 * count0;
+    let at1 = FIRST + 8 * count0;
     let at2 = at1 + 8 * count1;
     let at3 = at2 + 8 * count2;
     let end = at3 + 8 * count3;
     let held = shapes::sizes(shape);
-    let offset0 = offset_in(shape, 0, 40);
+    let offset0 = offset_in(shape, 0, FIRST);
     let offset1 = offset_in(shape, 1, at1);
     let offset2 = offset_in(shape, 2, at2);
     let offset3 = offset_in(shape, 3, at3);
@@ -86,8 +89,9 @@ fn header_fields(shape: Shape) -> [u64; 14]
     ]
 }
 
+// Puts the header into the front of an output.
 pub(crate) fn put_header(shape: Shape, out: &mut [u8])
-    requires { ⌜ (good (shapeFault shape) ≡ true) × (40 ≤ length (now out)) ⌝ }
+    requires { ⌜ HeaderRoom shape (length (now out)) ⌝ }
     ensures { λ _. ⌜ now (out .exit) ≡ sets (now (out .entry)) 0 (fieldBytes (headerFields shape)) ⌝ }
 {
     let widths = [1usize, 1, 2, 4, 2, 2, 2, 2, 4, 4, 4, 4, 4, 4];

@@ -4,7 +4,6 @@ use Rattle.answer.specs.Answer.{refused}
 use Rattle.answer.proofs.refuse.Statement.{statement}
 use Rattle.answer.proofs.refuse.Tie as tie
 
--- src/lib.rt:13:1
 returns : tie.Need-returns
 unfolding refused ofBits
 returns c = refl

@@ -3,7 +3,6 @@ use Rattle.answer.specs.Answer.{answered}
 use Rattle.answer.proofs.succeed.Statement.{statement}
 use Rattle.answer.proofs.succeed.Tie as tie
 
--- src/lib.rt:25:1
 returns : tie.Need-returns
 unfolding answered
 returns c = refl

@@ -21,18 +21,12 @@ only-nan (inf true) e = clash e
 only-nan (inf false) e = clash e
 only-nan (fin s m d) e = clash (sym (eq-refl (fin s m d) refl) ∙ e)
 
--- src/lib.rt:30:9
 float-to-bits-result : tie.Need-float-to-bits-result
 float-to-bits-result c = subst (λ (b : Bool). T (not b)) (sym (no-nan (c .before .args .x) (c .if1 .taken))) tt
 
--- src/lib.rt:26:1
-returns : tie.Need-returns
-returns c = search needs
-
--- src/lib.rt:26:1
 returns-2 : tie.Need-returns-2
 unfolding toBits
 returns-2 c = ap (toBits binary64) (sym (only-nan (c .before .args .x) (c .if1 .left)))
 
 pub bits-of-float-spec : {M : Type 1} → statement M
-bits-of-float-spec = tie.close (tie.spec float-to-bits-result returns returns-2)
+bits-of-float-spec = tie.close (tie.spec float-to-bits-result (λ c. search needs) returns-2)

@@ -18,17 +18,11 @@ zero-over-zero : div binary64 (ofBits binary64 0) (ofBits binary64 0) ≡ nan
 unfolding div ofBits
 zero-over-zero = refl
 
--- src/lib.rt:53:9
 float-from-bits-result : tie.Need-float-from-bits-result
 float-from-bits-result c = subst (λ (b : Bool). T (not b)) (sym (nanBits-above binary64 (c .before .args .bits) ∙ le-ltb _ _ (c .if1 .left))) tt
 
--- src/lib.rt:47:1
 returns : tie.Need-returns
 returns c = zero-over-zero ∙ sym (is-nan (ofBits binary64 (c .before .args .bits)) (sym (nanBits-is binary64 (c .before .args .bits)) ∙ nanBits-above binary64 (c .before .args .bits) ∙ lt-ltb _ _ (c .if1 .taken)))
 
--- src/lib.rt:47:1
-returns-2 : tie.Need-returns-2
-returns-2 c = search needs
-
 pub float-of-bits-spec : {M : Type 1} → statement M
-float-of-bits-spec = tie.close (tie.spec float-from-bits-result returns returns-2)
+float-of-bits-spec = tie.close (tie.spec float-from-bits-result returns (λ c. search needs))

@@ -1,11 +1,9 @@
 use mathlib.Core.Path.{refl}
-use Prim.Native.Nat.{_-_}
 use lib.Ieee.{ofBits}
 use Rattle.blend.specs.Blend.{blended}
 use Rattle.blend.proofs.blend.Statement.{statement}
 use Rattle.blend.proofs.blend.Tie as tie
 
--- src/lib.rt:17:1
 returns : tie.Need-returns
 unfolding blended ofBits
 returns c = refl

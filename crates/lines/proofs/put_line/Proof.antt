@@ -11,11 +11,6 @@ use borrow.Author.Needs.{needs}
 use Rattle.lines.proofs.put_line.Statement.{statement}
 use Rattle.lines.proofs.put_line.Tie as tie
 
--- src/lib.rt:51:9
-within-requires : tie.Need-within-requires
-within-requires c κs = search needs
-
--- src/lib.rt:52:9
 returns : tie.Need-returns
 returns c =
     let w = c .before in
@@ -31,15 +26,9 @@ room c = let a = c .before .before .before .args in leb-true (a .at + longest) (
 small : (c : tie.After-struct-known) → length (lineOf (c .before .before .before .before .args .a)) ≤ longest
 small c = let a = c .before .before .before .before .args .a in line-fits a (omega arith) (omega arith) (omega arith)
 
--- src/lib.rt:55:9
 put-ok-requires : tie.Need-put-ok-requires
 put-ok-requires c κs = omega (arith, room (c .before .before .before))
 
--- src/lib.rt:57:16
-cast-put-no : tie.Need-cast-put-no
-cast-put-no c = search needs
-
--- src/lib.rt:57:9
 put-no-requires : tie.Need-put-no-requires
 put-no-requires c κs =
     let no = c .before .before in
@@ -47,11 +36,6 @@ put-no-requires c κs =
     let a = known .before .before .before .before .args .a in
     omega (arith, room (known .before), no-length (a .number) (a .axis) (a .place), ap length (line-no a (no .if2 .left)), small known)
 
--- src/lib.rt:47:1
-same-length : tie.Need-same-length
-same-length c = search needs
-
--- src/lib.rt:47:1
 returns-2 : tie.Need-returns-2
 returns-2 c =
     let w = c .before .before in
@@ -59,11 +43,6 @@ returns-2 c =
     let st = ok .before .before .before .before .before in
     line-put (st .args .a) (st .args .out .now) (st .args .at) (fits (ok .before .before)) (small (ok .before)) (rw (line-ok (st .args .a) (ok .if2 .taken)) (w .put-ok .ensures))
 
--- src/lib.rt:47:1
-same-length-2 : tie.Need-same-length-2
-same-length-2 c = search needs
-
--- src/lib.rt:47:1
 returns-3 : tie.Need-returns-3
 returns-3 c =
     let w = c .before .before in
@@ -75,12 +54,12 @@ pub put-line-spec : {M : Type 1} → statement M
 put-line-spec =
     tie.close
     (tie.spec
-    within-requires
+    (λ c κs. search needs)
     returns
     put-ok-requires
-    cast-put-no
+    (λ c. search needs)
     put-no-requires
-    same-length
+    (λ c. search needs)
     returns-2
-    same-length-2
+    (λ c. search needs)
     returns-3)

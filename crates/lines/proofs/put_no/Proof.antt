@@ -7,43 +7,6 @@ use borrow.Author.Needs.{needs}
 use Rattle.lines.proofs.put_no.Statement.{statement}
 use Rattle.lines.proofs.put_no.Tie as tie
 
--- src/lib.rt:37:29
-slice-aggregate-put-bytes : tie.Need-slice-aggregate-put-bytes
-slice-aggregate-put-bytes c = search needs
-
--- src/lib.rt:37:9
-put-bytes-requires : tie.Need-put-bytes-requires
-put-bytes-requires c κs = search needs
-
--- src/lib.rt:38:9
-put-decimal-requires : tie.Need-put-decimal-requires
-put-decimal-requires c κs = search needs
-
--- src/lib.rt:39:9
-put-byte-requires : tie.Need-put-byte-requires
-put-byte-requires c κs = search needs
-
--- src/lib.rt:40:9
-put-decimal-requires-2 : tie.Need-put-decimal-requires-2
-put-decimal-requires-2 c κs = search needs
-
--- src/lib.rt:41:9
-put-byte-requires-2 : tie.Need-put-byte-requires-2
-put-byte-requires-2 c κs = search needs
-
--- src/lib.rt:42:9
-put-decimal-requires-3 : tie.Need-put-decimal-requires-3
-put-decimal-requires-3 c κs = search needs
-
--- src/lib.rt:43:5
-put-byte-requires-3 : tie.Need-put-byte-requires-3
-put-byte-requires-3 c κs = search needs
-
--- src/lib.rt:33:1
-same-length : tie.Need-same-length
-same-length c = search needs
-
--- src/lib.rt:33:1
 returns : tie.Need-returns
 unfolding noLine
 returns c =
@@ -65,13 +28,13 @@ pub put-no-spec : {M : Type 1} → statement M
 put-no-spec =
     tie.close
     (tie.spec
-    slice-aggregate-put-bytes
-    put-bytes-requires
-    put-decimal-requires
-    put-byte-requires
-    put-decimal-requires-2
-    put-byte-requires-2
-    put-decimal-requires-3
-    put-byte-requires-3
-    same-length
+    (λ c. search needs)
+    (λ c κs. search needs)
+    (λ c κs. search needs)
+    (λ c κs. search needs)
+    (λ c κs. search needs)
+    (λ c κs. search needs)
+    (λ c κs. search needs)
+    (λ c κs. search needs)
+    (λ c. search needs)
     returns)

@@ -14,11 +14,9 @@ there at n len h = go (leb n (len - at)) (leb-true n (len - at)) (leb-false n (l
     go true p q = sym (le-leb (at + n) len (omega (arith, p refl)))
     go false p q = sym (lt-leb (at + n) len (omega (arith, q refl)))
 
--- src/lib.rt:18:1
 returns : tie.Need-returns
 returns c = there (c .before .args .at) (c .before .args .n) (c .before .args .len) (c .if1 .taken)
 
--- src/lib.rt:18:1
 returns-2 : tie.Need-returns-2
 returns-2 c = let a = c .before .args in lt-leb (a .at) (a .len) (c .if1 .left) ∙ sym (lt-leb (a .at + a .n) (a .len) (omega (arith, c .if1 .left)))
 

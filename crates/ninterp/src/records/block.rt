@@ -2,17 +2,15 @@
 ghost use mathlib.Core.Path.{_≡_};
 ghost use Prim.Native.Nat.{_+_, _≤_};
 ghost use lib.ListN.{length};
-ghost use Rattle.shapes.specs.Shape.{countsOf};
-ghost use Rattle.spacing.specs.Uniform.{axesUniformFault};
 ghost use Rattle.lines.specs.Line.{lineOf, longest};
 ghost use Rattle.lines.specs.Put.{Wrote};
 ghost use Rattle.lines.specs.Stream.{Block};
-ghost use Rattle.input.specs.Input.{recordSize};
-ghost use Rattle.ninterp.specs.Records.{recordAnswer, recordRule};
-ghost use Rattle.ninterp.specs.Kinds.{tableFault};
+ghost use Rattle.ninterp.specs.Records.{recordSize, recordAnswer, recordRule};
+ghost use Rattle.ninterp.specs.Kernels.{Known};
 use crate::records;
-use answer::Answer;
-use shapes::Shape;
+use answer::Fault;
+use checks::table;
+use layout::Shape;
 
 // How many records were answered, and how many bytes their lines have.
 pub struct Done {
@@ -25,15 +23,16 @@ fn put_answer(
     shape: Shape,
     nodes: &[f64],
     values: &[f64],
-    table: Answer,
-    uniform: Answer,
+    table: Fault,
+    uniform: Fault,
     rec: &[u8],
     out: &mut [u8],
     to: usize,
 ) -> usize
-    requires { ⌜ (table ≡ tableFault shape (now nodes) (now values)) × ((uniform ≡ axesUniformFault (countsOf shape) (now nodes)) × (recordSize shape ≤ length (now rec))) ⌝ }
-    requires { ⌜ to + longest ≤ length (now out) ⌝ }
-    ensures { λ r. ⌜ Wrote (now (out .entry)) to (lineOf (recordAnswer shape (now (nodes .entry)) (now (values .entry)) (now (rec .entry)))) (now (out .exit)) r ⌝ }
+    requires { ⌜ Known shape (now nodes) (now values) table uniform ⌝ }
+    requires { ⌜ (recordSize shape ≤ length (now rec)) × (to + longest ≤ length (now out)) ⌝ }
+    ensures { λ r. ⌜ Wrote (now (out .entry)) to
+        (lineOf (recordAnswer shape (now (nodes .entry)) (now (values .entry)) (now (rec .entry)))) (now (out .exit)) r ⌝ }
     ensures { λ r. ⌜ r ≤ to + longest ⌝ }
 {
     let a = records::whole_answer(shape, nodes, values, table, uniform, rec);
@@ -45,15 +44,17 @@ fn answer_records(
     shape: Shape,
     nodes: &[f64],
     values: &[f64],
-    table: Answer,
-    uniform: Answer,
+    table: Fault,
+    uniform: Fault,
     size: usize,
     records: &[u8],
     most: usize,
     out: &mut [u8],
 ) -> Done
-    requires { ⌜ (table ≡ tableFault shape (now nodes) (now values)) × ((uniform ≡ axesUniformFault (countsOf shape) (now nodes)) × (size ≡ recordSize shape)) ⌝ }
-    ensures { λ r. ⌜ Block (recordRule shape (now (nodes .entry)) (now (values .entry))) most (now (records .entry)) (now (out .entry)) (now (out .exit)) (r .count) (r .written) ⌝ }
+    requires { ⌜ Known shape (now nodes) (now values) table uniform ⌝ }
+    requires { ⌜ size ≡ recordSize shape ⌝ }
+    ensures { λ r. ⌜ Block (recordRule shape (now (nodes .entry)) (now (values .entry))) most (now (records .entry))
+        (now (out .entry)) (now (out .exit)) (r .count) (r .written) ⌝ }
 {
     let mut count: usize = 0;
     let mut at: usize = 0;
@@ -83,16 +84,17 @@ pub fn answer_block(
     most: usize,
     out: &mut [u8],
 ) -> Done
-    ensures { λ r. ⌜ Block (recordRule shape (now (nodes .entry)) (now (values .entry))) most (now (records .entry)) (now (out .entry)) (now (out .exit)) (r .count) (r .written) ⌝ }
+    ensures { λ r. ⌜ Block (recordRule shape (now (nodes .entry)) (now (values .entry))) most (now (records .entry))
+        (now (out .entry)) (now (out .exit)) (r .count) (r .written) ⌝ }
 {
-    if !input::is_whole(shape, records.len()) {
+    if !records::is_whole(shape, records.len()) {
         return Done {
             count: 0,
             written: 0,
         };
     }
-    let table = records::table_fault(shape, nodes, values);
-    let uniform = spacing::axes_uniform_fault(shape, nodes);
+    let table = records::whole_table_fault(shape, nodes, values);
+    let uniform = table::axes_uniform_fault(shape, nodes);
     let size = 1 + 8 * shape.axes;
     answer_records(
         shape,

@@ -1,5 +1,5 @@
-use Rattle.shapes.specs.Shape.{countsOf, size, total}
-use Rattle.shapes.proofs.Frames.{shape-size, holds-nodes, holds-values}
+use Rattle.layout.specs.Shape.{countsOf, size, total}
+use Rattle.checks.proofs.shapes.Frames.{shape-size, holds-nodes, holds-values}
 use Rattle.image.proofs.Floats.{total-small}
 use Rattle.writer.specs.Made.{imageLength, valuesAt}
 use mathlib.Core.Path.{_≡_}
@@ -18,31 +18,22 @@ values c = holds-values _ (c .before .pre) _ (c .sizes .ensures)
 small : (c : tie.After-sizes) → (c .sizes .result .nodes ≤ 256) × (c .sizes .result .values ≤ 4096)
 small c = (omega (arith, nodes c, total-small _ (c .before .pre)), omega (arith, values c, shape-size _ (c .before .pre)))
 
--- src/lib.rt:30:9
-sizes-requires : tie.Need-sizes-requires
-sizes-requires c κs = search needs
-
--- src/lib.rt:31:10
 mul-result : tie.Need-mul-result
 mul-result c = omega (arith, small (c .before) .0)
 
--- src/lib.rt:31:5
 add-result : tie.Need-add-result
 add-result c = omega (arith, small (c .before) .0)
 
--- src/lib.rt:31:27
 mul-result-2 : tie.Need-mul-result-2
 mul-result-2 c = omega (arith, small (c .before .before) .1)
 
--- src/lib.rt:31:5
 add-result-2 : tie.Need-add-result-2
 add-result-2 c = omega (arith, small (c .before .before) .0, small (c .before .before) .1)
 
--- src/lib.rt:26:1
 returns : tie.Need-returns
 unfolding imageLength valuesAt
 returns c = omega (arith, nodes (c .before .before), values (c .before .before))
 
 pub image-length-spec : {M : Type 1} → statement M
 image-length-spec =
-    tie.close (tie.spec sizes-requires mul-result add-result mul-result-2 add-result-2 returns)
+    tie.close (tie.spec (λ c κs. search needs) mul-result add-result mul-result-2 add-result-2 returns)

@@ -1,4 +1,4 @@
-//! The fixed whole runs, each an image and records together, that `crates/whole` runs.
+//! The fixed whole runs, each an image and records together, that `crates/test_whole` runs.
 
 mod answered;
 mod contents;

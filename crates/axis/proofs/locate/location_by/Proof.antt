@@ -5,12 +5,6 @@ use borrow.Author.Needs.{needs}
 use Rattle.axis.proofs.locate.location_by.Statement.{statement}
 use Rattle.axis.proofs.locate.location_by.Tie as tie
 
-uniform-location-requires : tie.Need-uniform-location-requires
-uniform-location-requires c κs = search needs
-
-axis-location-requires : tie.Need-axis-location-requires
-axis-location-requires c κs = search needs
-
 returns : tie.Need-returns
 unfolding ofBits
 returns c = location-none _ _ _ (c .if1 .taken)
@@ -22,4 +16,4 @@ returns-3 : tie.Need-returns-3
 returns-3 c = location-some _ _ _ (c .before .before .if1 .left) false (c .before .if2 .left) _ (c .axis-location .ensures)
 
 pub location-by-spec : {M : Type 1} → statement M
-location-by-spec = tie.close (tie.spec returns uniform-location-requires axis-location-requires returns-2 returns-3)
+location-by-spec = tie.close (tie.spec returns (λ c κs. search needs) (λ c κs. search needs) returns-2 returns-3)

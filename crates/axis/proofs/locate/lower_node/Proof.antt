@@ -4,12 +4,6 @@ use Rattle.axis.specs.Locations.{locationIndex}
 use Rattle.axis.proofs.locate.lower_node.Statement.{statement}
 use Rattle.axis.proofs.locate.lower_node.Tie as tie
 
-enum-known-location : tie.Need-enum-known-location
-enum-known-location c = search needs
-
-enum-known-location-2 : tie.Need-enum-known-location-2
-enum-known-location-2 c = search needs
-
 returns : tie.Need-returns
 returns c = sym (ap locationIndex (c .before .location .given .1))
 
@@ -17,4 +11,4 @@ returns-2 : tie.Need-returns-2
 returns-2 c = sym (ap locationIndex (c .before .location2 .given .1))
 
 pub lower-node-spec : {M : Type 1} → statement M
-lower-node-spec = tie.close (tie.spec enum-known-location enum-known-location-2 returns returns-2)
+lower-node-spec = tie.close (tie.spec (λ c. search needs) (λ c. search needs) returns returns-2)

@@ -3,30 +3,13 @@ use Prim.Native.Nat.{ℕ, _+_, _<_}
 use native.Mathlib.Omega.{arith}
 use lib.ListN.{length}
 use denote.Ref.{now}
-use Rattle.judge.specs.Check.{node, gap}
+use Rattle.checks.specs.Nodes.{node, gap}
 use Rattle.axis.specs.Locations.{uniformBetween, uniformLocation}
 use Rattle.axis.proofs.Located.{uniform-index-fits}
 use borrow.Author.Needs.{needs}
 use Rattle.axis.proofs.locate.uniform_location.Statement.{statement}
 use Rattle.axis.proofs.locate.uniform_location.Tie as tie
 
--- src/locate.rt:57:16
-shared-slice-read-step : tie.Need-shared-slice-read-step
-shared-slice-read-step c = search needs
-
--- src/locate.rt:57:26
-shared-slice-read-step-2 : tie.Need-shared-slice-read-step-2
-shared-slice-read-step-2 c = search needs
-
--- src/locate.rt:58:40
-shared-slice-read-uniform-index : tie.Need-shared-slice-read-uniform-index
-shared-slice-read-uniform-index c = search needs
-
--- src/locate.rt:58:9
-uniform-index-requires : tie.Need-uniform-index-requires
-uniform-index-requires c κs = search needs
-
--- src/locate.rt:59:25
 abbrev start : tie.After-uniform-index → tie.Start
 start a = a .before .before .before .before .before
 
@@ -37,11 +20,9 @@ fits a = omega (arith, a .uniform-index .ensures, uniform-index-fits (node (now 
 mul-frac : tie.Need-mul-frac
 mul-frac c = let h = fits c in search (needs, h)
 
--- src/locate.rt:59:25
 shared-slice-read-frac : tie.Need-shared-slice-read-frac
 shared-slice-read-frac c = omega (arith, fits (c .before))
 
--- src/locate.rt:53:1
 returns : tie.Need-returns
 unfolding uniformLocation gap
 returns c = let a = c .before in ap (λ (k : ℕ). uniformBetween (now (start a .args .grid)) k (start a .args .point)) (a .uniform-index .ensures)
@@ -50,10 +31,10 @@ pub uniform-location-spec : {M : Type 1} → statement M
 uniform-location-spec =
     tie.close
     (tie.spec
-    shared-slice-read-step
-    shared-slice-read-step-2
-    shared-slice-read-uniform-index
-    uniform-index-requires
+    (λ c. search needs)
+    (λ c. search needs)
+    (λ c. search needs)
+    (λ c κs. search needs)
     mul-frac
     shared-slice-read-frac
     returns)

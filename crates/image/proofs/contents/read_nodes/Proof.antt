@@ -1,79 +1,70 @@
-use mathlib.Core.Bool.{true}
-use lib.Seq.{sets, length-sets}
-use Rattle.answer.specs.Answer.{good}
-use Rattle.shapes.specs.Shape.{countsOf, total}
-use Rattle.shapes.specs.Frame.{shapeFault}
-use Rattle.image.specs.Image.{floatsAt, nodesFrom, nodesIn}
-use Rattle.headers.specs.Fields.{axesField, shapeOf}
-use Rattle.image.proofs.Floats.{nodes-total, nodes-length, nodes-step, nodes-end}
 use mathlib.Core.Path.{_≡_, refl, sym, ap, _∙_}
-use mathlib.Core.List.{List}
 use Prim.Native.Nat.{ℕ, _+_, _-_, _≤_}
 use native.Mathlib.Omega.{arith}
-use lib.ListN.{length}
-use denote.Ref.{now}
 use borrow.Author.Needs.{needs}
+use denote.Ref.{now}
+use lib.ListN.{length}
+use lib.Seq.{sets, length-sets}
+use Rattle.layout.specs.Shape.{countsOf, total}
+use Rattle.image.specs.Image.{floatsAt, nodesFrom, nodesIn}
+use Rattle.image.specs.Fields.{countField, shapeOf}
+use Rattle.image.proofs.Floats.{axes-four, nodes-total, nodes-length, nodes-step, nodes-end, Reading}
 use Rattle.image.proofs.contents.read_nodes.Statement.{statement}
 use Rattle.image.proofs.contents.read_nodes.Tie as tie
 
 abbrev Inv-loop : tie.InvT-loop
-Inv-loop img out₀ axes to₀ a₀ out to a = ((a ≤ axes) × (length out ≡ length out₀)) × ((to + length (nodesFrom img a (axes - a)) ≤ length out₀) × (sets out to (nodesFrom img a (axes - a)) ≡ sets out₀ 0 (nodesFrom img 0 axes)))
+Inv-loop img out₀ axes to₀ a₀ out to a = Reading img axes out₀ out to a
 
 abbrev μ-loop : tie.MeasureT-loop
 μ-loop img out₀ axes to₀ a₀ out to a = axes - a
 
-whole : (img : List ℕ) → good (shapeFault (shapeOf img)) ≡ true → length (nodesFrom img 0 (axesField img)) ≡ total (countsOf (shapeOf img))
-unfolding nodesIn
-whole img h = nodes-total img h
+abbrev start : tie.In-loop Inv-loop μ-loop → tie.Start Inv-loop μ-loop
+start w = w .before .before .before .before .before
 
--- src/contents.rt:33:9
-axes-of-requires : tie.Need-axes-of-requires Inv-loop μ-loop
-axes-of-requires c κs = search needs
+-- what is left has one axis more than what is left after it
+longer : (w : tie.In-loop Inv-loop μ-loop) → length (nodesFrom (now (start w .args .img)) (w .before .loop .a) (w .before .before .axes-of .result - w .before .loop .a))
+    ≡ countField (now (start w .args .img)) (w .before .loop .a) + length (nodesFrom (now (start w .args .img)) (w .before .loop .a + 1) (w .before .before .axes-of .result - (w .before .loop .a + 1)))
+longer w = nodes-length (now (start w .args .img)) (w .before .before .axes-of .result) (w .before .loop .a) (w .loop-test .taken)
 
--- src/contents.rt:36:5
+few : (w : tie.In-loop Inv-loop μ-loop) → w .before .loop .a ≤ 4
+few w = omega (arith, w .loop-test .taken, w .before .before .axes-of .ensures .is, axes-four _ (start w .pre .judged))
+
 loop-holds : tie.Need-loop-holds Inv-loop μ-loop
+unfolding nodesIn
 loop-holds c =
     let s = c .before .before .before in
     let e : c .axes-of .result - 0 ≡ c .axes-of .result = omega arith in
-    let n : length (nodesFrom (now (s .args .img)) 0 (c .axes-of .result - 0)) ≡ total (countsOf (shapeOf (now (s .args .img)))) = ap (λ (k : ℕ). length (nodesFrom (now (s .args .img)) 0 k)) (e ∙ c .axes-of .ensures .0) ∙ whole (now (s .args .img)) (s .pre .0) in
-    ((omega arith, refl), (omega (arith, n, s .pre .1), ap (λ (k : ℕ). sets (now (s .args .out)) 0 (nodesFrom (now (s .args .img)) 0 k)) e))
+    let n : length (nodesFrom (now (s .args .img)) 0 (c .axes-of .result - 0)) ≡ total (countsOf (shapeOf (now (s .args .img)))) =
+    ap (λ (k : ℕ). length (nodesFrom (now (s .args .img)) 0 k)) (e ∙ c .axes-of .ensures .is) ∙ nodes-total (now (s .args .img)) (s .pre .judged) in
+    record {
+      on = omega arith;
+      same = refl;
+      fits = omega (arith, n, s .pre .nodes-room);
+      left = ap (λ (k : ℕ). sets (now (s .args .out)) 0 (nodesFrom (now (s .args .img)) 0 k)) e;
+    }
 
--- src/contents.rt:37:13
 count-of-requires : tie.Need-count-of-requires Inv-loop μ-loop
-count-of-requires c κs = search needs
+count-of-requires c κs = few c
 
--- src/contents.rt:38:13
 offset-of-requires : tie.Need-offset-of-requires Inv-loop μ-loop
-offset-of-requires c κs = search needs
+offset-of-requires c κs = few (c .before)
 
--- src/contents.rt:39:9
 read-floats-requires : tie.Need-read-floats-requires Inv-loop μ-loop
 read-floats-requires c κs =
     let o = c .before in
     let n = o .before in
     let w = n .before in
-    let l = w .before in
-    let s = l .before .before .before .before in
-    ((o .offset-of .ensures .1, n .count-of .ensures .1), omega (arith, n .count-of .ensures .0, nodes-length (now (s .args .img)) (l .before .axes-of .result) (l .loop .a) (w .loop-test .taken), l .loop .inv .1 .0, l .loop .inv .0 .1))
+    let i = w .before .loop .inv in
+    record {
+      area = record { near = o .offset-of .ensures .below; few = n .count-of .ensures .below };
+      inside = omega (arith, n .count-of .ensures .is, longer w, i .fits, i .same);
+    }
 
--- src/contents.rt:40:14
 add-to : tie.Need-add-to Inv-loop μ-loop
 add-to c =
     let n = c .before .before .before .before .before in
-    let w = n .before in
-    let l = w .before in
-    let s = l .before .before .before .before in
-    omega (arith, n .count-of .ensures .0, nodes-length (now (s .args .img)) (l .before .axes-of .result) (l .loop .a) (w .loop-test .taken), l .loop .inv .1 .0)
+    omega (arith, n .count-of .ensures .is, longer (n .before), n .before .before .loop .inv .fits)
 
--- src/contents.rt:41:9
-add-a : tie.Need-add-a Inv-loop μ-loop
-add-a c = search needs
-
--- src/contents.rt:36:5
-loop-less : tie.Need-loop-less Inv-loop μ-loop
-loop-less c = search needs
-
--- src/contents.rt:36:5
 loop-again : tie.Need-loop-again Inv-loop μ-loop
 loop-again c =
     let z = c .before .before in
@@ -81,29 +72,27 @@ loop-again c =
     let n = o .before in
     let w = n .before in
     let l = w .before in
-    let s = l .before .before .before .before in
-    let len = nodes-length (now (s .args .img)) (l .before .axes-of .result) (l .loop .a) (w .loop-test .taken) in (
-      (omega (arith, w .loop-test .taken), ap length (z .read-floats .ensures) ∙ length-sets (l .loop .out) (l .loop .to) (floatsAt (now (s .args .img)) (o .offset-of .result) (n .count-of .result)) ∙ l .loop .inv .0 .1),
-      (
-        omega (arith, n .count-of .ensures .0, len, l .loop .inv .1 .0),
-        nodes-step (now (s .args .img)) (l .before .axes-of .result) (l .loop .a) (w .loop-test .taken) (l .loop .to) (n .count-of .result) (o .offset-of .result) (l .loop .out) _ (n .count-of .ensures .0) (o .offset-of .ensures .0) (z .read-floats .ensures)
-            ∙ l .loop .inv .1 .1,
-      ),
-    )
+    record {
+      on = omega (arith, w .loop-test .taken);
+      same = ap length (z .read-floats .ensures) ∙ length-sets (l .loop .out) (l .loop .to) (floatsAt (now (start w .args .img)) (o .offset-of .result) (n .count-of .result)) ∙ l .loop .inv .same;
+      fits = omega (arith, n .count-of .ensures .is, longer w, l .loop .inv .fits);
+      left =
+          nodes-step (now (start w .args .img)) (l .before .axes-of .result) (l .loop .a) (w .loop-test .taken) (l .loop .to) (n .count-of .result) (o .offset-of .result) (l .loop .out) _
+          (n .count-of .ensures .is) (o .offset-of .ensures .is) (z .read-floats .ensures)
+          ∙ l .loop .inv .left;
+    }
 
--- src/contents.rt:29:1
 same-length : tie.Need-same-length Inv-loop μ-loop
-same-length c = c .before .loop .inv .0 .1
+same-length c = c .before .loop .inv .same
 
--- src/contents.rt:29:1
 returns : tie.Need-returns Inv-loop μ-loop
 unfolding nodesIn
 returns c =
     let l = c .before in
     let s = l .before .before .before .before in
     sym (nodes-end (now (s .args .img)) (l .before .axes-of .result) (l .loop .a) (l .loop .to) (l .loop .out) (c .loop-test .left))
-    ∙ l .loop .inv .1 .1
-    ∙ ap (λ (k : ℕ). sets (now (s .args .out)) 0 (nodesFrom (now (s .args .img)) 0 k)) (l .before .axes-of .ensures .0)
+    ∙ l .loop .inv .left
+    ∙ ap (λ (k : ℕ). sets (now (s .args .out)) 0 (nodesFrom (now (s .args .img)) 0 k)) (l .before .axes-of .ensures .is)
 
 pub read-nodes-spec : {M : Type 1} → statement M
 read-nodes-spec =
@@ -111,14 +100,14 @@ read-nodes-spec =
     (tie.spec
     Inv-loop
     μ-loop
-    axes-of-requires
+    (λ c κs. search needs)
     loop-holds
     count-of-requires
     offset-of-requires
     read-floats-requires
     add-to
-    add-a
-    loop-less
+    (λ c. search needs)
+    (λ c. search needs)
     loop-again
     same-length
     returns)

@@ -10,25 +10,17 @@ Inv-loop n left₀ k₀ left k = Counting n left k
 abbrev μ-loop : tie.MeasureT-loop
 μ-loop n left₀ k₀ left k = left
 
--- src/text.rt:57:5
 loop-holds : tie.Need-loop-holds Inv-loop μ-loop
 loop-holds c = count-start (c .args .n) (omega arith)
 
--- src/text.rt:59:9
 add-k : tie.Need-add-k Inv-loop μ-loop
 add-k c = omega (arith, count-small (c .before .loop .inv) (omega arith))
 
--- src/text.rt:57:5
-loop-less : tie.Need-loop-less Inv-loop μ-loop
-loop-less c = search needs
-
--- src/text.rt:57:5
 loop-again : tie.Need-loop-again Inv-loop μ-loop
 loop-again c = count-step (c .before .loop .inv) (c .loop-test .taken)
 
--- src/text.rt:52:1
 returns : tie.Need-returns Inv-loop μ-loop
 returns c = count-end (c .before .loop .inv) (c .loop-test .left)
 
 pub places-of-spec : {M : Type 1} → statement M
-places-of-spec = tie.close (tie.spec Inv-loop μ-loop loop-holds add-k loop-less loop-again returns)
+places-of-spec = tie.close (tie.spec Inv-loop μ-loop loop-holds add-k (λ c. search needs) loop-again returns)

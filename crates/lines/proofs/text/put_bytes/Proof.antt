@@ -16,31 +16,9 @@ Inv-loop src out₀ at i₀ out i = (i ≤ length src) × ((length out ≡ lengt
 abbrev μ-loop : tie.MeasureT-loop
 μ-loop src out₀ at i₀ out i = length src - i
 
--- src/text.rt:33:5
 loop-holds : tie.Need-loop-holds Inv-loop μ-loop
 loop-holds c = (omega arith, (refl, rw add-zero (wrote-none (c .args .out .now) (c .args .at))))
 
--- src/text.rt:34:23
-shared-slice-read-out : tie.Need-shared-slice-read-out Inv-loop μ-loop
-shared-slice-read-out c = search needs
-
--- src/text.rt:34:13
-add-out : tie.Need-add-out Inv-loop μ-loop
-add-out c = search needs
-
--- src/text.rt:34:9
-slice-write-out : tie.Need-slice-write-out Inv-loop μ-loop
-slice-write-out c = search needs
-
--- src/text.rt:35:9
-add-i : tie.Need-add-i Inv-loop μ-loop
-add-i c = search needs
-
--- src/text.rt:33:5
-loop-less : tie.Need-loop-less Inv-loop μ-loop
-loop-less c = search needs
-
--- src/text.rt:33:5
 loop-again : tie.Need-loop-again Inv-loop μ-loop
 loop-again c =
     let l = c .before .before in
@@ -48,15 +26,6 @@ loop-again c =
     let lt = c .before .loop-test .taken in
     (omega arith, (length-set (l .loop .out) (st .args .at + l .loop .i) _ ∙ l .loop .inv .1 .0, copy-step (st .args .src .now) (l .loop .i) lt (st .pre) (l .loop .inv .1 .1) refl))
 
--- src/text.rt:37:5
-add-result : tie.Need-add-result Inv-loop μ-loop
-add-result c = search needs
-
--- src/text.rt:28:1
-same-length : tie.Need-same-length Inv-loop μ-loop
-same-length c = search needs
-
--- src/text.rt:28:1
 returns : tie.Need-returns Inv-loop μ-loop
 returns c =
     let l = c .before in
@@ -70,12 +39,12 @@ put-bytes-spec =
     Inv-loop
     μ-loop
     loop-holds
-    shared-slice-read-out
-    add-out
-    slice-write-out
-    add-i
-    loop-less
+    (λ c. search needs)
+    (λ c. search needs)
+    (λ c. search needs)
+    (λ c. search needs)
+    (λ c. search needs)
     loop-again
-    add-result
-    same-length
+    (λ c. search needs)
+    (λ c. search needs)
     returns)

@@ -1,4 +1,4 @@
-use Rattle.input.proofs.Ends.{end-told}
+use Rattle.program.proofs.input.Ends.{end-told}
 use Rattle.lines.proofs.Feeds.{reached-end}
 use Rattle.ninterp.specs.Records.{recordRule}
 use mathlib.Core.Path.{refl}
@@ -7,15 +7,6 @@ use borrow.Author.Needs.{needs}
 use Rattle.lookup.proofs.feed.last.Statement.{statement}
 use Rattle.lookup.proofs.feed.last.Tie as tie
 
--- src/feed.rt:74:5
-finish-requires : tie.Need-finish-requires
-finish-requires c κs = search needs
-
--- src/feed.rt:60:1
-same-length : tie.Need-same-length
-same-length c = search needs
-
--- src/feed.rt:60:1
 returns : tie.Need-returns
 returns c =
     let w = c .before .before in
@@ -24,4 +15,4 @@ returns c =
     (reached-end (s .pre .1) (t .0), t .1)
 
 pub last-spec : {M : Type 1} → statement M
-last-spec = tie.close (tie.spec finish-requires same-length returns)
+last-spec = tie.close (tie.spec (λ c κs. search needs) (λ c. search needs) returns)

@@ -14,12 +14,6 @@ returns c =
     let a = t .before .before .before .before .args in
     c .interpolated .ensures ∙ found-linear (a .kind) (a .shape) (now (a .nodes)) (now (a .values)) (now (a .point)) (t .if1 .taken)
 
-pick-of-requires : tie.Need-pick-of-requires
-pick-of-requires c κs = search needs
-
-slice-aggregate-stored : tie.Need-slice-aggregate-stored
-slice-aggregate-stored c = search needs
-
 stored-requires : tie.Need-stored-requires
 stored-requires c κs =
     let s = c .before .before .before .before .before .before in
@@ -38,7 +32,7 @@ found-spec =
     (tie.spec
     interpolated-requires
     returns
-    pick-of-requires
-    slice-aggregate-stored
+    (λ c κs. search needs)
+    (λ c. search needs)
     stored-requires
     returns-2)

@@ -3,9 +3,6 @@ use borrow.Author.Needs.{needs}
 use Rattle.ninterp.proofs.records.pick_of.Statement.{statement}
 use Rattle.ninterp.proofs.records.pick_of.Tie as tie
 
-sub-result : tie.Need-sub-result
-sub-result c = search needs
-
 returns : tie.Need-returns
 returns c = kind-nearest (c .before .args .kind) (c .if1 .taken)
 
@@ -16,6 +13,6 @@ pub pick-of-spec : {M : Type 1} → statement M
 pick-of-spec =
     tie.close
     (tie.spec
-    sub-result
+    (λ c. search needs)
     returns
     returns-2)

@@ -1,9 +1,10 @@
-use mathlib.Core.Path.{sym, _∙_}
+use mathlib.Core.Path.{sym, ap, _∙_}
+use Rattle.answer.specs.Answer.{refused}
 use lib.ListN.{length}
 use Prim.Native.Nat.{_≤_}
 use denote.Ref.{now}
 use borrow.Author.Tests.{leb-true, not-true, not-false}
-use Rattle.input.specs.Input.{recordSize}
+use Rattle.ninterp.specs.Records.{recordSize}
 use Rattle.ninterp.proofs.KindOrder.{record-short, record-whole}
 use borrow.Author.Needs.{needs}
 use Rattle.ninterp.proofs.records.record_answer.Statement.{statement}
@@ -15,27 +16,15 @@ whole e =
     let a = e .before .before .before .before .before .args in
     leb-true (recordSize (a .shape)) (length (now (a .rec))) (sym (e .before .is-whole .ensures) ∙ not-false _ (e .if1 .left))
 
-is-whole-requires : tie.Need-is-whole-requires
-is-whole-requires c κs = search needs
-
-refuse-requires : tie.Need-refuse-requires
-refuse-requires c κs = search needs
-
 returns : tie.Need-returns
 returns c =
-    let t = c .before in
+    let t = c .before .before in
     let w = t .before in
     let a = w .before .before .before .before .args in
-    c .refuse .ensures ∙ record-short (a .shape) (now (a .nodes)) (now (a .values)) (now (a .rec)) (sym (w .is-whole .ensures) ∙ not-true _ (t .if1 .taken))
-
-table-fault-requires : tie.Need-table-fault-requires
-table-fault-requires c κs = search needs
-
-axes-uniform-fault-requires : tie.Need-axes-uniform-fault-requires
-axes-uniform-fault-requires c κs = search needs
+    c .refuse .ensures ∙ ap refused (c .before .refusal .ensures) ∙ record-short (a .shape) (now (a .nodes)) (now (a .values)) (now (a .rec)) (sym (w .is-whole .ensures) ∙ not-true _ (t .if1 .taken))
 
 whole-answer-requires : tie.Need-whole-answer-requires
-whole-answer-requires c κs = (c .before .table-fault .ensures, (c .axes-uniform-fault .ensures, whole (c .before .before)))
+whole-answer-requires c κs = (record { judged = c .before .whole-table-fault .ensures; spaced = c .axes-uniform-fault .ensures }, whole (c .before .before))
 
 returns-2 : tie.Need-returns-2
 returns-2 c =
@@ -47,10 +36,11 @@ pub record-answer-spec : {M : Type 1} → statement M
 record-answer-spec =
     tie.close
     (tie.spec
-    is-whole-requires
-    refuse-requires
+    (λ c κs. search needs)
+    (λ c κs. search needs)
+    (λ c κs. search needs)
     returns
-    table-fault-requires
-    axes-uniform-fault-requires
+    (λ c κs. search needs)
+    (λ c κs. search needs)
     whole-answer-requires
     returns-2)

@@ -11,19 +11,16 @@ returns c =
     let a = c .before .args in
     sym (when-true (eqb (a .kind) 1) (a .uniform) (eq-eqb (a .kind) 1 (c .if1 .taken)))
 
-pass-requires : tie.Need-pass-requires
-pass-requires c κs = search needs
-
 returns-2 : tie.Need-returns-2
 returns-2 c =
     let e = c .before in
     let a = e .before .args in
-    c .pass .ensures ∙ sym (when-false (eqb (a .kind) 1) (a .uniform) (ne-eqb (a .kind) 1 (e .if1 .left)))
+    c .no-fault .ensures ∙ sym (when-false (eqb (a .kind) 1) (a .uniform) (ne-eqb (a .kind) 1 (e .if1 .left)))
 
 pub uniform-row-spec : {M : Type 1} → statement M
 uniform-row-spec =
     tie.close
     (tie.spec
-    pass-requires
+    (λ c κs. search needs)
     returns
     returns-2)

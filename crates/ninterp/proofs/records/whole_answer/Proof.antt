@@ -1,7 +1,7 @@
 use mathlib.Core.Path.{_≡_, sym, ap, _∙_}
 use lib.ListN.{length, take}
 use denote.Ref.{now}
-use Rattle.shapes.proofs.Totals.{length-ids}
+use Rattle.layout.proofs.Totals.{length-ids}
 use Rattle.ninterp.specs.Records.{recordReadings}
 use Rattle.ninterp.proofs.KindOrder.{length-readings, read-four, read-enough, whole-refused, whole-table, whole-four, whole-found}
 use borrow.Author.Needs.{needs}
@@ -14,21 +14,12 @@ four s = length-ids (s .args .shape .counts) (s .good .0 .1 .1 .1 .0 .1 .0 .1)
 abbrev start : tie.After-kind-fault → tie.Start
 start f = f .before .before .before .before .before
 
-shared-slice-read-kind : tie.Need-shared-slice-read-kind
-shared-slice-read-kind c = search needs
-
-kind-fault-requires : tie.Need-kind-fault-requires
-kind-fault-requires c κs = search needs
-
 returns : tie.Need-returns
 returns c =
-    let f = c .before .before in
+    let f = c .before .before .before in
     let s = start f in
     let a = s .args in
-    whole-refused (a .shape) (four s) (now (a .nodes)) (now (a .values)) (now (a .rec)) (a .table) (a .uniform) (s .pre .0) (s .pre .1 .0) _ (f .kind-fault .ensures) (c .if1 .taken)
-
-readings-of-requires : tie.Need-readings-of-requires
-readings-of-requires c κs = search needs
+    whole-refused (a .shape) (four s) (now (a .nodes)) (now (a .values)) (now (a .rec)) (a .table) (a .uniform) (s .pre .0 .judged) (s .pre .0 .spaced) _ (f .kind-fault .ensures) (c .before .if1 .taken) _ (c .refuse .ensures)
 
 -- the readings of the table's axes
 own : (g : tie.After-readings-of) → take (start (g .before .before .before) .args .shape .axes) (g .readings-of .result)
@@ -39,7 +30,7 @@ own g =
     let s = start f in
     let a = s .args in
     read-four (a .shape) (now (a .rec)) (g .readings-of .result) (g .readings-of .ensures)
-    (whole-four (a .shape) (four s) (now (a .nodes)) (now (a .values)) (now (a .rec)) (a .table) (a .uniform) (s .pre .0) (s .pre .1 .0) _ (f .kind-fault .ensures) (e .if1 .left))
+    (whole-four (a .shape) (four s) (now (a .nodes)) (now (a .values)) (now (a .rec)) (a .table) (a .uniform) (s .pre .0 .judged) (s .pre .0 .spaced) _ (f .kind-fault .ensures) (e .if1 .left))
 
 array-share-prefix-readings : tie.Need-array-share-prefix-readings
 array-share-prefix-readings c =
@@ -59,7 +50,7 @@ point-answer-requires c κs =
     let f = e .before .before in
     let s = start f in
     let a = s .args in
-    (whole-table (a .shape) (four s) (now (a .nodes)) (now (a .values)) (now (a .rec)) (a .table) (a .uniform) (s .pre .0) (s .pre .1 .0) _ (f .kind-fault .ensures) (e .if1 .left), ap length (own g) ∙ length-readings (a .shape) (now (a .rec)))
+    (whole-table (a .shape) (four s) (now (a .nodes)) (now (a .values)) (now (a .rec)) (a .table) (a .uniform) (s .pre .0 .judged) (s .pre .0 .spaced) _ (f .kind-fault .ensures) (e .if1 .left), ap length (own g) ∙ length-readings (a .shape) (now (a .rec)))
 
 returns-2 : tie.Need-returns-2
 returns-2 c =
@@ -68,16 +59,17 @@ returns-2 c =
     let f = e .before .before in
     let s = start f in
     let a = s .args in
-    whole-found (a .shape) (four s) (now (a .nodes)) (now (a .values)) (now (a .rec)) (a .table) (a .uniform) (s .pre .0) (s .pre .1 .0) _ (f .kind-fault .ensures) (e .if1 .left) _ (own g) _ (c .point-answer .ensures)
+    whole-found (a .shape) (four s) (now (a .nodes)) (now (a .values)) (now (a .rec)) (a .table) (a .uniform) (s .pre .0 .judged) (s .pre .0 .spaced) _ (f .kind-fault .ensures) (e .if1 .left) _ (own g) _ (c .point-answer .ensures)
 
 pub whole-answer-spec : {M : Type 1} → statement M
 whole-answer-spec =
     tie.close
     (tie.spec
-    shared-slice-read-kind
-    kind-fault-requires
+    (λ c. search needs)
+    (λ c κs. search needs)
+    (λ c κs. search needs)
     returns
-    readings-of-requires
+    (λ c κs. search needs)
     array-share-prefix-readings
     slice-aggregate-point-answer
     point-answer-requires

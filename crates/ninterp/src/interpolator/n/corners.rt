@@ -1,22 +1,20 @@
 // The corners of a reading: where they lie in the flat values, what is stored there, and what it comes to.
 ghost use mathlib.Core.Path.{_≡_};
-ghost use Prim.Native.Nat.{ℕ, _+_, _*_, _^_, _<_, _≤_};
-ghost use lib.ListN.{length, take, drop, getD};
-ghost use lib.Ieee.{nan};
-ghost use Rattle.shapes.specs.Shape.{countsOf, size};
+ghost use Prim.Native.Nat.{_≤_};
+ghost use lib.ListN.{take};
+ghost use Rattle.layout.specs.Shape.{countsOf};
 ghost use Rattle.layout.specs.Layout.{table};
 ghost use Rattle.blend.specs.Blend.{linear, computed};
-ghost use Rattle.blend.specs.Rust.{diffs};
+ghost use Rattle.axis.specs.Locations.{locationBy, upperOf};
 ghost use Rattle.ninterp.specs.Tables.{Judged};
 ghost use Rattle.ninterp.specs.Linears.{interpolated};
-ghost use Rattle.axis.specs.Locations.{locationBy, locationIndex, upperOf};
-ghost use Rattle.blend.specs.declared.AxisLocation.the-variants.{Exact};
-ghost use Rattle.ninterp.specs.Locations.{Within, cornerPlace};
+ghost use Rattle.ninterp.specs.Kernels.{Cornered, Placeable, Blank, Placed, Spreadable, Spread, Gatherable, Gathered};
 use crate::interpolator::n::locations;
 use answer::Answer;
+use axis::AxisLocation;
 use axis::locate;
-use blend::AxisLocation;
-use shapes::Shape;
+use blend::fold;
+use layout::Shape;
 
 // The node of an exact axis, the upper one of any other.
 fn upper_node(location: AxisLocation) -> usize
@@ -31,9 +29,8 @@ fn upper_node(location: AxisLocation) -> usize
 
 // The places with one axis more: the first `count` on its lower node, as many more on its upper one.
 fn spread(places: &mut [usize], count: usize, low: usize, high: usize)
-    requires { ⌜ (count + count ≤ length (now places)) × ((low ≤ 4096) × (high ≤ 4096)) ⌝ }
-    requires { ⌜ ((i : ℕ) → i < count → getD (now places) i 0 ≤ 4096) ⌝ }
-    ensures { λ _. ⌜ ((i : ℕ) → i < count → (getD (now (places .exit)) i 0 ≡ getD (now (places .entry)) i 0 + low) × (getD (now (places .exit)) (i + count) 0 ≡ getD (now (places .entry)) i 0 + high)) ⌝ }
+    requires { ⌜ Spreadable (now places) count low high ⌝ }
+    ensures { λ _. ⌜ Spread (now (places .entry)) (now (places .exit)) count low high ⌝ }
 {
     let mut i: usize = 0;
     while i < count {
@@ -52,16 +49,17 @@ struct Rest {
     high: usize,
 }
 
-// The flat place of each corner of the axes after the first, by its number: from the last axis on, so that the lower half of an axis comes first.
+// The flat place of each corner of the axes after the first, by its number: from the last axis on, so that the lower half of an axis
+// comes first.
 fn rest_places(
     counts: [usize; 4],
     locations: [AxisLocation; 4],
     n: usize,
     places: &mut [usize],
 ) -> Rest
-    requires { ⌜ (n ≤ 4) × ((size (take n counts) ≤ 4096) × Within (take n locations) (take n counts)) ⌝ }
-    requires { ⌜ (length (now places) ≡ 16) × ((getD (now places) 0 0 ≡ 0) × (1 ≤ n)) ⌝ }
-    ensures { λ r. ⌜ (r .count ≡ 2 ^ length (diffs (drop 1 (take n locations)))) × (((r .low ≡ locationIndex (getD locations 0 (Exact 0)) * size (drop 1 (take n counts))) × (r .high ≡ upperOf (getD locations 0 (Exact 0)) * size (drop 1 (take n counts)))) × ((i : ℕ) → i < 2 ^ length (diffs (drop 1 (take n locations))) → getD (now (places .exit)) i 0 ≡ cornerPlace (drop 1 (take n counts)) (drop 1 (take n locations)) i)) ⌝ }
+    requires { ⌜ Placeable counts locations n ⌝ }
+    requires { ⌜ Blank (now places) ⌝ }
+    ensures { λ r. ⌜ Placed counts locations n (now (places .exit)) (r .count) (r .low) (r .high) ⌝ }
 {
     let mut count: usize = 1;
     let mut stride: usize = 1;
@@ -84,8 +82,8 @@ fn rest_places(
 
 // The values at so many places under one node of the first axis, and as many more under another.
 fn gather(values: &[f64], places: &[usize], count: usize, low: usize, high: usize) -> [f64; 16]
-    requires { ⌜ ((count + count ≤ 16) × (count ≤ length (now places))) × ((i : ℕ) → i < count → (getD (now places) i 0 + low < length (now values)) × (getD (now places) i 0 + high < length (now values))) ⌝ }
-    ensures { λ r. ⌜ ((i : ℕ) → i < count → (getD r i nan ≡ getD (now (values .entry)) (getD (now (places .entry)) i 0 + low) nan) × (getD r (i + count) nan ≡ getD (now (values .entry)) (getD (now (places .entry)) i 0 + high) nan)) ⌝ }
+    requires { ⌜ Gatherable (now values) (now places) count low high ⌝ }
+    ensures { λ r. ⌜ Gathered (now (values .entry)) (now (places .entry)) count low high r ⌝ }
 {
     let mut vals = [0.0f64; 16];
     let mut i: usize = 0;
@@ -99,10 +97,10 @@ fn gather(values: &[f64], places: &[usize], count: usize, low: usize, high: usiz
     vals
 }
 
-// What the corners come to: the value, or 12. The places are not spread over the first axis: the values are read under its two nodes at once, instead of
-// from places that were just put.
-fn compute(shape: Shape, values: &[f64], locations: [AxisLocation; 4]) -> Answer
-    requires { ⌜ (shape .axes ≤ 4) × ((size (countsOf shape) ≤ 4096) × (Within (take (shape .axes) locations) (countsOf shape) × ((length (now values) ≡ size (countsOf shape)) × (1 ≤ shape .axes)))) ⌝ }
+// What the corners come to: the value, or 12. The places are not spread over the first axis: the values are read under its two nodes at
+// once, instead of from places that were just put.
+fn corner_answer(shape: Shape, values: &[f64], locations: [AxisLocation; 4]) -> Answer
+    requires { ⌜ Cornered shape (now values) locations ⌝ }
     ensures { λ r. ⌜ r ≡ computed (linear (take (shape .axes) locations) (table (countsOf shape) (now (values .entry)))) ⌝ }
 {
     let axes = shape.axes;
@@ -112,7 +110,7 @@ fn compute(shape: Shape, values: &[f64], locations: [AxisLocation; 4]) -> Answer
     let rest = rest_places(counts, locations, axes, places);
     let corners: &[usize] = places;
     let vals = gather(values, corners, rest.count, rest.low, rest.high);
-    fold::compute(vals, locations, axes)
+    fold::fold_answer(vals, locations, axes)
 }
 
 // The same of a judged reading, by Linear's rule or by LinearUniform's.
@@ -124,8 +122,9 @@ pub(crate) fn interpolated(
     point: &[f64],
 ) -> Answer
     requires { ⌜ Judged shape (now nodes) (now values) (now point) ⌝ }
-    ensures { λ r. ⌜ r ≡ computed (interpolated (locationBy uniform) (countsOf shape) (now (nodes .entry)) (now (values .entry)) (now (point .entry))) ⌝ }
+    ensures { λ r. ⌜ r ≡ computed (interpolated (locationBy uniform) (countsOf shape)
+        (now (nodes .entry)) (now (values .entry)) (now (point .entry))) ⌝ }
 {
     let locations = locations::all(uniform, shape, nodes, point);
-    compute(shape, values, locations)
+    corner_answer(shape, values, locations)
 }

@@ -1,24 +1,14 @@
 // Where a reading lies on each axis, for the two linears: by Linear's rule or by LinearUniform's.
-ghost use mathlib.Core.Path.{_≡_};
-ghost use mathlib.Core.Bool.{true};
-ghost use Prim.Native.Nat.{ℕ, _<_, _≤_};
-ghost use lib.ListN.{length, take, getD};
-ghost use lib.Ieee.{nan};
-ghost use lib.Ieee.Scale.{finite};
-ghost use Rattle.shapes.specs.Shape.{countsOf};
-ghost use Rattle.layout.specs.Layout.{axesOf};
-ghost use Rattle.table.specs.Table.{Grid};
-ghost use Rattle.ninterp.specs.Linears.{locations};
 ghost use Rattle.axis.specs.Locations.{locationBy};
-ghost use Rattle.ninterp.specs.Locations.{Within};
+ghost use Rattle.ninterp.specs.Kernels.{Readable, Located};
+use axis::AxisLocation;
 use axis::locate;
-use blend::AxisLocation;
-use shapes::Shape;
+use layout::Shape;
 
 // The location on each axis, in axis order.
 pub(crate) fn all(uniform: bool, shape: Shape, nodes: &[f64], point: &[f64]) -> [AxisLocation; 4]
-    requires { ⌜ Grid (countsOf shape) (now nodes) × ((shape .axes ≤ 4) × ((shape .axes ≤ length (now point)) × ((a : ℕ) → a < shape .axes → finite (getD (now point) a nan) ≡ true))) ⌝ }
-    ensures { λ r. ⌜ (take (shape .axes) r ≡ locations (locationBy uniform) (axesOf (countsOf shape) (now (nodes .entry))) (now (point .entry))) × Within (take (shape .axes) r) (countsOf shape) ⌝ }
+    requires { ⌜ Readable shape (now nodes) (now point) ⌝ }
+    ensures { λ r. ⌜ Located (locationBy uniform) shape (now (nodes .entry)) (now (point .entry)) r ⌝ }
 {
     let counts = shape.counts;
     let axes = shape.axes;

@@ -3,14 +3,16 @@ ghost use mathlib.Core.Path.{_≡_};
 ghost use Rattle.ninterp.specs.Tables.{nearestAnswer};
 use crate::interpolator::n::pick;
 use answer::Answer;
-use shapes::Shape;
+use layout::Shape;
+use orders::before_lookup;
 
+// The lookup by Nearest: the value stored at the nearest node of each axis.
 pub fn interpolate(shape: Shape, nodes: &[f64], values: &[f64], point: &[f64]) -> Answer
     ensures { λ r. ⌜ r ≡ nearestAnswer shape (now (nodes .entry)) (now (values .entry)) (now (point .entry)) ⌝ }
 {
-    let fault = order::lookup_fault(shape, nodes, values, point);
+    let fault = before_lookup::lookup_fault(shape, nodes, values, point);
     if fault.number != 0 {
-        return fault;
+        return answer::refuse(fault);
     }
     let picks = [2u8; 4];
     pick::stored(shape, nodes, values, &picks, point)

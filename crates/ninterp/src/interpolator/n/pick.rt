@@ -1,24 +1,21 @@
 // What Step and Nearest share: one index for each axis, and one stored value. A pick of 0 is Lower, of 1 Upper, of anything else Nearest.
 ghost use mathlib.Core.Path.{_≡_};
-ghost use mathlib.Core.Bool.{true};
-ghost use Prim.Native.Nat.{ℕ, _<_, _≤_};
-ghost use lib.ListN.{length, getD};
-ghost use lib.Ieee.{nan};
-ghost use lib.Ieee.Scale.{finite};
-ghost use Rattle.shapes.specs.Shape.{countsOf, size};
-ghost use Rattle.layout.specs.Layout.{axesOf, place};
-ghost use Rattle.table.specs.Table.{Grid};
+ghost use Prim.Native.Nat.{_≤_};
+ghost use lib.ListN.{length};
 ghost use Rattle.answer.specs.Answer.{answered};
-ghost use Rattle.ninterp.specs.Tables.{indices, picked, Judged};
-ghost use Rattle.picks.specs.Picks.{pickRule};
+ghost use Rattle.layout.specs.Shape.{countsOf};
+ghost use Rattle.axis.specs.Picks.{pickRule};
+ghost use Rattle.ninterp.specs.Tables.{picked, Judged};
+ghost use Rattle.ninterp.specs.Kernels.{Readable, PickedAt};
 use answer::Answer;
-use picks::pick;
-use shapes::Shape;
+use axis::picks;
+use layout::Shape;
 
 // The flat place of the index list.
 fn pick_place(shape: Shape, nodes: &[f64], picks: &[u8], point: &[f64]) -> usize
-    requires { ⌜ Grid (countsOf shape) (now nodes) × ((shape .axes ≤ 4) × ((shape .axes ≤ length (now picks)) × ((shape .axes ≤ length (now point)) × ((a : ℕ) → a < shape .axes → finite (getD (now point) a nan) ≡ true)))) ⌝ }
-    ensures { λ r. ⌜ (r ≡ place (countsOf shape) (indices (pickRule (now (picks .entry))) (axesOf (countsOf shape) (now (nodes .entry))) (now (point .entry)))) × (r < size (countsOf shape)) ⌝ }
+    requires { ⌜ Readable shape (now nodes) (now point) ⌝ }
+    requires { ⌜ shape .axes ≤ length (now picks) ⌝ }
+    ensures { λ r. ⌜ PickedAt (pickRule (now (picks .entry))) shape (now (nodes .entry)) (now (point .entry)) r ⌝ }
 {
     let counts = shape.counts;
     let axes = shape.axes;
@@ -28,7 +25,7 @@ fn pick_place(shape: Shape, nodes: &[f64], picks: &[u8], point: &[f64]) -> usize
     while a < axes {
         let count = counts[a];
         let end = at + count;
-        let i = pick::pick_index(picks[a], &nodes[at..end], point[a]);
+        let i = picks::pick_index(picks[a], &nodes[at..end], point[a]);
         flat = flat * count + i;
         at = end;
         a += 1;
@@ -44,8 +41,10 @@ pub(crate) fn stored(
     picks: &[u8],
     point: &[f64],
 ) -> Answer
-    requires { ⌜ Judged shape (now nodes) (now values) (now point) × (shape .axes ≤ length (now picks)) ⌝ }
-    ensures { λ r. ⌜ r ≡ answered (picked (pickRule (now (picks .entry))) (countsOf shape) (now (nodes .entry)) (now (values .entry)) (now (point .entry))) ⌝ }
+    requires { ⌜ Judged shape (now nodes) (now values) (now point) ⌝ }
+    requires { ⌜ shape .axes ≤ length (now picks) ⌝ }
+    ensures { λ r. ⌜ r ≡ answered (picked (pickRule (now (picks .entry))) (countsOf shape)
+        (now (nodes .entry)) (now (values .entry)) (now (point .entry))) ⌝ }
 {
     let at = pick_place(shape, nodes, picks, point);
     answer::succeed(values[at])

@@ -3,8 +3,10 @@ ghost use mathlib.Core.Path.{_≡_};
 ghost use Rattle.ninterp.specs.Tables.{stepAnswer};
 use crate::interpolator::n::pick;
 use answer::Answer;
-use shapes::Shape;
+use layout::Shape;
+use orders::before_lookup;
 
+// The lookup by Step: the value stored at the step index of each axis, each with its own direction.
 pub fn interpolate(
     shape: Shape,
     nodes: &[f64],
@@ -12,11 +14,12 @@ pub fn interpolate(
     point: &[f64],
     directions: &[u8],
 ) -> Answer
-    ensures { λ r. ⌜ r ≡ stepAnswer shape (now (nodes .entry)) (now (values .entry)) (now (point .entry)) (now (directions .entry)) ⌝ }
+    ensures { λ r. ⌜ r ≡ stepAnswer shape (now (nodes .entry)) (now (values .entry)) (now (point .entry))
+        (now (directions .entry)) ⌝ }
 {
-    let fault = order::step_fault(shape, nodes, values, point, directions);
+    let fault = before_lookup::step_fault(shape, nodes, values, point, directions);
     if fault.number != 0 {
-        return fault;
+        return answer::refuse(fault);
     }
     pick::stored(shape, nodes, values, directions, point)
 }

@@ -5,8 +5,8 @@ use lib.ListN.{length, take, drop, getD}
 use borrow.Author.Needs.{needs}
 use native.Mathlib.Nat.{lt-of-le-of-lt}
 use lib.Dec.{lit<}
-use Rattle.shapes.specs.Shape.{total}
-use Rattle.shapes.proofs.Totals.{total-back, total-none, total-bound}
+use Rattle.layout.specs.Shape.{total}
+use Rattle.layout.proofs.Totals.{total-back, total-none, total-bound}
 use Rattle.slices.proofs.remaining.axis_start.Statement.{statement}
 use Rattle.slices.proofs.remaining.axis_start.Tie as tie
 
@@ -19,51 +19,34 @@ abbrev μ-loop : tie.MeasureT-loop
 four : (s : tie.Start Inv-loop μ-loop) → length (s .args .t1) ≡ 4
 four s = s .good .0 .1 .0 .1
 
+within : (s : tie.Start Inv-loop μ-loop) → s .args .axis ≤ length (s .args .t1)
+within s = omega (arith, four s, s .pre .0)
+
+-- the sum with one count more
+more : (l : tie.At-loop Inv-loop μ-loop) → 0 < l .loop .a → getD (l .before .args .t1) (l .loop .a - 1) 0 + l .loop .sum ≡ total (drop (l .loop .a - 1) (take (l .before .args .axis) (l .before .args .t1)))
+more l h =
+    let s = l .before in
+    ap (λ (k : ℕ). getD (s .args .t1) (l .loop .a - 1) 0 + k) (l .loop .inv .1) ∙ total-back (s .args .t1) (s .args .axis) (l .loop .a) (within s) h (l .loop .inv .0)
+
 loop-holds : tie.Need-loop-holds Inv-loop μ-loop
-loop-holds c = let s = c in (omega arith, total-none (s .args .t1) (s .args .axis))
-
-sub-a : tie.Need-sub-a Inv-loop μ-loop
-sub-a c = search needs
-
-mul-sum : tie.Need-mul-sum Inv-loop μ-loop
-mul-sum c = search needs
-
-array-read-sum : tie.Need-array-read-sum Inv-loop μ-loop
-array-read-sum c = search needs
+loop-holds c = (omega arith, total-none (c .args .t1) (c .args .axis))
 
 add-sum : tie.Need-add-sum Inv-loop μ-loop
 add-sum c =
     let l = c .before in
     let s = l .before in
-    let n = s .args .axis in
-    let C = s .args .t1 in
-    let a = l .loop .a in
-    let back : getD C (a - 1) 0 + l .loop .sum ≡ total (drop (a - 1) (take n C)) = ap (λ (k : ℕ). getD C (a - 1) 0 + k) (l .loop .inv .1) ∙ total-back C n a (omega (arith, four s, s .pre .0)) (c .loop-test .taken) (omega arith) in
-    let high : total (drop (a - 1) (take n C)) ≤ 256 = total-bound C n (a - 1) (omega (arith, four s, s .pre .0)) (s .pre .0) (s .pre .1) in
-    record { fits = lt-of-le-of-lt (omega arith) (lit< {m = 256} tt) }
-
-loop-less : tie.Need-loop-less Inv-loop μ-loop
-loop-less c = search needs
+    record { fits = lt-of-le-of-lt (omega (arith, more l (c .loop-test .taken), total-bound (s .args .t1) (s .args .axis) (l .loop .a - 1) (within s) (s .pre .0) (s .pre .1))) (lit< {m = 256} tt) }
 
 loop-again : tie.Need-loop-again Inv-loop μ-loop
-loop-again c =
-    let l = c .before in
-    let s = l .before in
-    let n = s .args .axis in
-    let C = s .args .t1 in
-    let a = l .loop .a in
-    let back : getD C (a - 1) 0 + l .loop .sum ≡ total (drop (a - 1) (take n C)) = ap (λ (k : ℕ). getD C (a - 1) 0 + k) (l .loop .inv .1) ∙ total-back C n a (omega (arith, four s, s .pre .0)) (c .loop-test .taken) (omega arith) in
-    (omega arith, back)
+loop-again c = (omega arith, more (c .before) (c .loop-test .taken))
 
 returns : tie.Need-returns Inv-loop μ-loop
 returns c =
     let l = c .before in
     let s = l .before in
-    let n = s .args .axis in
-    let C = s .args .t1 in
     let z : _≡_ {A = ℕ} (l .loop .a) 0 = omega arith in
-    let e : l .loop .sum ≡ total (take n C) = l .loop .inv .1 ∙ ap (λ (k : ℕ). total (drop k (take n C))) z in
-    (e, omega (arith, total-bound C n 0 (omega (arith, four s, s .pre .0)) (s .pre .0) (s .pre .1)))
+    let e : l .loop .sum ≡ total (take (s .args .axis) (s .args .t1)) = l .loop .inv .1 ∙ ap (λ (k : ℕ). total (drop k (take (s .args .axis) (s .args .t1)))) z in
+    (e, omega (arith, total-bound (s .args .t1) (s .args .axis) 0 (within s) (s .pre .0) (s .pre .1)))
 
 pub axis-start-spec : {M : Type 1} → statement M
 axis-start-spec =
@@ -72,10 +55,10 @@ axis-start-spec =
     Inv-loop
     μ-loop
     loop-holds
-    sub-a
-    mul-sum
-    array-read-sum
+    (λ c. search needs)
+    (λ c. search needs)
+    (λ c. search needs)
     add-sum
-    loop-less
+    (λ c. search needs)
     loop-again
     returns)

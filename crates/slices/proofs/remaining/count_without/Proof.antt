@@ -4,12 +4,6 @@ use borrow.Author.Needs.{needs}
 use Rattle.slices.proofs.remaining.count_without.Statement.{statement}
 use Rattle.slices.proofs.remaining.count_without.Tie as tie
 
-axis-past-requires : tie.Need-axis-past-requires
-axis-past-requires c κs = search needs
-
-mul-result : tie.Need-mul-result
-mul-result c = search needs
-
 array-read-result : tie.Need-array-read-result
 array-read-result c = let s = c .before .before .before .before in omega (arith, s .pre .0)
 
@@ -21,4 +15,4 @@ returns-2 c = let e = c .before .before in let s = e .before .before in count-go
 
 pub count-without-spec : {M : Type 1} → statement M
 count-without-spec =
-    tie.close (tie.spec axis-past-requires mul-result array-read-result returns returns-2)
+    tie.close (tie.spec (λ c κs. search needs) (λ c. search needs) array-read-result returns returns-2)

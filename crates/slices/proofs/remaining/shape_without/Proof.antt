@@ -1,7 +1,7 @@
 use mathlib.Core.Path.{_≡_}
 use Prim.Native.Nat.{ℕ, _-_}
 use mathlib.Core.List.{[], _∷_}
-use Rattle.shapes.specs.declared.Shape.{Shape}
+use Rattle.layout.specs.declared.Shape.{Shape}
 use Rattle.slices.specs.Slices.{shapeWithout}
 use borrow.Author.Needs.{needs}
 use Rattle.slices.proofs.remaining.shape_without.Statement.{statement}
@@ -9,21 +9,6 @@ use Rattle.slices.proofs.remaining.shape_without.Tie as tie
 
 four : (n : ℕ) (a b c d a' b' c' d' : ℕ) → a ≡ a' → b ≡ b' → c ≡ c' → d ≡ d' → _≡_ {A = Shape} (record { axes = n; counts = a ∷ b ∷ c ∷ d ∷ [] }) (record { axes = n; counts = a' ∷ b' ∷ c' ∷ d' ∷ [] })
 four n a b c d a' b' c' d' p q r s = rw (p, q, r, s)
-
-count-without-requires : tie.Need-count-without-requires
-count-without-requires c κs = search needs
-
-count-without-requires-2 : tie.Need-count-without-requires-2
-count-without-requires-2 c κs = search needs
-
-count-without-requires-3 : tie.Need-count-without-requires-3
-count-without-requires-3 c κs = search needs
-
-count-without-requires-4 : tie.Need-count-without-requires-4
-count-without-requires-4 c κs = search needs
-
-sub-t7 : tie.Need-sub-t7
-sub-t7 c = search needs
 
 returns : tie.Need-returns
 unfolding shapeWithout
@@ -38,9 +23,9 @@ pub shape-without-spec : {M : Type 1} → statement M
 shape-without-spec =
     tie.close
     (tie.spec
-    count-without-requires
-    count-without-requires-2
-    count-without-requires-3
-    count-without-requires-4
-    sub-t7
+    (λ c κs. search needs)
+    (λ c κs. search needs)
+    (λ c κs. search needs)
+    (λ c κs. search needs)
+    (λ c. search needs)
     returns)

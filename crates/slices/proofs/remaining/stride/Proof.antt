@@ -5,8 +5,8 @@ use lib.ListN.{length, take, drop, getD}
 use borrow.Author.Needs.{needs}
 use native.Mathlib.Nat.{lt-of-le-of-lt}
 use lib.Dec.{lit<}
-use Rattle.shapes.specs.Shape.{size}
-use Rattle.shapes.proofs.Totals.{size-back, size-none, size-bound}
+use Rattle.layout.specs.Shape.{size}
+use Rattle.layout.proofs.Totals.{size-back, size-none, size-bound}
 use Rattle.slices.proofs.remaining.stride.Statement.{statement}
 use Rattle.slices.proofs.remaining.stride.Tie as tie
 
@@ -19,44 +19,26 @@ abbrev μ-loop : tie.MeasureT-loop
 four : (s : tie.Start Inv-loop μ-loop) → length (s .args .t1) ≡ 4
 four s = s .good .0 .1 .0 .1
 
+within : (s : tie.Start Inv-loop μ-loop) → s .args .axes ≤ length (s .args .t1)
+within s = omega (arith, four s, s .pre .0)
+
+-- the product with one count more
+more : (l : tie.At-loop Inv-loop μ-loop) → l .before .args .axis + 1 < l .loop .a → getD (l .before .args .t1) (l .loop .a - 1) 0 * l .loop .product ≡ size (drop (l .loop .a - 1) (take (l .before .args .axes) (l .before .args .t1)))
+more l h =
+    let s = l .before in
+    ap (λ (k : ℕ). getD (s .args .t1) (l .loop .a - 1) 0 * k) (l .loop .inv .1) ∙ size-back (s .args .t1) (s .args .axes) (l .loop .a) (within s) (omega arith) (l .loop .inv .0 .0)
+
 loop-holds : tie.Need-loop-holds Inv-loop μ-loop
-loop-holds c = let s = c in (omega arith, size-none (s .args .t1) (s .args .axes))
-
-add-loop : tie.Need-add-loop Inv-loop μ-loop
-add-loop c = search needs
-
-sub-a : tie.Need-sub-a Inv-loop μ-loop
-sub-a c = search needs
-
-mul-product : tie.Need-mul-product Inv-loop μ-loop
-mul-product c = search needs
-
-array-read-product : tie.Need-array-read-product Inv-loop μ-loop
-array-read-product c = search needs
+loop-holds c = (omega arith, size-none (c .args .t1) (c .args .axes))
 
 mul-product-2 : tie.Need-mul-product-2 Inv-loop μ-loop
 mul-product-2 c =
     let l = c .before in
     let s = l .before in
-    let n = s .args .axes in
-    let C = s .args .t1 in
-    let a = l .loop .a in
-    let back : getD C (a - 1) 0 * l .loop .product ≡ size (drop (a - 1) (take n C)) = ap (λ (k : ℕ). getD C (a - 1) 0 * k) (l .loop .inv .1) ∙ size-back C n a (omega (arith, four s, s .pre .0)) (omega arith) (omega arith) in
-    let high : size (drop (a - 1) (take n C)) ≤ 16777216 = size-bound C n (a - 1) (omega (arith, four s, s .pre .0)) (s .pre .0) (s .pre .1 .1) in
-    record { fits = lt-of-le-of-lt (omega arith) (lit< {m = 16777216} tt) }
-
-loop-less : tie.Need-loop-less Inv-loop μ-loop
-loop-less c = search needs
+    record { fits = lt-of-le-of-lt (omega (arith, more l (c .loop-test .taken), size-bound (s .args .t1) (s .args .axes) (l .loop .a - 1) (within s) (s .pre .0) (s .pre .1 .1))) (lit< {m = 16777216} tt) }
 
 loop-again : tie.Need-loop-again Inv-loop μ-loop
-loop-again c =
-    let l = c .before in
-    let s = l .before in
-    let n = s .args .axes in
-    let C = s .args .t1 in
-    let a = l .loop .a in
-    let back : getD C (a - 1) 0 * l .loop .product ≡ size (drop (a - 1) (take n C)) = ap (λ (k : ℕ). getD C (a - 1) 0 * k) (l .loop .inv .1) ∙ size-back C n a (omega (arith, four s, s .pre .0)) (omega arith) (omega arith) in
-    (omega arith, back)
+loop-again c = (omega arith, more (c .before) (c .loop-test .taken))
 
 returns : tie.Need-returns Inv-loop μ-loop
 returns c =
@@ -72,11 +54,11 @@ stride-spec =
     Inv-loop
     μ-loop
     loop-holds
-    add-loop
-    sub-a
-    mul-product
-    array-read-product
+    (λ c. search needs)
+    (λ c. search needs)
+    (λ c. search needs)
+    (λ c. search needs)
     mul-product-2
-    loop-less
+    (λ c. search needs)
     loop-again
     returns)

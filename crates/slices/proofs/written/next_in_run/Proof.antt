@@ -3,12 +3,6 @@ use borrow.Author.Needs.{needs}
 use Rattle.slices.proofs.written.next_in_run.Statement.{statement}
 use Rattle.slices.proofs.written.next_in_run.Tie as tie
 
-add-if1 : tie.Need-add-if1
-add-if1 c = search needs
-
-add-result : tie.Need-add-result
-add-result c = search needs
-
 returns : tie.Need-returns
 returns c = simp (eq-eqb _ _ (c .if1 .taken))
 
@@ -16,4 +10,4 @@ returns-2 : tie.Need-returns-2
 returns-2 c = simp (ne-eqb _ _ (c .if1 .left))
 
 pub next-in-run-spec : {M : Type 1} → statement M
-next-in-run-spec = tie.close (tie.spec add-if1 add-result returns returns-2)
+next-in-run-spec = tie.close (tie.spec (λ c. search needs) (λ c. search needs) returns returns-2)

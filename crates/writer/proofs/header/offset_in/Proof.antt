@@ -1,15 +1,12 @@
 use mathlib.Core.Bool.{Bool, cond}
 use borrow.Author.Tests.{lt-ltb, le-ltb}
 use mathlib.Core.Path.{sym, ap}
-use Prim.Native.Nat.{_-_}
 use Rattle.writer.proofs.header.offset_in.Statement.{statement}
 use Rattle.writer.proofs.header.offset_in.Tie as tie
 
--- src/header.rt:46:1
 returns : tie.Need-returns
 returns c = sym (ap (λ (b : Bool). cond b (c .before .before .args .at) 0) (lt-ltb _ _ (c .if1 .taken)))
 
--- src/header.rt:46:1
 returns-2 : tie.Need-returns-2
 returns-2 c = sym (ap (λ (b : Bool). cond b (c .before .before .args .at) 0) (le-ltb _ _ (c .if1 .left)))
 

@@ -25,51 +25,29 @@ room : (c : tie.After-shared-slice-known4 Inv-loop μ-loop) → c .before .befor
 room c =
     let l = c .before .before .before in
     let s = start c in
-    omega (arith, sum-more (s .args .widths .now) (s .args .fields .now) (l .loop .k) (c .before .before .loop-test .taken), l .loop .inv .1 .1 .0, l .loop .inv .1 .0, s .pre .1)
+    omega (arith, sum-more (s .args .widths .now) (s .args .fields .now) (l .loop .k) (c .before .before .loop-test .taken), l .loop .inv .1 .1 .0, l .loop .inv .1 .0, s .pre .enough)
 
--- src/header.rt:23:5
 loop-holds : tie.Need-loop-holds Inv-loop μ-loop
 loop-holds c = (omega arith, (refl, (omega arith, refl)))
 
--- src/header.rt:24:21
-mul-width : tie.Need-mul-width Inv-loop μ-loop
-mul-width c = search needs
-
--- src/header.rt:24:21
-shared-slice-read-width : tie.Need-shared-slice-read-width Inv-loop μ-loop
-shared-slice-read-width c = search needs
-
--- src/header.rt:25:21
-mul-field : tie.Need-mul-field Inv-loop μ-loop
-mul-field c = search needs
-
--- src/header.rt:25:21
-shared-slice-read-field : tie.Need-shared-slice-read-field Inv-loop μ-loop
-shared-slice-read-field c = search needs
-
--- src/header.rt:26:9
 put-word-requires : tie.Need-put-word-requires Inv-loop μ-loop
 put-word-requires c κs = omega (arith, room (c .before))
 
--- src/header.rt:27:14
 add-at : tie.Need-add-at Inv-loop μ-loop
 add-at c =
     let f = c .before .before .before .before in
     omega (arith, room f, start f .good .0 .0, f .before .before .before .loop .inv .1 .0)
 
--- src/header.rt:28:9
 add-k : tie.Need-add-k Inv-loop μ-loop
 add-k c =
     let f = c .before .before .before .before in
     omega (arith, f .before .before .loop-test .taken, start f .good .1 .0 .0)
 
--- src/header.rt:23:5
 loop-less : tie.Need-loop-less Inv-loop μ-loop
 loop-less c =
     let f = c .before .before .before .before in
     omega (arith, f .before .before .loop-test .taken)
 
--- src/header.rt:23:5
 loop-again : tie.Need-loop-again Inv-loop μ-loop
 loop-again c =
     let p = c .before .before in
@@ -83,17 +61,12 @@ loop-again c =
         p .put-word .kept .0 ∙ l .loop .inv .1 .0,
         (
           omega (arith, m, l .loop .inv .1 .1 .0),
-          fields-step (s .args .widths .now) (s .args .fields .now) (l .loop .k) (l .loop .out) _ (l .loop .at) (i .loop-test .taken) (s .pre .0) (p .put-word .ensures)
+          fields-step (s .args .widths .now) (s .args .fields .now) (l .loop .k) (l .loop .out) _ (l .loop .at) (i .loop-test .taken) (s .pre .same) (p .put-word .ensures)
               ∙ l .loop .inv .1 .1 .1,
         ),
       ),
     )
 
--- src/header.rt:17:1
-same-length : tie.Need-same-length Inv-loop μ-loop
-same-length c = search needs
-
--- src/header.rt:17:1
 returns : tie.Need-returns Inv-loop μ-loop
 returns c =
     let l = c .before in
@@ -107,14 +80,14 @@ put-fields-spec =
     Inv-loop
     μ-loop
     loop-holds
-    mul-width
-    shared-slice-read-width
-    mul-field
-    shared-slice-read-field
+    (λ c. search needs)
+    (λ c. search needs)
+    (λ c. search needs)
+    (λ c. search needs)
     put-word-requires
     add-at
     add-k
     loop-less
     loop-again
-    same-length
+    (λ c. search needs)
     returns)

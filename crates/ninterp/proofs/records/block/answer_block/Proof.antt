@@ -4,7 +4,7 @@ use native.Mathlib.Omega.{arith}
 use lib.ListN.{length}
 use denote.Ref.{now}
 use borrow.Author.Tests.{leb-true, not-true, not-false}
-use Rattle.input.specs.Input.{recordSize}
+use Rattle.ninterp.specs.Records.{recordSize}
 use Rattle.ninterp.proofs.RecordLines.{block-none}
 use borrow.Author.Needs.{needs}
 use Rattle.ninterp.proofs.records.block.answer_block.Statement.{statement}
@@ -19,20 +19,11 @@ whole e =
     let a = start (e .before) .args in
     leb-true (recordSize (a .shape)) (length (now (a .records))) (sym (e .before .is-whole .ensures) ∙ not-false _ (e .if1 .left))
 
-is-whole-requires : tie.Need-is-whole-requires
-is-whole-requires c κs = search needs
-
 returns : tie.Need-returns
 returns c =
     let w = c .before in
     let a = start w .args in
     block-none (a .shape) (now (a .nodes)) (now (a .values)) (a .most) (now (a .records)) (now (a .out)) (sym (w .is-whole .ensures) ∙ not-true _ (c .if1 .taken))
-
-table-fault-requires : tie.Need-table-fault-requires
-table-fault-requires c κs = search needs
-
-axes-uniform-fault-requires : tie.Need-axes-uniform-fault-requires
-axes-uniform-fault-requires c κs = search needs
 
 mul-size : tie.Need-mul-size
 mul-size c = let e = c .before .before .before in omega (arith, whole e)
@@ -43,10 +34,7 @@ add-size c = let e = c .before .before .before in omega (arith, whole e)
 answer-records-requires : tie.Need-answer-records-requires
 answer-records-requires c κs =
     let u = c .before .before in
-    (u .before .table-fault .ensures, (u .axes-uniform-fault .ensures, refl))
-
-same-length : tie.Need-same-length
-same-length c = search needs
+    (record { judged = u .before .whole-table-fault .ensures; spaced = u .axes-uniform-fault .ensures }, refl)
 
 returns-2 : tie.Need-returns-2
 returns-2 c = c .before .before .answer-records .ensures
@@ -55,12 +43,12 @@ pub answer-block-spec : {M : Type 1} → statement M
 answer-block-spec =
     tie.close
     (tie.spec
-    is-whole-requires
+    (λ c κs. search needs)
     returns
-    table-fault-requires
-    axes-uniform-fault-requires
+    (λ c κs. search needs)
+    (λ c κs. search needs)
     mul-size
     add-size
     answer-records-requires
-    same-length
+    (λ c. search needs)
     returns-2)

@@ -4,28 +4,19 @@ use borrow.Author.Needs.{needs}
 use Rattle.ninterp.proofs.records.block.put_answer.Statement.{statement}
 use Rattle.ninterp.proofs.records.block.put_answer.Tie as tie
 
-whole-answer-requires : tie.Need-whole-answer-requires
-whole-answer-requires c κs = search needs
-
-put-line-requires : tie.Need-put-line-requires
-put-line-requires c κs = search needs
-
-same-length : tie.Need-same-length
-same-length c = search needs
-
 returns : tie.Need-returns
 returns c =
     let w = c .before .before in
     let q = w .before .before in
     let s = q .before .before .before .before .before in
     let a = s .args in
-    (record-wrote (a .shape) (now (a .nodes)) (now (a .values)) (now (a .rec)) (q .whole-answer .result) (now (a .out)) (a .to) (s .pre .0 .1 .1) (q .whole-answer .ensures) (s .pre .1) (w .put-line .ensures .0 .0) (w .put-line .ensures .0 .1), w .put-line .ensures .1)
+    (record-wrote (a .shape) (now (a .nodes)) (now (a .values)) (now (a .rec)) (q .whole-answer .result) (now (a .out)) (a .to) (s .pre .1 .0) (q .whole-answer .ensures) (s .pre .1 .1) (w .put-line .ensures .0 .0) (w .put-line .ensures .0 .1), w .put-line .ensures .1)
 
 pub put-answer-spec : {M : Type 1} → statement M
 put-answer-spec =
     tie.close
     (tie.spec
-    whole-answer-requires
-    put-line-requires
-    same-length
+    (λ c κs. search needs)
+    (λ c κs. search needs)
+    (λ c. search needs)
     returns)

@@ -18,50 +18,23 @@ abbrev μ-loop : tie.MeasureT-loop
 loop-holds : tie.Need-loop-holds Inv-loop μ-loop
 loop-holds c = (omega arith, (refl, λ k b. absurd (omega arith)))
 
-mul-at : tie.Need-mul-at Inv-loop μ-loop
-mul-at c = search needs
-
-shared-slice-read-at : tie.Need-shared-slice-read-at Inv-loop μ-loop
-shared-slice-read-at c = search needs
-
-add-j : tie.Need-add-j Inv-loop μ-loop
-add-j c = search needs
-
 add-vals : tie.Need-add-vals Inv-loop μ-loop
-add-vals c = let w = c .before in let l = w .before in omega (arith, l .before .pre .1 (l .loop .i) (w .loop-test .taken) .1)
+add-vals c = let w = c .before in let l = w .before in omega (arith, l .before .pre .inside (l .loop .i) (w .loop-test .taken) .1)
 
 mul-vals : tie.Need-mul-vals Inv-loop μ-loop
-mul-vals c = let w = c .before in let l = w .before in omega (arith, l .before .pre .1 (l .loop .i) (w .loop-test .taken) .1)
+mul-vals c = let w = c .before in let l = w .before in omega (arith, l .before .pre .inside (l .loop .i) (w .loop-test .taken) .1)
 
 shared-slice-read-vals : tie.Need-shared-slice-read-vals Inv-loop μ-loop
-shared-slice-read-vals c = let w = c .before .before in let l = w .before in l .before .pre .1 (l .loop .i) (w .loop-test .taken) .1
-
-mul-vals-2 : tie.Need-mul-vals-2 Inv-loop μ-loop
-mul-vals-2 c = search needs
-
-array-write-vals : tie.Need-array-write-vals Inv-loop μ-loop
-array-write-vals c = search needs
+shared-slice-read-vals c = let w = c .before .before in let l = w .before in l .before .pre .inside (l .loop .i) (w .loop-test .taken) .1
 
 add-vals-2 : tie.Need-add-vals-2 Inv-loop μ-loop
-add-vals-2 c = let w = c .before .before in let l = w .before in omega (arith, l .before .pre .1 (l .loop .i) (w .loop-test .taken) .0)
+add-vals-2 c = let w = c .before .before in let l = w .before in omega (arith, l .before .pre .inside (l .loop .i) (w .loop-test .taken) .0)
 
 mul-vals-3 : tie.Need-mul-vals-3 Inv-loop μ-loop
-mul-vals-3 c = let w = c .before .before in let l = w .before in omega (arith, l .before .pre .1 (l .loop .i) (w .loop-test .taken) .0)
+mul-vals-3 c = let w = c .before .before in let l = w .before in omega (arith, l .before .pre .inside (l .loop .i) (w .loop-test .taken) .0)
 
 shared-slice-read-vals-2 : tie.Need-shared-slice-read-vals-2 Inv-loop μ-loop
-shared-slice-read-vals-2 c = let w = c .before .before .before in let l = w .before in l .before .pre .1 (l .loop .i) (w .loop-test .taken) .0
-
-mul-vals-4 : tie.Need-mul-vals-4 Inv-loop μ-loop
-mul-vals-4 c = search needs
-
-array-write-vals-2 : tie.Need-array-write-vals-2 Inv-loop μ-loop
-array-write-vals-2 c = search needs
-
-add-i : tie.Need-add-i Inv-loop μ-loop
-add-i c = search needs
-
-loop-less : tie.Need-loop-less Inv-loop μ-loop
-loop-less c = search needs
+shared-slice-read-vals-2 c = let w = c .before .before .before in let l = w .before in l .before .pre .inside (l .loop .i) (w .loop-test .taken) .0
 
 loop-again : tie.Need-loop-again Inv-loop μ-loop
 loop-again c =
@@ -70,10 +43,10 @@ loop-again c =
     let s = l .before in
     let xs = now (s .args .values) in
     let ps = now (s .args .places) in
-    (omega (arith, w .loop-test .taken), (length-set (set (l .loop .vals) _ _) (l .loop .i) _ ∙ length-set (l .loop .vals) _ _ ∙ l .loop .inv .1 .0, put-both (l .loop .vals) (l .loop .i) (s .args .count) _ _ nan (λ k. getD xs (getD ps k 0 + s .args .low) nan) (λ k. getD xs (getD ps k 0 + s .args .high) nan) (w .loop-test .taken) (omega (arith, l .loop .inv .1 .0, s .pre .0 .0, w .loop-test .taken)) (l .loop .inv .1 .1) refl refl))
+    (omega (arith, w .loop-test .taken), (length-set (set (l .loop .vals) _ _) (l .loop .i) _ ∙ length-set (l .loop .vals) _ _ ∙ l .loop .inv .1 .0, put-both (l .loop .vals) (l .loop .i) (s .args .count) _ _ nan (λ k. getD xs (getD ps k 0 + s .args .low) nan) (λ k. getD xs (getD ps k 0 + s .args .high) nan) (w .loop-test .taken) (omega (arith, l .loop .inv .1 .0, s .pre .few, w .loop-test .taken)) (l .loop .inv .1 .1) refl refl))
 
 returns : tie.Need-returns Inv-loop μ-loop
-returns c = λ k b. let l = c .before in l .loop .inv .1 .1 k (omega (arith, c .loop-test .left, b))
+returns c = let l = c .before in record { both = λ k b. l .loop .inv .1 .1 k (omega (arith, c .loop-test .left, b)) }
 
 pub gather-spec : {M : Type 1} → statement M
 gather-spec =
@@ -82,20 +55,20 @@ gather-spec =
     Inv-loop
     μ-loop
     loop-holds
-    mul-at
-    shared-slice-read-at
-    add-j
+    (λ c. search needs)
+    (λ c. search needs)
+    (λ c. search needs)
     add-vals
     mul-vals
     shared-slice-read-vals
-    mul-vals-2
-    array-write-vals
+    (λ c. search needs)
+    (λ c. search needs)
     add-vals-2
     mul-vals-3
     shared-slice-read-vals-2
-    mul-vals-4
-    array-write-vals-2
-    add-i
-    loop-less
+    (λ c. search needs)
+    (λ c. search needs)
+    (λ c. search needs)
+    (λ c. search needs)
     loop-again
     returns)

@@ -1,12 +1,12 @@
 use Rattle.layout.proofs.Layouts.{size-cons}
 use Rattle.ninterp.proofs.Corners.{Spreading, spread-none, spread-step, lower-small, upper-few, upper-small, within-at, small-at, few-at, eight-at, placed-small, closed-at, first-few, first-small}
 use Rattle.axis.proofs.Located.{lower-upper}
-use Rattle.blend.specs.declared.AxisLocation.the-variants.{Exact}
+use Rattle.axis.specs.declared.AxisLocation.the-variants.{Exact}
 use Rattle.axis.specs.Locations.{locationIndex, upperOf}
 use mathlib.Core.Path.{_≡_, refl, sym, ap, ap₂, _∙_, subst}
 use native.Mathlib.Nat.{mul-le-mul-right}
-use Rattle.shapes.specs.Shape.{size}
-use Rattle.blend.specs.declared.AxisLocation.{AxisLocation}
+use Rattle.layout.specs.Shape.{size}
+use Rattle.axis.specs.declared.AxisLocation.{AxisLocation}
 use Prim.Native.Nat.{ℕ, _-_, _*_, _≤_}
 use native.Mathlib.Omega.{arith}
 use lib.ListN.{length, take, drop, getD}
@@ -21,46 +21,34 @@ abbrev μ-loop : tie.MeasureT-loop
 μ-loop n places₀ counts locations count₀ stride₀ d₀ places count stride d = d
 
 long-l : (s : tie.Start Inv-loop μ-loop) → s .args .n ≤ length (s .args .t2)
-long-l s = omega (arith, s .good .1 .0 .1 .0 .1, s .pre .0 .0)
+long-l s = omega (arith, s .good .1 .0 .1 .0 .1, s .pre .0 .few)
 
 long-c : (s : tie.Start Inv-loop μ-loop) → s .args .n ≤ length (s .args .t1)
-long-c s = omega (arith, s .good .0 .1 .0 .1, s .pre .0 .0)
+long-c s = omega (arith, s .good .0 .1 .0 .1, s .pre .0 .few)
 
 loop-holds : tie.Need-loop-holds Inv-loop μ-loop
-loop-holds c = let s = c .before in ((omega arith, (s .pre .1 .0, s .pre .1 .1 .1)), spread-none (s .args .t2) (s .args .t1) (s .args .n) _ (s .pre .1 .1 .0))
-
-sub-d : tie.Need-sub-d Inv-loop μ-loop
-sub-d c = search needs
-
-mul-location : tie.Need-mul-location Inv-loop μ-loop
-mul-location c = search needs
-
-array-copy-out-location : tie.Need-array-copy-out-location Inv-loop μ-loop
-array-copy-out-location c = search needs
-
-lower-node-requires : tie.Need-lower-node-requires Inv-loop μ-loop
-lower-node-requires c κs = search needs
+loop-holds c = let s = c .before in ((omega arith, (s .pre .1 .sixteen, s .pre .0 .some)), spread-none (s .args .t2) (s .args .t1) (s .args .n) _ (s .pre .1 .zero-first))
 
 mul-low : tie.Need-mul-low Inv-loop μ-loop
 mul-low c =
     let w = c .before .before in
     let l = w .before in
     let s = l .before .before in
-    omega (arith, c .lower-node .ensures, lower-small (getD (s .args .t2) (l .loop .d - 1) (Exact 0)) (drop (l .loop .d) (take (s .args .n) (s .args .t2))) (getD (s .args .t1) (l .loop .d - 1) 0) (drop (l .loop .d) (take (s .args .n) (s .args .t1))) (within-at (s .args .t2) (s .args .t1) (s .args .n) (l .loop .d) (s .pre .0 .0) (long-l s) (long-c s) (w .loop-test .taken) (l .loop .inv .0 .0) (s .pre .0 .1 .0) (s .pre .0 .1 .1)) (small-at (s .args .t2) (s .args .t1) (s .args .n) (l .loop .d) (s .pre .0 .0) (long-l s) (long-c s) (w .loop-test .taken) (l .loop .inv .0 .0) (s .pre .0 .1 .0) (s .pre .0 .1 .1)), ap (λ (x : ℕ). locationIndex (getD (s .args .t2) (l .loop .d - 1) (Exact 0)) * x) (l .loop .inv .1 .strided), ap (λ (x : ℕ). x * l .loop .stride) (c .lower-node .ensures))
+    omega (arith, c .lower-node .ensures, lower-small (getD (s .args .t2) (l .loop .d - 1) (Exact 0)) (drop (l .loop .d) (take (s .args .n) (s .args .t2))) (getD (s .args .t1) (l .loop .d - 1) 0) (drop (l .loop .d) (take (s .args .n) (s .args .t1))) (within-at (s .args .t2) (s .args .t1) (s .args .n) (l .loop .d) (s .pre .0 .few) (long-l s) (long-c s) (w .loop-test .taken) (l .loop .inv .0 .0) (s .pre .0 .small) (s .pre .0 .within)) (small-at (s .args .t2) (s .args .t1) (s .args .n) (l .loop .d) (s .pre .0 .few) (long-l s) (long-c s) (w .loop-test .taken) (l .loop .inv .0 .0) (s .pre .0 .small) (s .pre .0 .within)), ap (λ (x : ℕ). locationIndex (getD (s .args .t2) (l .loop .d - 1) (Exact 0)) * x) (l .loop .inv .1 .strided), ap (λ (x : ℕ). x * l .loop .stride) (c .lower-node .ensures))
 
 upper-node-requires : tie.Need-upper-node-requires Inv-loop μ-loop
 upper-node-requires c κs =
     let w = c .before .before in
     let l = w .before in
     let s = l .before .before in
-    upper-few (getD (s .args .t2) (l .loop .d - 1) (Exact 0)) (drop (l .loop .d) (take (s .args .n) (s .args .t2))) (getD (s .args .t1) (l .loop .d - 1) 0) (drop (l .loop .d) (take (s .args .n) (s .args .t1))) (within-at (s .args .t2) (s .args .t1) (s .args .n) (l .loop .d) (s .pre .0 .0) (long-l s) (long-c s) (w .loop-test .taken) (l .loop .inv .0 .0) (s .pre .0 .1 .0) (s .pre .0 .1 .1)) (small-at (s .args .t2) (s .args .t1) (s .args .n) (l .loop .d) (s .pre .0 .0) (long-l s) (long-c s) (w .loop-test .taken) (l .loop .inv .0 .0) (s .pre .0 .1 .0) (s .pre .0 .1 .1))
+    upper-few (getD (s .args .t2) (l .loop .d - 1) (Exact 0)) (drop (l .loop .d) (take (s .args .n) (s .args .t2))) (getD (s .args .t1) (l .loop .d - 1) 0) (drop (l .loop .d) (take (s .args .n) (s .args .t1))) (within-at (s .args .t2) (s .args .t1) (s .args .n) (l .loop .d) (s .pre .0 .few) (long-l s) (long-c s) (w .loop-test .taken) (l .loop .inv .0 .0) (s .pre .0 .small) (s .pre .0 .within)) (small-at (s .args .t2) (s .args .t1) (s .args .n) (l .loop .d) (s .pre .0 .few) (long-l s) (long-c s) (w .loop-test .taken) (l .loop .inv .0 .0) (s .pre .0 .small) (s .pre .0 .within))
 
 mul-high : tie.Need-mul-high Inv-loop μ-loop
 mul-high c =
     let w = c .before .before .before in
     let l = w .before in
     let s = l .before .before in
-    omega (arith, upper-small (getD (s .args .t2) (l .loop .d - 1) (Exact 0)) (drop (l .loop .d) (take (s .args .n) (s .args .t2))) (getD (s .args .t1) (l .loop .d - 1) 0) (drop (l .loop .d) (take (s .args .n) (s .args .t1))) (within-at (s .args .t2) (s .args .t1) (s .args .n) (l .loop .d) (s .pre .0 .0) (long-l s) (long-c s) (w .loop-test .taken) (l .loop .inv .0 .0) (s .pre .0 .1 .0) (s .pre .0 .1 .1)) (small-at (s .args .t2) (s .args .t1) (s .args .n) (l .loop .d) (s .pre .0 .0) (long-l s) (long-c s) (w .loop-test .taken) (l .loop .inv .0 .0) (s .pre .0 .1 .0) (s .pre .0 .1 .1)), ap (λ (x : ℕ). upperOf (getD (s .args .t2) (l .loop .d - 1) (Exact 0)) * x) (l .loop .inv .1 .strided), ap (λ (x : ℕ). x * l .loop .stride) (c .upper-node .ensures))
+    omega (arith, upper-small (getD (s .args .t2) (l .loop .d - 1) (Exact 0)) (drop (l .loop .d) (take (s .args .n) (s .args .t2))) (getD (s .args .t1) (l .loop .d - 1) 0) (drop (l .loop .d) (take (s .args .n) (s .args .t1))) (within-at (s .args .t2) (s .args .t1) (s .args .n) (l .loop .d) (s .pre .0 .few) (long-l s) (long-c s) (w .loop-test .taken) (l .loop .inv .0 .0) (s .pre .0 .small) (s .pre .0 .within)) (small-at (s .args .t2) (s .args .t1) (s .args .n) (l .loop .d) (s .pre .0 .few) (long-l s) (long-c s) (w .loop-test .taken) (l .loop .inv .0 .0) (s .pre .0 .small) (s .pre .0 .within)), ap (λ (x : ℕ). upperOf (getD (s .args .t2) (l .loop .d - 1) (Exact 0)) * x) (l .loop .inv .1 .strided), ap (λ (x : ℕ). x * l .loop .stride) (c .upper-node .ensures))
 
 spread-requires : tie.Need-spread-requires Inv-loop μ-loop
 spread-requires c κs =
@@ -70,29 +58,20 @@ spread-requires c κs =
     let s = l .before .before in
     let strided = l .loop .inv .1 .strided in
     let low-is = ap (λ (x : ℕ). x * l .loop .stride) (u .before .lower-node .ensures) ∙ ap (λ (x : ℕ). locationIndex (getD (s .args .t2) (l .loop .d - 1) (Exact 0)) * x) strided in
-    let high-is = ap (λ (x : ℕ). x * l .loop .stride) (u .upper-node .ensures) ∙ ap (λ (x : ℕ). upperOf (getD (s .args .t2) (l .loop .d - 1) (Exact 0)) * x) strided in (
-      (omega (arith, l .loop .inv .0 .1 .0, eight-at (s .args .t2) (s .args .t1) (s .args .n) (l .loop .d) (s .pre .0 .0) (long-l s) (long-c s) (w .loop-test .taken) (l .loop .inv .0 .0) (s .pre .0 .1 .0) (s .pre .0 .1 .1) (l .loop .places) (l .loop .count) (l .loop .stride) (l .loop .inv .1)), (omega (arith, low-is, lower-small (getD (s .args .t2) (l .loop .d - 1) (Exact 0)) (drop (l .loop .d) (take (s .args .n) (s .args .t2))) (getD (s .args .t1) (l .loop .d - 1) 0) (drop (l .loop .d) (take (s .args .n) (s .args .t1))) (within-at (s .args .t2) (s .args .t1) (s .args .n) (l .loop .d) (s .pre .0 .0) (long-l s) (long-c s) (w .loop-test .taken) (l .loop .inv .0 .0) (s .pre .0 .1 .0) (s .pre .0 .1 .1)) (small-at (s .args .t2) (s .args .t1) (s .args .n) (l .loop .d) (s .pre .0 .0) (long-l s) (long-c s) (w .loop-test .taken) (l .loop .inv .0 .0) (s .pre .0 .1 .0) (s .pre .0 .1 .1))), omega (arith, high-is, upper-small (getD (s .args .t2) (l .loop .d - 1) (Exact 0)) (drop (l .loop .d) (take (s .args .n) (s .args .t2))) (getD (s .args .t1) (l .loop .d - 1) 0) (drop (l .loop .d) (take (s .args .n) (s .args .t1))) (within-at (s .args .t2) (s .args .t1) (s .args .n) (l .loop .d) (s .pre .0 .0) (long-l s) (long-c s) (w .loop-test .taken) (l .loop .inv .0 .0) (s .pre .0 .1 .0) (s .pre .0 .1 .1)) (small-at (s .args .t2) (s .args .t1) (s .args .n) (l .loop .d) (s .pre .0 .0) (long-l s) (long-c s) (w .loop-test .taken) (l .loop .inv .0 .0) (s .pre .0 .1 .0) (s .pre .0 .1 .1))))),
-      placed-small (s .args .t2) (s .args .t1) (s .args .n) (l .loop .d) (s .pre .0 .0) (long-l s) (long-c s) (w .loop-test .taken) (l .loop .inv .0 .0) (s .pre .0 .1 .0) (s .pre .0 .1 .1) (l .loop .places) (l .loop .count) (l .loop .stride) (l .loop .inv .1),
-    )
-
-grow-requires : tie.Need-grow-requires Inv-loop μ-loop
-grow-requires c κs = search needs
-
-mul-stride : tie.Need-mul-stride Inv-loop μ-loop
-mul-stride c = search needs
-
-array-read-stride : tie.Need-array-read-stride Inv-loop μ-loop
-array-read-stride c = search needs
+    let high-is = ap (λ (x : ℕ). x * l .loop .stride) (u .upper-node .ensures) ∙ ap (λ (x : ℕ). upperOf (getD (s .args .t2) (l .loop .d - 1) (Exact 0)) * x) strided in
+    record {
+      room = omega (arith, l .loop .inv .0 .1 .0, eight-at (s .args .t2) (s .args .t1) (s .args .n) (l .loop .d) (s .pre .0 .few) (long-l s) (long-c s) (w .loop-test .taken) (l .loop .inv .0 .0) (s .pre .0 .small) (s .pre .0 .within) (l .loop .places) (l .loop .count) (l .loop .stride) (l .loop .inv .1));
+      low-few = omega (arith, low-is, lower-small (getD (s .args .t2) (l .loop .d - 1) (Exact 0)) (drop (l .loop .d) (take (s .args .n) (s .args .t2))) (getD (s .args .t1) (l .loop .d - 1) 0) (drop (l .loop .d) (take (s .args .n) (s .args .t1))) (within-at (s .args .t2) (s .args .t1) (s .args .n) (l .loop .d) (s .pre .0 .few) (long-l s) (long-c s) (w .loop-test .taken) (l .loop .inv .0 .0) (s .pre .0 .small) (s .pre .0 .within)) (small-at (s .args .t2) (s .args .t1) (s .args .n) (l .loop .d) (s .pre .0 .few) (long-l s) (long-c s) (w .loop-test .taken) (l .loop .inv .0 .0) (s .pre .0 .small) (s .pre .0 .within)));
+      high-few = omega (arith, high-is, upper-small (getD (s .args .t2) (l .loop .d - 1) (Exact 0)) (drop (l .loop .d) (take (s .args .n) (s .args .t2))) (getD (s .args .t1) (l .loop .d - 1) 0) (drop (l .loop .d) (take (s .args .n) (s .args .t1))) (within-at (s .args .t2) (s .args .t1) (s .args .n) (l .loop .d) (s .pre .0 .few) (long-l s) (long-c s) (w .loop-test .taken) (l .loop .inv .0 .0) (s .pre .0 .small) (s .pre .0 .within)) (small-at (s .args .t2) (s .args .t1) (s .args .n) (l .loop .d) (s .pre .0 .few) (long-l s) (long-c s) (w .loop-test .taken) (l .loop .inv .0 .0) (s .pre .0 .small) (s .pre .0 .within)));
+      small = placed-small (s .args .t2) (s .args .t1) (s .args .n) (l .loop .d) (s .pre .0 .few) (long-l s) (long-c s) (w .loop-test .taken) (l .loop .inv .0 .0) (s .pre .0 .small) (s .pre .0 .within) (l .loop .places) (l .loop .count) (l .loop .stride) (l .loop .inv .1);
+    }
 
 mul-stride-2 : tie.Need-mul-stride-2 Inv-loop μ-loop
 mul-stride-2 c =
     let w = c .before .before .before .before .before .before .before .before in
     let l = w .before in
     let s = l .before .before in
-    omega (arith, small-at (s .args .t2) (s .args .t1) (s .args .n) (l .loop .d) (s .pre .0 .0) (long-l s) (long-c s) (w .loop-test .taken) (l .loop .inv .0 .0) (s .pre .0 .1 .0) (s .pre .0 .1 .1), size-cons (getD (s .args .t1) (l .loop .d - 1) 0) (drop (l .loop .d) (take (s .args .n) (s .args .t1))), ap (λ (x : ℕ). getD (s .args .t1) (l .loop .d - 1) 0 * x) (l .loop .inv .1 .strided))
-
-loop-less : tie.Need-loop-less Inv-loop μ-loop
-loop-less c = search needs
+    omega (arith, small-at (s .args .t2) (s .args .t1) (s .args .n) (l .loop .d) (s .pre .0 .few) (long-l s) (long-c s) (w .loop-test .taken) (l .loop .inv .0 .0) (s .pre .0 .small) (s .pre .0 .within), size-cons (getD (s .args .t1) (l .loop .d - 1) 0) (drop (l .loop .d) (take (s .args .n) (s .args .t1))), ap (λ (x : ℕ). getD (s .args .t1) (l .loop .d - 1) 0 * x) (l .loop .inv .1 .strided))
 
 loop-again : tie.Need-loop-again Inv-loop μ-loop
 loop-again c =
@@ -101,8 +80,8 @@ loop-again c =
     let w = u .before .before .before in
     let l = w .before in
     let s = l .before .before in
-    let z = spread-step (drop (l .loop .d) (take (s .args .n) (s .args .t2))) (getD (s .args .t1) (l .loop .d - 1) 0) (drop (l .loop .d) (take (s .args .n) (s .args .t1))) (l .loop .places) _ (l .loop .count) (l .loop .stride) (l .loop .inv .1) (getD (s .args .t2) (l .loop .d - 1) (Exact 0)) _ _ (c .grow .result) _ (ap (λ (x : ℕ). x * l .loop .stride) (u .before .lower-node .ensures)) (ap (λ (x : ℕ). x * l .loop .stride) (u .upper-node .ensures)) (k .spread .ensures) (c .grow .ensures) refl (few-at (s .args .t2) (s .args .t1) (s .args .n) (l .loop .d) (s .pre .0 .0) (long-l s) (long-c s) (w .loop-test .taken) (l .loop .inv .0 .0) (s .pre .0 .1 .0) (s .pre .0 .1 .1)) in
-    ((omega (arith, w .loop-test .taken), (k .spread .kept .0 ∙ l .loop .inv .0 .1 .0, omega (arith, w .loop-test .taken))), closed-at (s .args .t2) (s .args .t1) (s .args .n) (l .loop .d) (s .pre .0 .0) (long-l s) (long-c s) (w .loop-test .taken) (l .loop .inv .0 .0) (s .pre .0 .1 .0) (s .pre .0 .1 .1) _ (c .grow .result) _ z)
+    let z = spread-step (drop (l .loop .d) (take (s .args .n) (s .args .t2))) (getD (s .args .t1) (l .loop .d - 1) 0) (drop (l .loop .d) (take (s .args .n) (s .args .t1))) (l .loop .places) _ (l .loop .count) (l .loop .stride) (l .loop .inv .1) (getD (s .args .t2) (l .loop .d - 1) (Exact 0)) _ _ (c .grow .result) _ (ap (λ (x : ℕ). x * l .loop .stride) (u .before .lower-node .ensures)) (ap (λ (x : ℕ). x * l .loop .stride) (u .upper-node .ensures)) (k .spread .ensures .both) (c .grow .ensures) refl (few-at (s .args .t2) (s .args .t1) (s .args .n) (l .loop .d) (s .pre .0 .few) (long-l s) (long-c s) (w .loop-test .taken) (l .loop .inv .0 .0) (s .pre .0 .small) (s .pre .0 .within)) in
+    ((omega (arith, w .loop-test .taken), (k .spread .kept .0 ∙ l .loop .inv .0 .1 .0, omega (arith, w .loop-test .taken))), closed-at (s .args .t2) (s .args .t1) (s .args .n) (l .loop .d) (s .pre .0 .few) (long-l s) (long-c s) (w .loop-test .taken) (l .loop .inv .0 .0) (s .pre .0 .small) (s .pre .0 .within) _ (c .grow .result) _ z)
 
 -- ---- after the loop, at the first axis
 module _ (t : tie.After-lower-node2 Inv-loop μ-loop) where
@@ -131,10 +110,10 @@ module _ (t : tie.After-lower-node2 Inv-loop μ-loop) where
   low-is = ap₂ (λ (x y : ℕ). x * y) (t .lower-node2 .ensures ∙ ap locationIndex here) (done .strided)
 
   few : upperOf at-first ≤ 4096
-  few = first-few (s .args .t2) (s .args .t1) (s .args .n) (s .pre .1 .1 .1) (long-l s) (long-c s) (s .pre .0 .1 .1) (s .pre .0 .1 .0)
+  few = first-few (s .args .t2) (s .args .t1) (s .args .n) (s .pre .0 .some) (long-l s) (long-c s) (s .pre .0 .within) (s .pre .0 .small)
 
   small : upperOf at-first * under ≤ 4096
-  small = first-small (s .args .t2) (s .args .t1) (s .args .n) (s .pre .1 .1 .1) (long-l s) (long-c s) (s .pre .0 .1 .1) (s .pre .0 .1 .0)
+  small = first-small (s .args .t2) (s .args .t1) (s .args .n) (s .pre .0 .some) (long-l s) (long-c s) (s .pre .0 .within) (s .pre .0 .small)
 
 high-is : (u : tie.After-upper-node2 Inv-loop μ-loop) → u .upper-node2 .result * l (u .before) .loop .stride ≡ upperOf (at-first (u .before)) * under (u .before)
 high-is u = ap₂ (λ (x y : ℕ). x * y) (u .upper-node2 .ensures ∙ ap upperOf (here (u .before))) (done (u .before) .strided)
@@ -148,9 +127,6 @@ mul-first c = omega (arith, c .loop-test .left)
 array-copy-out-first : tie.Need-array-copy-out-first Inv-loop μ-loop
 array-copy-out-first c = omega (arith, c .loop-test .left)
 
-lower-node-requires-2 : tie.Need-lower-node-requires-2 Inv-loop μ-loop
-lower-node-requires-2 c κs = search needs
-
 mul-low-2 : tie.Need-mul-low-2 Inv-loop μ-loop
 mul-low-2 c = omega (arith, low-is c, small c, mul-le-mul-right (under c) (lower-upper (at-first c)))
 
@@ -161,10 +137,10 @@ mul-high-2 : tie.Need-mul-high-2 Inv-loop μ-loop
 mul-high-2 c = omega (arith, high-is c, small (c .before))
 
 same-length : tie.Need-same-length Inv-loop μ-loop
-same-length c = let k = l (c .before) in k .loop .inv .0 .1 .0 ∙ sym (k .before .before .pre .1 .0)
+same-length c = let k = l (c .before) in k .loop .inv .0 .1 .0 ∙ sym (k .before .before .pre .1 .sixteen)
 
 returns : tie.Need-returns Inv-loop μ-loop
-returns c = let z = done (c .before) in (z .counted, ((low-is (c .before), high-is c), z .placed))
+returns c = let z = done (c .before) in record { corners = z .counted; lower = low-is (c .before); upper = high-is c; each = z .placed }
 
 pub rest-places-spec : {M : Type 1} → statement M
 rest-places-spec =
@@ -173,24 +149,24 @@ rest-places-spec =
     Inv-loop
     μ-loop
     loop-holds
-    sub-d
-    mul-location
-    array-copy-out-location
-    lower-node-requires
+    (λ c. search needs)
+    (λ c. search needs)
+    (λ c. search needs)
+    (λ c κs. search needs)
     mul-low
     upper-node-requires
     mul-high
     spread-requires
-    grow-requires
-    mul-stride
-    array-read-stride
+    (λ c κs. search needs)
+    (λ c. search needs)
+    (λ c. search needs)
     mul-stride-2
-    loop-less
+    (λ c. search needs)
     loop-again
     sub-first
     mul-first
     array-copy-out-first
-    lower-node-requires-2
+    (λ c κs. search needs)
     mul-low-2
     upper-node-requires-2
     mul-high-2

@@ -1,9 +1,9 @@
 use lib.ListN.{length-set, length, take, getD}
 use lib.Seq.{length-take-le}
 use Rattle.layout.specs.Layout.{axesOf, tabulate}
-use Rattle.shapes.proofs.Totals.{length-ids}
+use Rattle.layout.proofs.Totals.{length-ids}
 use Rattle.layout.proofs.Walks.{length-axes, Walk}
-use Rattle.blend.specs.declared.AxisLocation.the-variants.{Exact}
+use Rattle.axis.specs.declared.AxisLocation.the-variants.{Exact}
 use Rattle.ninterp.specs.Linears.{locations}
 use Rattle.axis.specs.Locations.{locationBy}
 use Rattle.ninterp.specs.Locations.{Within}
@@ -34,7 +34,7 @@ four : (s : tie.Start Inv-loop μ-loop) → length (C s) ≡ 4
 four s = length-ids (C s) (s .good .1 .0 .1 .1 .1 .0 .1 .0 .1)
 
 long : (s : tie.Start Inv-loop μ-loop) → s .args .shape .axes ≤ length (C s)
-long s = omega (arith, four s, s .pre .1 .0)
+long s = omega (arith, four s, s .pre .four)
 
 loop-holds : tie.Need-loop-holds Inv-loop μ-loop
 loop-holds c = (search needs, (refl, (refl, λ k b. absurd (omega arith))))
@@ -58,32 +58,14 @@ add-end c =
     let w = c in
     let l = w .before in
     let s = l .before .before .before .before in
-    omega (arith, axis-within (C s) (s .args .shape .axes) (now (s .args .nodes)) [] (now (s .args .point)) (s .pre .0) (long s) (s .pre .1 .1 .1) (l .loop .a) (l .loop .at) (w .loop-test .taken) (l .loop .inv .1 .0))
-
-mul-location-by : tie.Need-mul-location-by Inv-loop μ-loop
-mul-location-by c = search needs
-
-sub-location-by : tie.Need-sub-location-by Inv-loop μ-loop
-sub-location-by c = search needs
-
-part-location-by-start : tie.Need-part-location-by-start Inv-loop μ-loop
-part-location-by-start c = search needs
+    omega (arith, axis-within (C s) (s .args .shape .axes) (now (s .args .nodes)) [] (now (s .args .point)) (s .pre .grid) (long s) (s .pre .finites) (l .loop .a) (l .loop .at) (w .loop-test .taken) (l .loop .inv .1 .0))
 
 part-location-by-end : tie.Need-part-location-by-end Inv-loop μ-loop
 part-location-by-end c =
     let w = c in
     let l = w .before in
     let s = l .before .before .before .before in
-    omega (arith, axis-within (C s) (s .args .shape .axes) (now (s .args .nodes)) [] (now (s .args .point)) (s .pre .0) (long s) (s .pre .1 .1 .1) (l .loop .a) (l .loop .at) (w .loop-test .taken) (l .loop .inv .1 .0))
-
-mul-location-by-2 : tie.Need-mul-location-by-2 Inv-loop μ-loop
-mul-location-by-2 c = search needs
-
-shared-slice-read-location-by : tie.Need-shared-slice-read-location-by Inv-loop μ-loop
-shared-slice-read-location-by c = search needs
-
-location-by-requires : tie.Need-location-by-requires Inv-loop μ-loop
-location-by-requires c κs = search needs
+    omega (arith, axis-within (C s) (s .args .shape .axes) (now (s .args .nodes)) [] (now (s .args .point)) (s .pre .grid) (long s) (s .pre .finites) (l .loop .a) (l .loop .at) (w .loop-test .taken) (l .loop .inv .1 .0))
 
 mul-found : tie.Need-mul-found Inv-loop μ-loop
 mul-found c =
@@ -99,23 +81,17 @@ array-set-from-found c =
     let s = l .before .before .before .before in
     omega (arith, four s, long s)
 
-add-a : tie.Need-add-a Inv-loop μ-loop
-add-a c = search needs
-
-loop-less : tie.Need-loop-less Inv-loop μ-loop
-loop-less c = search needs
-
 loop-again : tie.Need-loop-again Inv-loop μ-loop
 loop-again c =
     let w = c .before .before .before in
     let l = w .before in
     let s = l .before .before .before .before in
     let t = w .loop-test .taken in
-    let good = axis-good (C s) (s .args .shape .axes) (now (s .args .nodes)) [] (now (s .args .point)) (s .pre .0) (long s) (s .pre .1 .1 .1) (l .loop .a) (l .loop .at) t (l .loop .inv .1 .0) in
-    let same = c .location-by .ensures ∙ location-found _ _ good (s .pre .1 .1 .1 (l .loop .a) t) (s .args .uniform) ∙ ap (λ xs. locationBy (s .args .uniform) xs (getD (now (s .args .point)) (l .loop .a) nan)) (axis-read (C s) (s .args .shape .axes) (now (s .args .nodes)) [] (now (s .args .point)) (s .pre .0) (long s) (s .pre .1 .1 .1) (l .loop .a) (l .loop .at) t (l .loop .inv .1 .0)) in (
-      (omega (arith, t), omega (arith, axis-within (C s) (s .args .shape .axes) (now (s .args .nodes)) [] (now (s .args .point)) (s .pre .0) (long s) (s .pre .1 .1 .1) (l .loop .a) (l .loop .at) t (l .loop .inv .1 .0))),
+    let good = axis-good (C s) (s .args .shape .axes) (now (s .args .nodes)) [] (now (s .args .point)) (s .pre .grid) (long s) (s .pre .finites) (l .loop .a) (l .loop .at) t (l .loop .inv .1 .0) in
+    let same = c .location-by .ensures ∙ location-found _ _ good (s .pre .finites (l .loop .a) t) (s .args .uniform) ∙ ap (λ xs. locationBy (s .args .uniform) xs (getD (now (s .args .point)) (l .loop .a) nan)) (axis-read (C s) (s .args .shape .axes) (now (s .args .nodes)) [] (now (s .args .point)) (s .pre .grid) (long s) (s .pre .finites) (l .loop .a) (l .loop .at) t (l .loop .inv .1 .0)) in (
+      (omega (arith, t), omega (arith, axis-within (C s) (s .args .shape .axes) (now (s .args .nodes)) [] (now (s .args .point)) (s .pre .grid) (long s) (s .pre .finites) (l .loop .a) (l .loop .at) t (l .loop .inv .1 .0))),
       (
-        axis-next (C s) (s .args .shape .axes) (now (s .args .nodes)) [] (now (s .args .point)) (s .pre .0) (long s) (s .pre .1 .1 .1) (l .loop .a) (l .loop .at) t (l .loop .inv .1 .0),
+        axis-next (C s) (s .args .shape .axes) (now (s .args .nodes)) [] (now (s .args .point)) (s .pre .grid) (long s) (s .pre .finites) (l .loop .a) (l .loop .at) t (l .loop .inv .1 .0),
         (
           length-set (l .loop .found) (l .loop .a) (c .location-by .result) ∙ l .loop .inv .1 .1 .0,
           put-step (l .loop .found) (l .loop .a) (c .location-by .result) (Exact 0) (λ k. locationBy (s .args .uniform) (getD (axesOf (take (s .args .shape .axes) (C s)) (now (s .args .nodes))) k []) (getD (now (s .args .point)) k nan)) (omega (arith, l .loop .inv .1 .1 .0, four s, long s, t)) (l .loop .inv .1 .1 .1) same,
@@ -140,12 +116,13 @@ returns : tie.Need-returns Inv-loop μ-loop
 returns c =
     let s = start c in
     let cs = take (s .args .shape .axes) (C s) in
-    let n : length (take (s .args .shape .axes) (C s)) ≡ s .args .shape .axes = length-take-le (s .args .shape .axes) (C s) (long s) in (
-      filled c,
-      subst (λ ps. Within ps cs) (sym (filled c))
-          (locations-within (locationBy (s .args .uniform)) cs (now (s .args .nodes)) (now (s .args .point)) (s .pre .0 .flat)
-          (λ a l. location-fits (getD (axesOf cs (now (s .args .nodes))) a []) (getD (now (s .args .point)) a nan) (s .pre .0 .axes a l) (s .pre .1 .1 .1 a (omega (arith, n, l))) (s .args .uniform))),
-    )
+    let n : length (take (s .args .shape .axes) (C s)) ≡ s .args .shape .axes = length-take-le (s .args .shape .axes) (C s) (long s) in
+    record {
+      same = filled c;
+      within = subst (λ ps. Within ps cs) (sym (filled c))
+          (locations-within (locationBy (s .args .uniform)) cs (now (s .args .nodes)) (now (s .args .point)) (s .pre .grid .flat)
+          (λ a l. location-fits (getD (axesOf cs (now (s .args .nodes))) a []) (getD (now (s .args .point)) a nan) (s .pre .grid .axes a l) (s .pre .finites a (omega (arith, n, l))) (s .args .uniform)));
+    }
 
 pub all-spec : {M : Type 1} → statement M
 all-spec =
@@ -157,16 +134,16 @@ all-spec =
     mul-count
     array-read-count
     add-end
-    mul-location-by
-    sub-location-by
-    part-location-by-start
+    (λ c. search needs)
+    (λ c. search needs)
+    (λ c. search needs)
     part-location-by-end
-    mul-location-by-2
-    shared-slice-read-location-by
-    location-by-requires
+    (λ c. search needs)
+    (λ c. search needs)
+    (λ c κs. search needs)
     mul-found
     array-set-from-found
-    add-a
-    loop-less
+    (λ c. search needs)
+    (λ c. search needs)
     loop-again
     returns)

@@ -5,13 +5,13 @@ use lib.ListN.{length, take, drop}
 use denote.Ref.{now}
 use borrow.Author.Needs.{needs}
 use mathlib.Core.List.{List}
-use Rattle.shapes.specs.Shape.{size}
+use Rattle.layout.specs.Shape.{size}
 use Rattle.layout.specs.Layout.{axesOf, place}
-use Rattle.shapes.proofs.Totals.{length-ids}
+use Rattle.layout.proofs.Totals.{length-ids}
 use Rattle.layout.proofs.Walks.{Walk}
 use Rattle.layout.proofs.Layouts.{place-start}
 use Rattle.ninterp.specs.Tables.{indices}
-use Rattle.picks.specs.Picks.{pickRule}
+use Rattle.axis.specs.Picks.{pickRule}
 use Rattle.ninterp.proofs.Picks.{axis-within, axis-next, flat-next, flat-fits, flat-done}
 use Rattle.ninterp.proofs.interpolator.n.pick.pick_place.Statement.{statement}
 use Rattle.ninterp.proofs.interpolator.n.pick.pick_place.Tie as tie
@@ -30,7 +30,7 @@ four s = length-ids (C s) (s .good .0 .1 .1 .1 .0 .1 .0 .1)
 
 -- the axes are as many as the counts that are looked at
 long : (s : tie.Start Inv-loop μ-loop) → s .args .shape .axes ≤ length (C s)
-long s = omega (arith, four s, s .pre .1 .0)
+long s = omega (arith, four s, s .pre .0 .four)
 
 loop-holds : tie.Need-loop-holds Inv-loop μ-loop
 loop-holds c = (search needs, (refl, place-start _ _))
@@ -51,65 +51,39 @@ add-end : tie.Need-add-end Inv-loop μ-loop
 add-end c =
     let l = c .before in
     let s = l .before .before .before .before .before in
-    omega (arith, axis-within (C s) (s .args .shape .axes) (now (s .args .nodes)) (now (s .args .picks)) (now (s .args .point)) (s .pre .0) (long s) (s .pre .1 .1 .1 .1) (l .loop .a) (l .loop .at) (c .loop-test .taken) (l .loop .inv .1 .0))
-
-shared-slice-read-pick-index : tie.Need-shared-slice-read-pick-index Inv-loop μ-loop
-shared-slice-read-pick-index c = search needs
-
-mul-pick-index : tie.Need-mul-pick-index Inv-loop μ-loop
-mul-pick-index c = search needs
-
-sub-pick-index : tie.Need-sub-pick-index Inv-loop μ-loop
-sub-pick-index c = search needs
-
-part-pick-index-start : tie.Need-part-pick-index-start Inv-loop μ-loop
-part-pick-index-start c = search needs
+    omega (arith, axis-within (C s) (s .args .shape .axes) (now (s .args .nodes)) (now (s .args .picks)) (now (s .args .point)) (s .pre .0 .grid) (long s) (s .pre .0 .finites) (l .loop .a) (l .loop .at) (c .loop-test .taken) (l .loop .inv .1 .0))
 
 part-pick-index-end : tie.Need-part-pick-index-end Inv-loop μ-loop
 part-pick-index-end c =
     let l = c .before .before in
     let s = l .before .before .before .before .before in
-    omega (arith, axis-within (C s) (s .args .shape .axes) (now (s .args .nodes)) (now (s .args .picks)) (now (s .args .point)) (s .pre .0) (long s) (s .pre .1 .1 .1 .1) (l .loop .a) (l .loop .at) (c .before .loop-test .taken) (l .loop .inv .1 .0))
-
-mul-pick-index-2 : tie.Need-mul-pick-index-2 Inv-loop μ-loop
-mul-pick-index-2 c = search needs
-
-shared-slice-read-pick-index-2 : tie.Need-shared-slice-read-pick-index-2 Inv-loop μ-loop
-shared-slice-read-pick-index-2 c = search needs
-
-pick-index-requires : tie.Need-pick-index-requires Inv-loop μ-loop
-pick-index-requires c κs = search needs
+    omega (arith, axis-within (C s) (s .args .shape .axes) (now (s .args .nodes)) (now (s .args .picks)) (now (s .args .point)) (s .pre .0 .grid) (long s) (s .pre .0 .finites) (l .loop .a) (l .loop .at) (c .before .loop-test .taken) (l .loop .inv .1 .0))
 
 mul-flat : tie.Need-mul-flat Inv-loop μ-loop
 mul-flat c =
     let l = c .before .before .before .before .before in
     let s = l .before .before .before .before .before in
-    omega (arith, flat-fits (C s) (s .args .shape .axes) (now (s .args .nodes)) (now (s .args .picks)) (now (s .args .point)) (s .pre .0) (long s) (s .pre .1 .1 .1 .1) (l .loop .a) (l .loop .at) (c .before .before .before .before .loop-test .taken) (l .loop .inv .1 .0) (c .pick-index .result) (c .pick-index .ensures) (l .loop .flat) (l .loop .inv .1 .1))
+    omega (arith, flat-fits (C s) (s .args .shape .axes) (now (s .args .nodes)) (now (s .args .picks)) (now (s .args .point)) (s .pre .0 .grid) (long s) (s .pre .0 .finites) (l .loop .a) (l .loop .at) (c .before .before .before .before .loop-test .taken) (l .loop .inv .1 .0) (c .pick-index .result) (c .pick-index .ensures) (l .loop .flat) (l .loop .inv .1 .1))
 
 add-flat : tie.Need-add-flat Inv-loop μ-loop
 add-flat c =
     let l = c .before .before .before .before .before in
     let s = l .before .before .before .before .before in
-    omega (arith, flat-fits (C s) (s .args .shape .axes) (now (s .args .nodes)) (now (s .args .picks)) (now (s .args .point)) (s .pre .0) (long s) (s .pre .1 .1 .1 .1) (l .loop .a) (l .loop .at) (c .before .before .before .before .loop-test .taken) (l .loop .inv .1 .0) (c .pick-index .result) (c .pick-index .ensures) (l .loop .flat) (l .loop .inv .1 .1))
-
-add-a : tie.Need-add-a Inv-loop μ-loop
-add-a c = search needs
-
-loop-less : tie.Need-loop-less Inv-loop μ-loop
-loop-less c = search needs
+    omega (arith, flat-fits (C s) (s .args .shape .axes) (now (s .args .nodes)) (now (s .args .picks)) (now (s .args .point)) (s .pre .0 .grid) (long s) (s .pre .0 .finites) (l .loop .a) (l .loop .at) (c .before .before .before .before .loop-test .taken) (l .loop .inv .1 .0) (c .pick-index .result) (c .pick-index .ensures) (l .loop .flat) (l .loop .inv .1 .1))
 
 loop-again : tie.Need-loop-again Inv-loop μ-loop
 loop-again c =
     let l = c .before .before .before .before .before in
     let s = l .before .before .before .before .before in
     let t = c .before .before .before .before .loop-test .taken in
-    (omega (arith, axis-within (C s) (s .args .shape .axes) (now (s .args .nodes)) (now (s .args .picks)) (now (s .args .point)) (s .pre .0) (long s) (s .pre .1 .1 .1 .1) (l .loop .a) (l .loop .at) t (l .loop .inv .1 .0)), (axis-next (C s) (s .args .shape .axes) (now (s .args .nodes)) (now (s .args .picks)) (now (s .args .point)) (s .pre .0) (long s) (s .pre .1 .1 .1 .1) (l .loop .a) (l .loop .at) t (l .loop .inv .1 .0), flat-next (C s) (s .args .shape .axes) (now (s .args .nodes)) (now (s .args .picks)) (now (s .args .point)) (s .pre .0) (long s) (s .pre .1 .1 .1 .1) (l .loop .a) (l .loop .at) t (l .loop .inv .1 .0) (c .pick-index .result) (c .pick-index .ensures) (l .loop .flat) (l .loop .inv .1 .1)))
+    (omega (arith, axis-within (C s) (s .args .shape .axes) (now (s .args .nodes)) (now (s .args .picks)) (now (s .args .point)) (s .pre .0 .grid) (long s) (s .pre .0 .finites) (l .loop .a) (l .loop .at) t (l .loop .inv .1 .0)), (axis-next (C s) (s .args .shape .axes) (now (s .args .nodes)) (now (s .args .picks)) (now (s .args .point)) (s .pre .0 .grid) (long s) (s .pre .0 .finites) (l .loop .a) (l .loop .at) t (l .loop .inv .1 .0), flat-next (C s) (s .args .shape .axes) (now (s .args .nodes)) (now (s .args .picks)) (now (s .args .point)) (s .pre .0 .grid) (long s) (s .pre .0 .finites) (l .loop .a) (l .loop .at) t (l .loop .inv .1 .0) (c .pick-index .result) (c .pick-index .ensures) (l .loop .flat) (l .loop .inv .1 .1)))
 
 returns : tie.Need-returns Inv-loop μ-loop
 returns c =
     let l = c .before in
     let s = l .before .before .before .before .before in
-    flat-done (C s) (s .args .shape .axes) (now (s .args .nodes)) (now (s .args .picks)) (now (s .args .point)) (s .pre .0) (long s) (s .pre .1 .1 .1 .1) (l .loop .a) (l .loop .flat) (c .loop-test .left) (l .loop .inv .1 .1)
+    let d = flat-done (C s) (s .args .shape .axes) (now (s .args .nodes)) (now (s .args .picks)) (now (s .args .point)) (s .pre .0 .grid) (long s) (s .pre .0 .finites) (l .loop .a) (l .loop .flat) (c .loop-test .left) (l .loop .inv .1 .1) in
+    record { same = d .0; below = d .1 }
 
 pub pick-place-spec : {M : Type 1} → statement M
 pick-place-spec =
@@ -121,17 +95,17 @@ pick-place-spec =
     mul-count
     array-read-count
     add-end
-    shared-slice-read-pick-index
-    mul-pick-index
-    sub-pick-index
-    part-pick-index-start
+    (λ c. search needs)
+    (λ c. search needs)
+    (λ c. search needs)
+    (λ c. search needs)
     part-pick-index-end
-    mul-pick-index-2
-    shared-slice-read-pick-index-2
-    pick-index-requires
+    (λ c. search needs)
+    (λ c. search needs)
+    (λ c κs. search needs)
     mul-flat
     add-flat
-    add-a
-    loop-less
+    (λ c. search needs)
+    (λ c. search needs)
     loop-again
     returns)

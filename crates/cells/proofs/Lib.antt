@@ -1,4 +1,0 @@
-pub mod Counts
-pub mod Cells
-pub mod Axes
-pub mod Unique

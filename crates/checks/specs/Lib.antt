@@ -1,0 +1,5 @@
+pub mod Nodes
+pub mod Numbers
+pub mod Shapes
+pub mod Passed
+pub mod Table

@@ -1,2 +1,0 @@
-pub mod Exacts
-pub mod Unique

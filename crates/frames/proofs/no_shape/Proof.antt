@@ -1,9 +1,0 @@
-use mathlib.Core.Path.{refl}
-use Rattle.frames.proofs.no_shape.Statement.{statement}
-use Rattle.frames.proofs.no_shape.Tie as tie
-
-returns : tie.Need-returns
-returns c = refl
-
-pub no-shape-spec : {M : Type 1} → statement M
-no-shape-spec = tie.close (tie.spec returns)

@@ -1,4 +1,0 @@
-pub mod Rows
-pub mod Primitives
-pub mod Unique
-pub mod Bares

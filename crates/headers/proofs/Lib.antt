@@ -1,4 +1,0 @@
-pub mod Rows
-pub mod Heads
-pub mod Bares
-pub mod Unique

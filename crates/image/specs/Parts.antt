@@ -1,0 +1,65 @@
+-- What the functions of the loader ask of one another, and give.
+use mathlib.Core.Path.{_≡_}
+use mathlib.Core.Bool.{true}
+use mathlib.Core.List.{List}
+use Prim.Native.Nat.{ℕ, _+_, _≤_, _<_}
+use lib.Seq.{sets}
+use lib.Ieee.{Float}
+use Rattle.answer.specs.Faults.{good}
+use Rattle.answer.specs.declared.Fault.{Fault}
+use Rattle.checks.specs.Shapes.{shapeFault}
+use Rattle.checks.specs.declared.shapes.Holding.{Holding}
+use Rattle.layout.specs.Shape.{countsOf, size, total}
+use Rattle.image.specs.Fields.{shapeOf}
+use Rattle.image.specs.Head.{countRow, offsetRow}
+use Rattle.image.specs.Image.{nodesIn, valuesIn}
+use Rattle.image.specs.Load.{areaRow}
+use Rattle.image.specs.declared.rows.Rows.{Rows}
+use Rattle.image.specs.declared.rows.Rows.the-variants.{Counts, Offsets, Areas}
+
+-- a number of the header, and how large it may be
+pub record Number (x bound r : ℕ) : Type 0 where
+  pub is : r ≡ x
+  pub below : r < bound
+
+-- an area, as large as the header can say
+pub record Area (offset n : ℕ) : Type 0 where
+  pub near : offset < 4294967296
+  pub few : n < 65536
+
+-- what is asked of an axis
+abbrev pub rowOf : Rows → List ℕ → ℕ → Fault
+rowOf Counts img a = countRow img a
+rowOf Offsets img a = offsetRow img a
+rowOf Areas img a = areaRow img a
+
+-- an image whose shape passes 1 and 2
+abbrev pub Judged : List ℕ → Type 0
+Judged img = good (shapeFault (shapeOf img)) ≡ true
+
+-- how many nodes and values it has
+pub record Holds (img : List ℕ) (r : Holding) : Type 0 where
+  pub nodes : r .nodes ≡ total (countsOf (shapeOf img))
+  pub values : r .values ≡ size (countsOf (shapeOf img))
+  pub few : r .nodes ≤ 256
+  pub small : r .values ≤ 4096
+
+-- room for an area in a part of an output
+pub record Room (at count to len : ℕ) : Type 0 where
+  pub area : Area at count
+  pub inside : to + count ≤ len
+
+-- room for all nodes, and for all nodes and all values
+pub record NodesRoom (img : List ℕ) (nodes : ℕ) : Type 0 where
+  pub judged : Judged img
+  pub nodes-room : total (countsOf (shapeOf img)) ≤ nodes
+
+pub record Rooms (img : List ℕ) (nodes values : ℕ) : Type 0 where
+  pub judged : Judged img
+  pub nodes-room : total (countsOf (shapeOf img)) ≤ nodes
+  pub values-room : size (countsOf (shapeOf img)) ≤ values
+
+-- two outputs with the nodes and the values at their fronts
+pub record Filled (img : List ℕ) (nodes values nodes′ values′ : List Float) : Type 0 where
+  pub nodes-read : nodes′ ≡ sets nodes 0 (nodesIn img)
+  pub values-read : values′ ≡ sets values 0 (valuesIn img)

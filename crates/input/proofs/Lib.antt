@@ -1,3 +1,0 @@
-pub mod Wholes
-pub mod Ends
-pub mod Unique

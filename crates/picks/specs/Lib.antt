@@ -1,3 +1,0 @@
-pub mod Utils
-pub mod Rust
-pub mod Picks

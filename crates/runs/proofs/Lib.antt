@@ -1,2 +1,0 @@
-pub mod Blends
-pub mod Unique

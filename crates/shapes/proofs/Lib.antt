@@ -1,4 +1,0 @@
-pub mod Totals
-pub mod Frames
-pub mod Bares
-pub mod Unique

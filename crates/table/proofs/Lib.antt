@@ -1,3 +1,0 @@
-pub mod Grids
-pub mod Unique
-pub mod Bares

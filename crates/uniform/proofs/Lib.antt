@@ -1,4 +1,0 @@
-pub mod Rows
-pub mod Wholes
-pub mod Unique
-pub mod Bares

@@ -1,10 +1,10 @@
 -- A record's answer in the order in which the code finds it. Assumes nothing.
 use mathlib.Core.Path.{_≡_, refl, sym, ap, ap₂, _∙_}
-use mathlib.Core.Bool.{true, false}
+use mathlib.Core.Bool.{Bool, true, false}
 use mathlib.Core.List.{List}
 use Prim.Native.Nat.{ℕ, zero, suc, _+_, _-_, _*_, _≤_, _<_}
 use native.Mathlib.Omega.{arith}
-use borrow.Author.Tests.{lt-ltb, le-ltb, leb-false, eq-eqb, ne-eqb}
+use borrow.Author.Tests.{lt-ltb, le-ltb, leb-true, leb-false, eq-eqb, ne-eqb}
 use lib.Dec.{leb, ltb, eqb}
 use lib.ListN.{length, take, getD, length-take}
 use lib.Ieee.{Float, nan}
@@ -13,10 +13,10 @@ use Rattle.answer.specs.Answer.{refused, answered, _then_}
 use Rattle.answer.specs.declared.Fault.{Fault}
 use Rattle.answer.specs.declared.Answer.{Answer}
 use Rattle.answer.proofs.Orders as orders
-use Rattle.answer.proofs.Answers.{then-good, then-or, then-stops, then-goes-on}
+use Rattle.answer.proofs.Answers.{then-good, then-bad, then-or, then-stops, then-goes-on}
 use Rattle.bytes.specs.Words.{floatAt}
 use Rattle.checks.specs.Numbers.{unknownKindFault, directionFault, lengthFault, axesFault, rangesFault, valuesFault, directionsFault, readingsFault, axesUniformFault}
-use Rattle.checks.proofs.lent.Rows.{direction-fine, length-same}
+use Rattle.checks.proofs.lent.Rows.{direction-fine, length-same, length-passed}
 use Rattle.layout.specs.Shape.{countsOf}
 use Rattle.checks.specs.Shapes.{frameFault}
 use Rattle.layout.specs.Layout.{tabulate}
@@ -30,13 +30,24 @@ use Rattle.ninterp.specs.Tables.{picked, nearestAnswer, stepAnswer, Judg
 use Rattle.axis.specs.Picks.{nearestRule, stepRule, pickRule}
 use Rattle.ninterp.specs.Linears.{interpolated, linearAnswer, linearUniformAnswer}
 use Rattle.axis.specs.Locations.{locationBy}
-use Rattle.ninterp.specs.Records.{allOf, kindAnswer, recordReadings, recordAnswer, recordSize}
+use Rattle.ninterp.specs.Records.{allOf, kindAnswer, recordReadings, recordFault, recordAnswer, recordSize}
 use Rattle.ninterp.specs.Kinds.{tableFault, kindFault, pickOf, fourOf, kindFound}
 use Rattle.ninterp.proofs.Located.{take-filled}
 use Rattle.ninterp.proofs.Lookups.{judged, four-at, picks-nearest, picks-step}
 
 three : (a b c rest : Fault) → ((a or b or c) or rest) ≡ (a or b or c or rest)
 three a b c rest = orders.or-assoc a (b or c) rest ∙ ap (λ (x : Fault). a or x) (orders.or-assoc b c rest)
+
+lent : (place wanted n : ℕ) → n ≡ wanted → (rest : Fault) → (lengthFault place wanted n or rest) ≡ rest
+lent place wanted n e rest = orders.or-good (lengthFault place wanted n) rest (orders.passed-no-fault (lengthFault place wanted n) (length-same place wanted n e))
+
+-- an order of checks that is asked twice
+again : (f : Fault) (a : Answer) → (f then f then a) ≡ (f then a)
+again f a = go (good f) refl
+  where
+    go : (t : Bool) → good f ≡ t → (f then f then a) ≡ (f then a)
+    go true e = then-good f (f then a) e
+    go false e = then-bad f (f then a) e ∙ sym (then-bad f a e)
 
 module _ (s : Shape) (nodes values readings : List Float) (read : length readings ≡ s .axes) where
   abbrev frame : Fault
@@ -48,20 +59,17 @@ module _ (s : Shape) (nodes values readings : List Float) (read : length reading
   abbrev inside : Fault
   inside = readingsFault readings or rangesFault (countsOf s) nodes readings
 
-  lent : (place : ℕ) (n : ℕ) → n ≡ s .axes → (rest : Fault) → (lengthFault place (s .axes) n or rest) ≡ rest
-  lent place n e rest = orders.or-good (lengthFault place (s .axes) n) rest (orders.passed-no-fault (lengthFault place (s .axes) n) (length-same place (s .axes) n e))
-
   -- ---- each order of checks, of readings as many as the axes
   lookup-split : lookupFault s nodes values readings ≡ (tableFault s nodes values or inside)
   unfolding lookupFault
   lookup-split =
-      ap (λ (x : Fault). frame or x) (lent 2 (length readings) read (axesFault (countsOf s) nodes or valuesFault values or inside))
+      ap (λ (x : Fault). frame or x) (lent 2 (s .axes) (length readings) read (axesFault (countsOf s) nodes or valuesFault values or inside))
       ∙ sym (three frame (axesFault (countsOf s) nodes) (valuesFault values) inside)
 
   uniform-split : linearUniformFault s nodes values readings ≡ (tableFault s nodes values or uniform or inside)
   unfolding linearUniformFault
   uniform-split =
-      ap (λ (x : Fault). frame or x) (lent 2 (length readings) read (axesFault (countsOf s) nodes or valuesFault values or uniform or inside))
+      ap (λ (x : Fault). frame or x) (lent 2 (s .axes) (length readings) read (axesFault (countsOf s) nodes or valuesFault values or uniform or inside))
       ∙ sym (three frame (axesFault (countsOf s) nodes) (valuesFault values) (uniform or inside))
 
   all-pass : (d : ℕ) → d < 2 → good (directionsFault (allOf s d)) ≡ true
@@ -75,8 +83,8 @@ module _ (s : Shape) (nodes values readings : List Float) (read : length reading
   unfolding stepFault
   step-split d l =
       ap (λ (x : Fault). frame or x)
-      (lent 2 (length readings) read (lengthFault 3 (s .axes) (length (allOf s d)) or axesFault (countsOf s) nodes or valuesFault values or directionsFault (allOf s d) or inside)
-      ∙ lent 3 (length (allOf s d)) (length-tabulate (s .axes) (λ (_ : ℕ). d)) (axesFault (countsOf s) nodes or valuesFault values or directionsFault (allOf s d) or inside)
+      (lent 2 (s .axes) (length readings) read (lengthFault 3 (s .axes) (length (allOf s d)) or axesFault (countsOf s) nodes or valuesFault values or directionsFault (allOf s d) or inside)
+      ∙ lent 3 (s .axes) (length (allOf s d)) (length-tabulate (s .axes) (λ (_ : ℕ). d)) (axesFault (countsOf s) nodes or valuesFault values or directionsFault (allOf s d) or inside)
       ∙ ap (λ (x : Fault). axesFault (countsOf s) nodes or valuesFault values or x) (orders.or-good (directionsFault (allOf s d)) inside (all-pass d l)))
       ∙ sym (three frame (axesFault (countsOf s) nodes) (valuesFault values) inside)
 
@@ -92,17 +100,19 @@ module _ (s : Shape) (nodes values readings : List Float) (read : length reading
 
   known : (kind : ℕ) → kind ≤ 4 → (rest : Answer) → (kindFault kind table uniform then rest) ≡ (table then own kind then rest)
   known kind l rest =
-      ap (λ (x : Fault). x then rest) (orders.or-good (unknownKindFault kind) (table or own kind) (orders.good-when (ltb 4 kind) (refusal 9 0 0) (le-ltb 4 kind l)))
+      ap (λ (x : Fault). (table or x) then rest) (orders.or-good (unknownKindFault kind) (own kind) (orders.good-when (ltb 4 kind) (refusal 9 0 0) (le-ltb 4 kind l)))
       ∙ then-or table (own kind) rest
 
   plain : (kind : ℕ) → kind ≤ 4 → (kind ≡ 1 → ⊥) → (rest : Answer) → (kindFault kind table uniform then rest) ≡ (table then rest)
   plain kind l n rest =
       known kind l rest ∙ ap (λ (x : Answer). table then x) (then-good (own kind) rest (orders.good-when (eqb kind 1) uniform (ne-eqb kind 1 n)))
 
-  unknown : (kind : ℕ) → 4 < kind → (rest : Answer) → (kindFault kind table uniform then rest) ≡ refused (refusal 9 0 0)
+  unknown : (kind : ℕ) → 4 < kind → (rest : Answer) → (kindFault kind table uniform then rest) ≡ (table then refused (refusal 9 0 0))
   unknown kind l rest =
-      then-or (unknownKindFault kind) (table or own kind) rest
-      ∙ sym (then-stops (refusal 9 0 0) (unknownKindFault kind) (orders.row-met (ltb 4 kind) 8 0 0 (lt-ltb 4 kind l)) (refused (refusal 9 0 0)) ((table or own kind) then rest) (nine refl) refl)
+      then-or table (unknownKindFault kind or own kind) rest
+      ∙ ap (λ (x : Answer). table then x)
+      (then-or (unknownKindFault kind) (own kind) rest
+      ∙ sym (then-stops (refusal 9 0 0) (unknownKindFault kind) (orders.row-met (ltb 4 kind) 8 0 0 (lt-ltb 4 kind l)) (refused (refusal 9 0 0)) (own kind then rest) (nine refl) refl))
     where
       nine : {n : ℕ} → n ≡ refusal 9 0 0 .number → n ≡ 0 → ⊥
       nine e = unfold refusal in λ z. omega (arith, e, z)
@@ -162,14 +172,25 @@ module _ (s : Shape) (nodes values readings : List Float) (read : length reading
         of-rule 4 (omega arith) (λ e. omega arith) (stepFault s nodes values readings (allOf s 1)) (answered (picked (stepRule (allOf s 1)) (countsOf s) nodes values readings)) refl (step-split 1 (omega arith))
         (ap answered (step-value 1 (omega arith)))
 
-    pub kind-order : (kind : ℕ) → kindAnswer kind s nodes values readings ≡ (kindFault kind (tableFault s nodes values) uniform then inside then found kind)
-    kind-order zero = linear-order
-    kind-order (suc zero) = uniform-order
-    kind-order (suc (suc zero)) = nearest-order
-    kind-order (suc (suc (suc zero))) = lower-order
-    kind-order (suc (suc (suc (suc zero)))) = upper-order
-    kind-order (suc (suc (suc (suc (suc k))))) =
-        kind-unknown (suc (suc (suc (suc (suc k))))) (omega arith) ∙ sym (unknown (suc (suc (suc (suc (suc k))))) (omega arith) (inside then found (suc (suc (suc (suc (suc k)))))))
+    kind-known : (kind : ℕ) → kind ≤ 4 → kindAnswer kind s nodes values readings ≡ (kindFault kind (tableFault s nodes values) uniform then inside then found kind)
+    kind-known zero l = linear-order
+    kind-known (suc zero) l = uniform-order
+    kind-known (suc (suc zero)) l = nearest-order
+    kind-known (suc (suc (suc zero))) l = lower-order
+    kind-known (suc (suc (suc (suc zero)))) l = upper-order
+    kind-known (suc (suc (suc (suc (suc k))))) l = absurd (omega (arith, l))
+
+    -- what the table has, and then the kind's own answer: the table is judged once
+    pub kind-order : (kind : ℕ) → (tableFault s nodes values then kindAnswer kind s nodes values readings) ≡ (kindFault kind (tableFault s nodes values) uniform then inside then found kind)
+    kind-order kind = go (leb kind 4) (leb-true kind 4) (leb-false kind 4)
+      where
+        go : (t : Bool) → (t ≡ true → kind ≤ 4) → (t ≡ false → 4 < kind)
+            → (tableFault s nodes values then kindAnswer kind s nodes values readings) ≡ (kindFault kind (tableFault s nodes values) uniform then inside then found kind)
+        go true u v =
+            ap (λ (x : Answer). table then x) (kind-known kind (u refl) ∙ known kind (u refl) (inside then found kind))
+            ∙ again table (own kind then inside then found kind)
+            ∙ sym (known kind (u refl) (inside then found kind))
+        go false u v = ap (λ (x : Answer). table then x) (kind-unknown kind (v refl)) ∙ sym (unknown kind (v refl) (inside then found kind))
 
   -- ---- what is known where a check passed
   module _ (table : good (tableFault s nodes values) ≡ true) where
@@ -216,38 +237,45 @@ read-enough s rec xs e =
     omega (arith, length-take (s .axes) xs)
 
 module _ (s : Shape) (nodes values : List Float) (rec : List ℕ) where
-  pub record-short : leb (recordSize s) (length rec) ≡ false → refused (refusal 3 0 2) ≡ recordAnswer s nodes values rec
-  unfolding recordAnswer
-  record-short e = rw (lt-ltb (length rec) (recordSize s) (leb-false (recordSize s) (length rec) e))
+  -- 1, 2, 3, the first of them refused
+  module _ (r : Fault) (e : r ≡ (frameFault s (length nodes) (length values) or lengthFault 2 (recordSize s) (length rec))) where
+    pub record-refused : (r .number ≡ 0 → ⊥) → (x : Answer) → x ≡ refused r → x ≡ recordAnswer s nodes values rec
+    unfolding recordAnswer recordFault
+    record-refused h x q = then-stops r (recordFault s nodes values rec) (orders.pair-stops r _ _ e (axesFault (countsOf s) nodes or valuesFault values) h) x _ h q
 
-  pub record-whole : recordSize s ≤ length rec → kindAnswer (getD rec 0 0) s nodes values (recordReadings s rec) ≡ recordAnswer s nodes values rec
-  unfolding recordAnswer
-  record-whole l = rw (le-ltb (length rec) (recordSize s) l)
+    pub record-sized : r .number ≡ 0 → length rec ≡ recordSize s
+    record-sized h = length-passed 2 (recordSize s) (length rec) (orders.second-passed (frameFault s (length nodes) (length values)) _ (orders.passes r _ e h))
+
+  -- of a record of the right length
+  pub record-exact : length rec ≡ recordSize s → recordAnswer s nodes values rec ≡ (tableFault s nodes values then kindAnswer (getD rec 0 0) s nodes values (recordReadings s rec))
+  unfolding recordAnswer recordFault
+  record-exact l =
+      ap (λ (x : Fault). (frameFault s (length nodes) (length values) or x) then kindAnswer (getD rec 0 0) s nodes values (recordReadings s rec))
+      (lent 2 (recordSize s) (length rec) l (axesFault (countsOf s) nodes or valuesFault values))
 
 -- ---- a whole record: r is what was found of its kind, of the table and of 8
 module _ (s : Shape) (four : length (s .counts) ≡ 4) (nodes values : List Float) (rec : List ℕ) (table uniform : Fault)
-    (t : table ≡ tableFault s nodes values) (u : uniform ≡ axesUniformFault (countsOf s) nodes) (r : Fault) (e : r ≡ kindFault (getD rec 0 0) table uniform) where
+    (t : table ≡ tableFault s nodes values) (u : uniform ≡ axesUniformFault (countsOf s) nodes) (sized : length rec ≡ recordSize s) (r : Fault) (e : r ≡ kindFault (getD rec 0 0) table uniform) where
   same : r ≡ kindFault (getD rec 0 0) (tableFault s nodes values) (axesUniformFault (countsOf s) nodes)
   same = e ∙ ap₂ (kindFault (getD rec 0 0)) t u
 
-  ordered : kindAnswer (getD rec 0 0) s nodes values (recordReadings s rec) ≡ (kindFault (getD rec 0 0) (tableFault s nodes values) (axesUniformFault (countsOf s) nodes) then (readingsFault (recordReadings s rec) or rangesFault (countsOf s) nodes (recordReadings s rec)) then kindFound (getD rec 0 0) s nodes values (recordReadings s rec))
-  ordered = kind-order s nodes values (recordReadings s rec) (length-readings s rec) four (getD rec 0 0)
+  ordered : recordAnswer s nodes values rec ≡ (kindFault (getD rec 0 0) (tableFault s nodes values) (axesUniformFault (countsOf s) nodes) then (readingsFault (recordReadings s rec) or rangesFault (countsOf s) nodes (recordReadings s rec)) then kindFound (getD rec 0 0) s nodes values (recordReadings s rec))
+  ordered = record-exact s nodes values rec sized ∙ kind-order s nodes values (recordReadings s rec) (length-readings s rec) four (getD rec 0 0)
 
-  pub whole-refused : (r .number ≡ 0 → ⊥) → (x : Answer) → x ≡ refused r → x ≡ kindAnswer (getD rec 0 0) s nodes values (recordReadings s rec)
+  pub whole-refused : (r .number ≡ 0 → ⊥) → (x : Answer) → x ≡ refused r → x ≡ recordAnswer s nodes values rec
   whole-refused h x q = then-stops r (kindFault (getD rec 0 0) (tableFault s nodes values) (axesUniformFault (countsOf s) nodes)) same x _ h q ∙ sym ordered
 
   pub whole-table : r .number ≡ 0 → good (tableFault s nodes values) ≡ true
   whole-table h =
-      orders.first-passed (tableFault s nodes values) (when (eqb (getD rec 0 0) 1) (axesUniformFault (countsOf s) nodes))
-      (orders.second-passed (when (ltb 4 (getD rec 0 0)) (refusal 9 0 0)) (tableFault s nodes values or when (eqb (getD rec 0 0) 1) (axesUniformFault (countsOf s) nodes))
-      (orders.passes r (kindFault (getD rec 0 0) (tableFault s nodes values) (axesUniformFault (countsOf s) nodes)) same h))
+      orders.first-passed (tableFault s nodes values) (unknownKindFault (getD rec 0 0) or when (eqb (getD rec 0 0) 1) (axesUniformFault (countsOf s) nodes))
+      (orders.passes r (kindFault (getD rec 0 0) (tableFault s nodes values) (axesUniformFault (countsOf s) nodes)) same h)
 
   pub whole-four : r .number ≡ 0 → s .axes ≤ 4
   whole-four h = table-four s nodes values (recordReadings s rec) (length-readings s rec) (whole-table h)
 
   pub whole-found : r .number ≡ 0 → (point : List Float) → point ≡ recordReadings s rec → (x : Answer)
       → x ≡ ((readingsFault point or rangesFault (countsOf s) nodes point) then kindFound (getD rec 0 0) s nodes values point)
-      → x ≡ kindAnswer (getD rec 0 0) s nodes values (recordReadings s rec)
+      → x ≡ recordAnswer s nodes values rec
   whole-found h point p x q =
       then-goes-on r (kindFault (getD rec 0 0) (tableFault s nodes values) (axesUniformFault (countsOf s) nodes)) same x _ h
       (q ∙ ap (λ (ys : List Float). (readingsFault ys or rangesFault (countsOf s) nodes ys) then kindFound (getD rec 0 0) s nodes values ys) p)

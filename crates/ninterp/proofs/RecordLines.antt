@@ -7,7 +7,7 @@ use Prim.Native.Nat.{ℕ, _+_, _-_, _≤_, _<_}
 use native.Mathlib.Omega.{arith}
 use borrow.Author.Tests.{leb-false}
 use lib.Dec.{leb}
-use lib.ListN.{length, take, drop, getD, length-take, length-drop}
+use lib.ListN.{length, take, drop, length-take, length-drop}
 use lib.Ieee.{Float}
 use Rattle.answer.specs.declared.Answer.{Answer}
 use Rattle.layout.specs.declared.Shape.{Shape}
@@ -16,17 +16,16 @@ use Rattle.lines.specs.Put.{Wrote, lineInto, lineEnd}
 use Rattle.lines.specs.Stream.{Block}
 use Rattle.lines.proofs.Shows.{line-wrote}
 use Rattle.lines.proofs.Blocks.{Going, go-start, go-turn, go-done}
-use Rattle.ninterp.specs.Records.{kindAnswer, recordReadings, recordAnswer, recordRule, recordSize}
-use Rattle.ninterp.proofs.KindOrder.{record-whole}
+use Rattle.ninterp.specs.Records.{recordAnswer, recordRule, recordSize}
 
 module _ (s : Shape) (nodes values : List Float) where
-  pub record-wrote : (rec : List ℕ) (a : Answer) (d : List ℕ) (to : ℕ) {e : List ℕ} {r : ℕ} → recordSize s ≤ length rec → a ≡ kindAnswer (getD rec 0 0) s nodes values (recordReadings s rec)
+  pub record-wrote : (rec : List ℕ) (a : Answer) (d : List ℕ) (to : ℕ) {e : List ℕ} {r : ℕ} → a ≡ recordAnswer s nodes values rec
       → to + longest ≤ length d → r ≡ lineEnd a d to → e ≡ lineInto a d to → Wrote d to (lineOf (recordAnswer s nodes values rec)) e r
-  record-wrote rec a d to {e} {r} l q room p b = subst (λ (x : Answer). Wrote d to (lineOf x) e r) (q ∙ record-whole s nodes values rec l) (line-wrote a d to room p b)
+  record-wrote rec a d to {e} {r} q room p b = subst (λ (x : Answer). Wrote d to (lineOf x) e r) q (line-wrote a d to room p b)
 
   -- the bytes of the record at a place
   module _ (size : ℕ) (same : size ≡ recordSize s) where
-    pub record-there : (records : List ℕ) (at : ℕ) → size ≤ length records - at → recordSize s ≤ length (take (at + size - at) (drop at records))
+    pub record-there : (records : List ℕ) (at : ℕ) → size ≤ length records - at → length (take (at + size - at) (drop at records)) ≡ recordSize s
     record-there records at l = omega (arith, same, l, length-take (at + size - at) (drop at records), length-drop at records)
 
     module _ {most : ℕ} {records d e : List ℕ} {count at written : ℕ} (g : Going (recordRule s nodes values) most records d e count at written) where

@@ -1,8 +1,8 @@
 -- "Success is 0, 0, 0 and the value"; "A refusal has value +0.0": of every lookup and record. Assumes nothing.
 use mathlib.Core.List.{List}
 use Prim.Native.Nat.{ℕ}
-use lib.Dec.{ltb, eqb}
-use lib.ListN.{length, getD}
+use lib.Dec.{eqb}
+use lib.ListN.{getD}
 use lib.Ieee.{Float}
 use Rattle.answer.proofs.Answers.{Told, value-told, refused-told, then-told}
 use Rattle.answer.proofs.Tests.{either}
@@ -10,7 +10,7 @@ use Rattle.layout.specs.declared.Shape.{Shape}
 use Rattle.blend.specs.Blend.{computed}
 use Rattle.ninterp.specs.Tables.{nearestAnswer, stepAnswer}
 use Rattle.ninterp.specs.Linears.{linearAnswer, linearUniformAnswer}
-use Rattle.ninterp.specs.Records.{allOf, kindAnswer, recordReadings, recordAnswer, recordSize}
+use Rattle.ninterp.specs.Records.{allOf, kindAnswer, recordReadings, recordFault, recordAnswer}
 
 computed-told : (x : Float) → Told (computed x)
 unfolding computed
@@ -45,4 +45,4 @@ module _ (s : Shape) (nodes values readings : List Float) where
 pub record-told : (s : Shape) (nodes values : List Float) (rec : List ℕ) → Told (recordAnswer s nodes values rec)
 unfolding recordAnswer
 record-told s nodes values rec =
-    either Told (ltb (length rec) (recordSize s)) _ _ (refused-told 2 0 2) (kind-told s nodes values (recordReadings s rec) (getD rec 0 0))
+    then-told (recordFault s nodes values rec) _ (kind-told s nodes values (recordReadings s rec) (getD rec 0 0))

@@ -23,9 +23,9 @@ use Rattle.axis.specs.Locations.{locationBy}
 abbrev pub tableFault : Shape → List Float → List Float → Fault
 tableFault s nodes values = frameFault s (length nodes) (length values) or axesFault (countsOf s) nodes or valuesFault values
 
--- 9 of an unknown kind; then what the table has, and 8 for LinearUniform
+-- what the table has; then 9 of an unknown kind, and 8 for LinearUniform
 abbrev pub kindFault : ℕ → Fault → Fault → Fault
-kindFault kind table uniform = unknownKindFault kind or table or when (eqb kind 1) uniform
+kindFault kind table uniform = table or unknownKindFault kind or when (eqb kind 1) uniform
 
 -- the pick of Nearest, and of Step with one direction
 abbrev pub pickOf : ℕ → ℕ

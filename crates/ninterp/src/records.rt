@@ -3,15 +3,16 @@ ghost use mathlib.Core.Path.{_≡_};
 ghost use mathlib.Core.Bool.{true};
 ghost use Prim.Native.Nat.{_+_, _*_, _≤_};
 ghost use lib.Dec.{leb, eqb};
-ghost use lib.ListN.{length, getD};
+ghost use lib.ListN.{length};
 ghost use Rattle.answer.specs.Faults.{good, when, _or_};
 ghost use Rattle.answer.specs.Answer.{_then_};
 ghost use Rattle.layout.specs.Shape.{countsOf};
-ghost use Rattle.checks.specs.Numbers.{readingsFault, rangesFault, axesUniformFault};
+ghost use Rattle.checks.specs.Numbers.{lengthFault, readingsFault, rangesFault};
+ghost use Rattle.checks.specs.Shapes.{frameFault};
 ghost use Rattle.layout.specs.Layout.{tabulate};
 ghost use Rattle.bytes.specs.Words.{floatAt};
 ghost use Rattle.ninterp.specs.Tables.{Judged};
-ghost use Rattle.ninterp.specs.Records.{recordSize, kindAnswer, recordReadings, recordAnswer};
+ghost use Rattle.ninterp.specs.Records.{recordSize, recordAnswer};
 ghost use Rattle.ninterp.specs.Kernels.{Known};
 ghost use Rattle.ninterp.specs.Kinds.{tableFault, kindFault, pickOf, kindFound};
 
@@ -21,6 +22,7 @@ use crate::interpolator::n::corners;
 use crate::interpolator::n::pick;
 use answer::Answer;
 use answer::Fault;
+use checks::lent;
 use checks::shapes;
 use checks::table;
 use layout::Shape;
@@ -50,15 +52,15 @@ fn uniform_row(kind: u8, uniform: Fault) -> Fault
     }
 }
 
-// 9 of an unknown kind, 1 to 7 as they were found, 8.
+// 1 to 7 as they were found, 9 of an unknown kind, 8.
 fn kind_fault(kind: u8, table: Fault, uniform: Fault) -> Fault
     ensures { λ r. ⌜ r ≡ kindFault kind table uniform ⌝ }
 {
-    if kind > 4 {
-        return answer::refusal(9, 0, 0);
-    }
     if table.number != 0 {
         return table;
+    }
+    if kind > 4 {
+        return answer::refusal(9, 0, 0);
     }
     uniform_row(kind, uniform)
 }
@@ -123,7 +125,7 @@ fn readings_of(rec: &[u8]) -> [f64; 4]
     [first, second, third, fourth]
 }
 
-// A whole record of a table of which it is known what 1 to 7 and 8 give.
+// A record of the right length, of a table of which it is known what 1 to 7 and 8 give.
 pub(crate) fn whole_answer(
     shape: Shape,
     nodes: &[f64],
@@ -133,9 +135,8 @@ pub(crate) fn whole_answer(
     rec: &[u8],
 ) -> Answer
     requires { ⌜ Known shape (now nodes) (now values) table uniform ⌝ }
-    requires { ⌜ recordSize shape ≤ length (now rec) ⌝ }
-    ensures { λ r. ⌜ r ≡ kindAnswer (getD (now (rec .entry)) 0 0) shape (now (nodes .entry)) (now (values .entry))
-        (recordReadings shape (now (rec .entry))) ⌝ }
+    requires { ⌜ length (now rec) ≡ recordSize shape ⌝ }
+    ensures { λ r. ⌜ r ≡ recordAnswer shape (now (nodes .entry)) (now (values .entry)) (now (rec .entry)) ⌝ }
 {
     let kind = rec[0];
     let fault = kind_fault(kind, table, uniform);
@@ -147,12 +148,25 @@ pub(crate) fn whole_answer(
     point_answer(kind, shape, nodes, values, &readings[..axes])
 }
 
+// 1, 2, 3: of the shape, the nodes, the values and the record.
+fn length_row(shape: Shape, nodes: &[f64], values: &[f64], rec: &[u8]) -> Fault
+    ensures { λ r. ⌜ r ≡ (frameFault shape (length (now (nodes .entry))) (length (now (values .entry)))
+        or lengthFault 2 (recordSize shape) (length (now (rec .entry)))) ⌝ }
+{
+    let fault = shapes::frame_fault(shape, nodes.len(), values.len());
+    if fault.number != 0 {
+        return fault;
+    }
+    lent::length_fault(2, 1 + 8 * shape.axes, rec.len())
+}
+
 // What a record is answered, in a table that is judged for it alone.
 pub fn record_answer(shape: Shape, nodes: &[f64], values: &[f64], rec: &[u8]) -> Answer
     ensures { λ r. ⌜ r ≡ recordAnswer shape (now (nodes .entry)) (now (values .entry)) (now (rec .entry)) ⌝ }
 {
-    if !is_whole(shape, rec.len()) {
-        return answer::refuse(answer::refusal(3, 0, 2));
+    let fault = length_row(shape, nodes, values, rec);
+    if fault.number != 0 {
+        return answer::refuse(fault);
     }
     let table = whole_table_fault(shape, nodes, values);
     let uniform = table::axes_uniform_fault(shape, nodes);

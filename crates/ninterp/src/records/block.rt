@@ -18,7 +18,7 @@ pub struct Done {
     pub written: usize,
 }
 
-// Puts the line of a whole record at a place where a longest one has room, and gives the place past it.
+// Puts the line of a record of the right length at a place where a longest one has room, and gives the place past it.
 fn put_answer(
     shape: Shape,
     nodes: &[f64],
@@ -30,7 +30,7 @@ fn put_answer(
     to: usize,
 ) -> usize
     requires { ⌜ Known shape (now nodes) (now values) table uniform ⌝ }
-    requires { ⌜ (recordSize shape ≤ length (now rec)) × (to + longest ≤ length (now out)) ⌝ }
+    requires { ⌜ (length (now rec) ≡ recordSize shape) × (to + longest ≤ length (now out)) ⌝ }
     ensures { λ r. ⌜ Wrote (now (out .entry)) to
         (lineOf (recordAnswer shape (now (nodes .entry)) (now (values .entry)) (now (rec .entry)))) (now (out .exit)) r ⌝ }
     ensures { λ r. ⌜ r ≤ to + longest ⌝ }

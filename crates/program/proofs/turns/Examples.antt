@@ -32,7 +32,7 @@ use Rattle.axis.specs.Exact.{exactNode}
 use Rattle.axis.specs.Picks.{nearestIndex}
 use Rattle.ninterp.specs.Tables.{indices, picked, nearestAnswer}
 use Rattle.ninterp.specs.Linears.{locations, interpolated, linearAnswer}
-use Rattle.ninterp.specs.Records.{kindAnswer, recordReadings, recordAnswer, recordRule}
+use Rattle.ninterp.specs.Records.{kindAnswer, recordReadings, recordFault, recordAnswer, recordRule}
 use Rattle.program.specs.Run.{runOf}
 use Rattle.program.proofs.turns.Laws.{run-loaded}
 
@@ -51,7 +51,7 @@ unfolding loadFault headFault startFault shortFault fieldFault axesCountFault st
 loads = refl
 
 three-lines : linesFirst rule 3 three ≡ printed
-unfolding linesFirst recordAnswer recordReadings kindAnswer linearAnswer nearestAnswer locations interpolated nearestIndex indices picked howMany lowerIndex exactNode fraction axisLocation lineOf okLine noLine glyphOf digits places decimal fieldFault shortFault axesCountFault statedFault startFault countRow productFault offsetRow headFault areaFault areasFault roomFault roomsFault contentsFault loadFault axesField countField offsetField valuesField shapeOf floatsAt nodesFrom nodesIn valuesIn blended computed lookupFault ofBytes wordAt floatAt shapeFault lengthFault frameFault axesFault valueFault valuesFault readingsFault rangeFault rangesFault size total axesOf strides placeBy table gap countFault finiteFault riseFault nodeFault nodesFault readingFault resultFault refusal refused _then_ answered noFault good when _or_ firstOf given ofBits toBits lt le eq add sub mul div
+unfolding linesFirst recordFault recordAnswer recordReadings kindAnswer linearAnswer nearestAnswer locations interpolated nearestIndex indices picked howMany lowerIndex exactNode fraction axisLocation lineOf okLine noLine glyphOf digits places decimal fieldFault shortFault axesCountFault statedFault startFault countRow productFault offsetRow headFault areaFault areasFault roomFault roomsFault contentsFault loadFault axesField countField offsetField valuesField shapeOf floatsAt nodesFrom nodesIn valuesIn blended computed lookupFault ofBytes wordAt floatAt shapeFault lengthFault frameFault axesFault valueFault valuesFault readingsFault rangeFault rangesFault size total axesOf strides placeBy table gap countFault finiteFault riseFault nodeFault nodesFault readingFault resultFault refusal refused _then_ answered noFault good when _or_ firstOf given ofBits toBits lt le eq add sub mul div
 three-lines = refl
 
 size-nine : rule .size ≡ 9

@@ -19,7 +19,7 @@ returns c =
     let f = c .before .before .before in
     let s = start f in
     let a = s .args in
-    whole-refused (a .shape) (four s) (now (a .nodes)) (now (a .values)) (now (a .rec)) (a .table) (a .uniform) (s .pre .0 .judged) (s .pre .0 .spaced) _ (f .kind-fault .ensures) (c .before .if1 .taken) _ (c .refuse .ensures)
+    whole-refused (a .shape) (four s) (now (a .nodes)) (now (a .values)) (now (a .rec)) (a .table) (a .uniform) (s .pre .0 .judged) (s .pre .0 .spaced) (s .pre .1) _ (f .kind-fault .ensures) (c .before .if1 .taken) _ (c .refuse .ensures)
 
 -- the readings of the table's axes
 own : (g : tie.After-readings-of) → take (start (g .before .before .before) .args .shape .axes) (g .readings-of .result)
@@ -30,7 +30,7 @@ own g =
     let s = start f in
     let a = s .args in
     read-four (a .shape) (now (a .rec)) (g .readings-of .result) (g .readings-of .ensures)
-    (whole-four (a .shape) (four s) (now (a .nodes)) (now (a .values)) (now (a .rec)) (a .table) (a .uniform) (s .pre .0 .judged) (s .pre .0 .spaced) _ (f .kind-fault .ensures) (e .if1 .left))
+    (whole-four (a .shape) (four s) (now (a .nodes)) (now (a .values)) (now (a .rec)) (a .table) (a .uniform) (s .pre .0 .judged) (s .pre .0 .spaced) (s .pre .1) _ (f .kind-fault .ensures) (e .if1 .left))
 
 array-share-prefix-readings : tie.Need-array-share-prefix-readings
 array-share-prefix-readings c =
@@ -50,7 +50,7 @@ point-answer-requires c κs =
     let f = e .before .before in
     let s = start f in
     let a = s .args in
-    (whole-table (a .shape) (four s) (now (a .nodes)) (now (a .values)) (now (a .rec)) (a .table) (a .uniform) (s .pre .0 .judged) (s .pre .0 .spaced) _ (f .kind-fault .ensures) (e .if1 .left), ap length (own g) ∙ length-readings (a .shape) (now (a .rec)))
+    (whole-table (a .shape) (four s) (now (a .nodes)) (now (a .values)) (now (a .rec)) (a .table) (a .uniform) (s .pre .0 .judged) (s .pre .0 .spaced) (s .pre .1) _ (f .kind-fault .ensures) (e .if1 .left), ap length (own g) ∙ length-readings (a .shape) (now (a .rec)))
 
 returns-2 : tie.Need-returns-2
 returns-2 c =
@@ -59,7 +59,7 @@ returns-2 c =
     let f = e .before .before in
     let s = start f in
     let a = s .args in
-    whole-found (a .shape) (four s) (now (a .nodes)) (now (a .values)) (now (a .rec)) (a .table) (a .uniform) (s .pre .0 .judged) (s .pre .0 .spaced) _ (f .kind-fault .ensures) (e .if1 .left) _ (own g) _ (c .point-answer .ensures)
+    whole-found (a .shape) (four s) (now (a .nodes)) (now (a .values)) (now (a .rec)) (a .table) (a .uniform) (s .pre .0 .judged) (s .pre .0 .spaced) (s .pre .1) _ (f .kind-fault .ensures) (e .if1 .left) _ (own g) _ (c .point-answer .ensures)
 
 pub whole-answer-spec : {M : Type 1} → statement M
 whole-answer-spec =

@@ -10,7 +10,7 @@ returns c =
     let q = w .before .before in
     let s = q .before .before .before .before .before in
     let a = s .args in
-    (record-wrote (a .shape) (now (a .nodes)) (now (a .values)) (now (a .rec)) (q .whole-answer .result) (now (a .out)) (a .to) (s .pre .1 .0) (q .whole-answer .ensures) (s .pre .1 .1) (w .put-line .ensures .0 .0) (w .put-line .ensures .0 .1), w .put-line .ensures .1)
+    (record-wrote (a .shape) (now (a .nodes)) (now (a .values)) (now (a .rec)) (q .whole-answer .result) (now (a .out)) (a .to) (q .whole-answer .ensures) (s .pre .1 .1) (w .put-line .ensures .0 .0) (w .put-line .ensures .0 .1), w .put-line .ensures .1)
 
 pub put-answer-spec : {M : Type 1} → statement M
 put-answer-spec =

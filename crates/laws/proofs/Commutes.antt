@@ -75,7 +75,7 @@ module _ {s : Shape} {nodes values : List Float} {k : ℕ} {p : Float} {rule : �
 
 -- ---- axis k first, then the axis that was suc m; or suc m first, then k
 module _ {s : Shape} {nodes values : List Float} {k m : ℕ} (km : k ≤ m) {p q : Float} {rule : ℕ → List Float → Float → ℕ} (one : Made s nodes values k p rule) (other : Made s nodes values (suc m) q rule) where
-  commute : (ruleK ruleM : ℕ → List Float → Float → ℕ) → ruleK m ≡ rule (suc m) → ruleM k ≡ rule k
+  pub commute : (ruleK ruleM : ℕ → List Float → Float → ℕ) → ruleK m ≡ rule (suc m) → ruleM k ≡ rule k
       → ruleSlice ruleK (shapeWithout s k) (nodesWithout k (countsOf s) nodes) (ruleSlice rule s nodes values k p) m q
       ≡ ruleSlice ruleM (shapeWithout s (suc m)) (nodesWithout (suc m) (countsOf s) nodes) (ruleSlice rule s nodes values (suc m) q) k p
   commute ruleK ruleM above below =
@@ -84,12 +84,12 @@ module _ {s : Shape} {nodes values : List Float} {k m : ℕ} (km : k ≤ m) {p q
       ∙ sym (second other ruleM k p (rule k) (axisOf s nodes k) below (axis-below other k (omega arith)))
 
   -- the shape and the nodes that are left are the same too
+  pub counts-commute : without m (countsOf (shapeWithout s k)) ≡ without k (countsOf (shapeWithout s (suc m)))
+  counts-commute = ap (without m) (counts-left one) ∙ without-comm k m (countsOf s) km ∙ sym (ap (without k) (counts-left other))
+
   pub shapes-commute : shapeWithout (shapeWithout s k) m ≡ shapeWithout (shapeWithout s (suc m)) k
   unfolding shapeWithout
   shapes-commute = ap (λ (ns : List ℕ). record { axes = s .axes - 1 - 1; counts = tabulate 4 (λ a. getD ns a 0) }) counts-commute
-    where
-      counts-commute : without m (countsOf (shapeWithout s k)) ≡ without k (countsOf (shapeWithout s (suc m)))
-      counts-commute = ap (without m) (counts-left one) ∙ without-comm k m (countsOf s) km ∙ sym (ap (without k) (counts-left other))
 
   pub nodes-commute : nodesWithout m (countsOf (shapeWithout s k)) (nodesWithout k (countsOf s) nodes) ≡ nodesWithout k (countsOf (shapeWithout s (suc m))) (nodesWithout (suc m) (countsOf s) nodes)
   nodes-commute =
@@ -97,18 +97,18 @@ module _ {s : Shape} {nodes values : List Float} {k m : ℕ} (km : k ≤ m) {p q
       ∙ nodes-comm k m (countsOf s) nodes km (one .ready .grid .flat)
       ∙ sym (ap (λ (ns : List ℕ). nodesWithout k ns (nodesWithout (suc m) (countsOf s) nodes)) (counts-left other))
 
-  range-after : good (rangeFault m (axisOf (shapeWithout s k) (nodesWithout k (countsOf s) nodes) m) q) ≡ true
+  pub range-after : good (rangeFault m (axisOf (shapeWithout s k) (nodesWithout k (countsOf s) nodes) m) q) ≡ true
   range-after =
       ap (λ (xs : List Float). good (rangeFault m xs q)) (axis-above one m km)
       ∙ ap good (sym (over.range-moves k m (axisOf s nodes (suc m)) q km)) ∙ low.lowered-good k (rangeFault (suc m) (axisOf s nodes (suc m)) q) ∙ other .in-range
 
-  range-before : good (rangeFault k (axisOf (shapeWithout s (suc m)) (nodesWithout (suc m) (countsOf s) nodes) k) p) ≡ true
+  pub range-before : good (rangeFault k (axisOf (shapeWithout s (suc m)) (nodesWithout (suc m) (countsOf s) nodes) k) p) ≡ true
   range-before = ap (λ (xs : List Float). good (rangeFault k xs p)) (axis-below other k (omega arith)) ∙ one .in-range
 
-  there-m : m < s .axes - 1
+  pub there-m : m < s .axes - 1
   there-m = omega (arith, other .ready .within)
 
-  there-k : k < s .axes - 1
+  pub there-k : k < s .axes - 1
   there-k = omega (arith, other .ready .within)
 
 -- ---- for Nearest

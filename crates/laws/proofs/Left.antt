@@ -39,6 +39,7 @@ use Rattle.slices.specs.Ready.{Ready}
 use Rattle.slices.proofs.Sliced.{Fronted}
 use Rattle.laws.proofs.Lowered as low
 use Rattle.ninterp.proofs.Demands.{Accepted}
+use Rattle.laws.proofs.Accepts.{accepts}
 
 -- ---- 10 and 11 of one axis, under the number that it has in what is left
 reading-lowered : (k a b : ℕ) (q : Float) → loweredFault k (refusal 10 a 0) ≡ refusal 10 b 0 → loweredFault k (readingFault a q) ≡ readingFault b q
@@ -142,57 +143,19 @@ module _ {s : Shape} {nodes values : List Float} {k : ℕ} {p : Float} {values' 
   pub flat-left : length (nodesWithout k (countsOf s) nodes) ≡ total (without k (countsOf s))
   flat-left = total-without k cs nodes in-cs (t .grid .flat)
 
-  count-at : (a : ℕ) → a < length left → (2 ≤ getD left a 0) × (getD left a 0 ≤ 64)
-  count-at a l =
-      let ax : Axis (getD (axesOf left nodes') a []) = axis-left a l in
-      let n : length (getD (axesOf left nodes') a []) ≡ getD left a 0 = length-axis left nodes' flat-left a l in
-      let x : 2 ≤ length (getD (axesOf left nodes') a []) = ax .enough in
-      let y : length (getD (axesOf left nodes') a []) ≤ 64 = ax .few in
-      (omega arith, omega arith)
-
   small : size left ≤ 4096
   small =
       let c : 1 ≤ getD cs k 0 = let x : 2 ≤ length (getD (axesOf (countsOf s) nodes) k []) = t .grid .axes k in-cs .enough in omega (arith, length-axis cs nodes (t .grid .flat) k in-cs) in
       let a : size (take k cs) * (1 * size (drop (suc k) cs)) ≤ size (take k cs) * (getD cs k 0 * size (drop (suc k) cs)) = mul-le-mul-left (size (take k cs)) (mul-le-mul-right (size (drop (suc k) cs)) c) in
       omega (arith, size-split k cs in-cs, size-without k cs in-cs, t .grid .small, ap (λ (x : ℕ). size (take k cs) * x) (one-mul (size (drop (suc k) cs))))
 
-  shape-good : good (shapeFault s') ≡ true
-  shape-good =
-      let low : 1 ≤ s' .axes = let m : 1 < s .axes = t .many in omega (arith, axes', count-left) in
-      let high : s' .axes ≤ 4 = let q : s .axes ≤ 4 = t .four in omega (arith, axes', count-left) in
-      orders.passed-no-fault _ (product-fine s' noFault (axes-right (s' .axes) low high) orders.no-fault-number noFault counts-good orders.no-fault-number (size left) (ap size (sym counts-left)) small)
-    where
-      each : (a : ℕ) → 0 ≤ a → a < 0 + s' .axes → good (countFault a (getD (s' .counts) a 0)) ≡ true
-      each a l m =
-          let h : a < length left = omega (arith, axes') in
-          let e : getD (s' .counts) a 0 ≡ getD left a 0 = stored-count a (let q : s .axes ≤ 4 = t .four in omega (arith, count-left)) in
-          subst (λ (x : ℕ). good (countFault a x) ≡ true) (sym e) (orders.passed-no-fault (countFault a (getD left a 0)) (count-fine a (getD left a 0) (count-at a h .0) (count-at a h .1)))
-        where
-          stored-count : (b : ℕ) → b < 4 → getD (shapeWithout s k .counts) b 0 ≡ getD left b 0
-          stored-count b l = unfold shapeWithout in getD-tabulate 4 b (λ a. getD left a 0) 0 l
-
-      counts-good : noFault ≡ countsFault s'
-      counts-good = sym (orders.none-good (λ a. countFault a (getD (s' .counts) a 0)) 0 (s' .axes) each)
-
-  frame-good : good (frameFault s' (length nodes') (length values')) ≡ true
-  unfolding frameFault
-  frame-good =
-      orders.both-passed _ _ shape-good
-      (orders.both-passed _ _ (orders.passed-no-fault _ (length-same 0 (total (countsOf s')) (length nodes') (flat-left ∙ ap total (sym counts-left))))
-      (orders.passed-no-fault _ (length-same 1 (size (countsOf s')) (length values') (cut .long ∙ ap size (sym counts-left)))))
-
-  axes-good : good (axesFault (countsOf s') nodes') ≡ true
-  axes-good = subst (λ (ms : List ℕ). good (axesFault ms nodes') ≡ true) (sym counts-left) (all-axes left (λ a l. axis-left a l))
-    where
-      all-axes : (ms : List ℕ) → ((a : ℕ) → a < length ms → Axis (getD (axesOf ms nodes') a [])) → good (axesFault ms nodes') ≡ true
-      all-axes ms h = unfold axesFault in (ap good (orders.none-good (λ a. nodesFault a (getD (axesOf ms nodes') a [])) 0 (length ms) each) ∙ orders.good-no-fault)
-        where
-          each : (a : ℕ) → 0 ≤ a → a < 0 + length ms → good (nodesFault a (getD (axesOf ms nodes') a [])) ≡ true
-          each a l m = orders.passed-no-fault _ (sym (nodes-fine a (getD (axesOf ms nodes') a []) (h a (omega arith))))
-
   -- a made slice is an accepted table
   pub slice-accepted : Accepted (shapeWithout s k) (nodesWithout k (countsOf s) nodes) values'
-  slice-accepted = record { frame = frame-good; axes = axes-good; stored = cut .stored }
+  slice-accepted =
+      let low : 1 ≤ s' .axes = let m : 1 < s .axes = t .many in omega (arith, axes', count-left) in
+      let high : s' .axes ≤ 4 = let q : s .axes ≤ 4 = t .four in omega (arith, axes', count-left) in
+      accepts s' nodes' values' (ap length counts-left ∙ sym axes') low high (flat-left ∙ ap total (sym counts-left)) (subst (λ (ms : List ℕ). size ms ≤ 4096) (sym counts-left) small)
+      (cut .long ∙ ap size (sym counts-left)) (λ a l. subst (λ (ms : List ℕ). Axis (getD (axesOf ms nodes') a [])) (sym counts-left) (axis-left a (omega (arith, axes')))) (cut .stored)
 
   -- ---- the same reading of the slice and of the whole table
   module _ (ps : List Float) where

@@ -1,6 +1,12 @@
 pub mod Lowered
+pub mod Accepts
 pub mod Left
+pub mod LinearLaw
 pub mod SliceLaw
 pub mod Makes
 pub mod Commutes
-pub mod LinearLaw
+pub mod Premises
+pub mod Judging
+pub mod Slicing
+pub mod Commuting
+pub mod Promises

@@ -262,14 +262,19 @@ module _ (img : List ℕ) (n v : ℕ) (g : good (loadFault img n v) ≡ true) wh
       each a m true t f = made.count-some-of (shapeOf img) a ∙ getD-take (axesField img) (tabulate 4 (countField img)) a 0 (t refl) ∙ getD-tabulate 4 a (countField img) 0 m
       each a m false t f = made.count-none-of (shapeOf img) a (f refl) ∙ sym (unused-zero img (l .head) a m (f refl))
 
+  -- what was loaded passes 1, 2, 3
+  pub loaded-frame : good (frameFault (shapeOf img) (length (nodesIn img)) (length (valuesIn img))) ≡ true
+  unfolding frameFault
+  loaded-frame =
+      orders.both-passed (shapeFault (shapeOf img)) _ s-good
+      (orders.both-passed (lengthFault 0 (total (countsOf (shapeOf img))) (length (nodesIn img))) _ (orders.passed-no-fault _ (length-same 0 (total (countsOf (shapeOf img))) (length (nodesIn img)) (nodes-total img s-good)))
+      (orders.passed-no-fault _ (length-same 1 (size (countsOf (shapeOf img))) (length (valuesIn img)) (values-size img))))
+
   module _ (out : List ℕ) (room : imageLength (shapeOf img) ≤ length out) where
     pub loaded-writes : good (writeFault (shapeOf img) (nodesIn img) (valuesIn img) (length out)) ≡ true
-    unfolding writeFault frameFault
+    unfolding writeFault
     loaded-writes =
-        orders.both-passed (frameFault (shapeOf img) (length (nodesIn img)) (length (valuesIn img))) _
-        (orders.both-passed (shapeFault (shapeOf img)) _ s-good
-        (orders.both-passed (lengthFault 0 (total (countsOf (shapeOf img))) (length (nodesIn img))) _ (orders.passed-no-fault _ (length-same 0 (total (countsOf (shapeOf img))) (length (nodesIn img)) (nodes-total img s-good)))
-        (orders.passed-no-fault _ (length-same 1 (size (countsOf (shapeOf img))) (length (valuesIn img)) (values-size img)))))
+        orders.both-passed (frameFault (shapeOf img) (length (nodesIn img)) (length (valuesIn img))) _ loaded-frame
         (orders.both-passed (axesFault (countsOf (shapeOf img)) (nodesIn img)) _ (l .axes)
         (orders.both-passed (valuesFault (valuesIn img)) _ (l .stored) (orders.passed-no-fault _ (room-enough 2 (imageLength (shapeOf img)) (length out) room))))
 

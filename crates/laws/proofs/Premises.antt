@@ -1,0 +1,154 @@
+-- The premises of the page of promises are what the rows of the table of numbers pass, both ways. Assumes nothing.
+use mathlib.Core.Path.{_≡_, refl, sym, ap, _∙_, subst}
+use mathlib.Core.Bool.{Bool, true, false}
+use mathlib.Core.List.{List, []}
+use Prim.Native.Nat.{ℕ, _+_, _-_, _≤_, _<_}
+use native.Mathlib.Omega.{arith}
+use borrow.Author.Tests.{eq-eqb, ltb-false}
+use lib.Dec.{eqb, ltb}
+use lib.ListN.{length, getD}
+use lib.Seq.{length-take-le}
+use lib.Ieee.{Float, nan, lt, le}
+use lib.Ieee.Scale.{finite}
+use Rattle.answer.specs.Faults.{good, refusal, _or_}
+use Rattle.answer.specs.Answer.{refused, _then_}
+use Rattle.answer.specs.declared.Fault.{Fault}
+use Rattle.answer.specs.declared.Answer.{Answer}
+use Rattle.answer.proofs.Orders as orders
+use Rattle.answer.proofs.Answers.{then-bad, refused-number}
+use Rattle.binary64.proofs.Order as order
+use Rattle.checks.specs.Nodes.{node}
+use Rattle.checks.specs.Passed.{Axis, Grid}
+use Rattle.checks.specs.Shapes.{shapeFault}
+use Rattle.checks.specs.Numbers.{lengthFault, rangeFault, rangesFault, valueFault, valuesFault, directionFault, directionsFault, readingsFault}
+use Rattle.checks.proofs.lent.Rows.{direction-fine, length-same, length-passed}
+use Rattle.checks.proofs.lists.Rows.{readings-finite}
+use Rattle.checks.proofs.ranges.Rows.{range-inside}
+use Rattle.checks.proofs.values.Rows.{value-good, values-finite}
+use Rattle.checks.proofs.shapes.Frames.{shape-some, shape-four}
+use Rattle.checks.proofs.table.Grids.{frame-shape, frame-axes, frame-values, grid-of}
+use Rattle.layout.specs.Shape.{countsOf}
+use Rattle.layout.specs.Layout.{axesOf}
+use Rattle.ninterp.proofs.Demands as passed
+use Rattle.laws.specs.Promises.{Floats, Table, axes, counts, axis, Accepted, Within, InRange, Directed}
+use Rattle.laws.proofs.Accepts.{accepts}
+
+-- an answer that tells 0 passed its checks
+pub then-number : (f : Fault) (a : Answer) → (f then a) .number ≡ 0 → good f ≡ true
+then-number f a h = go (good f) refl
+  where
+    go : (b : Bool) → good f ≡ b → b ≡ true
+    go true e = refl
+    go false e = orders.clash (good f) (sym (refused-number f) ∙ eq-eqb (refused f .number) 0 (sym (ap (λ (x : Answer). x .number) (then-bad f a e)) ∙ h)) e
+
+-- ---- an accepted table
+module _ (t : Table) where
+  counted : axes t ≤ 4 → length (counts t) ≡ axes t
+  counted h = length-take-le (axes t) (t .shape .counts) (omega (arith, h, t .four))
+
+  pub axis-good : Accepted t → (a : ℕ) → a < axes t → Axis (axis t a)
+  axis-good g a l = record {
+    enough = g .enough a l .0;
+    few = g .enough a l .1;
+    finites = λ i h. g .finite-nodes a i l h;
+    rises = λ i h. g .rising a i l h;
+    gaps = λ i h. g .gaps a i l h;
+  }
+
+  pub passes : Accepted t → passed.Accepted (t .shape) (t .nodes .list) (t .values .list)
+  passes g = accepts (t .shape) (t .nodes .list) (t .values .list) (counted (g .few)) (g .some) (g .few) (g .nodes-lent) (g .small) (g .values-lent) (axis-good g) values-good
+    where
+      values-good : good (valuesFault (t .values .list)) ≡ true
+      values-good = unfold valuesFault in (ap good (orders.none-good (valueFault (t .values .list)) 0 (length (t .values .list)) (λ i l m. value-good (t .values .list) i (g .finite-values i (omega (arith, m))))) ∙ orders.good-no-fault)
+
+  pub accepted : passed.Accepted (t .shape) (t .nodes .list) (t .values .list) → Accepted t
+  accepted p =
+      record {
+        some = shape-some (t .shape) judged;
+        few = shape-four (t .shape) judged;
+        small = grid .small;
+        nodes-lent = grid .flat;
+        values-lent = frame-values (t .shape) (t .nodes .list) (t .values .list) (p .frame);
+        enough = λ a l. (at a l .enough, at a l .few);
+        finite-nodes = λ a i l h. at a l .finites i h;
+        rising = λ a i l h. at a l .rises i h;
+        gaps = λ a i l h. at a l .gaps i h;
+        finite-values = values-finite (t .values .list) (p .stored);
+      }
+    where
+      judged : good (shapeFault (t .shape)) ≡ true
+      judged = frame-shape (t .shape) (t .nodes .list) (t .values .list) (p .frame)
+
+      grid : Grid (counts t) (t .nodes .list)
+      grid = grid-of (t .shape) (t .nodes .list) (t .values .list) (p .frame) (p .axes)
+
+      at : (a : ℕ) → a < axes t → Axis (axis t a)
+      at a l = grid .axes a (omega (arith, l, frame-axes (t .shape) (t .nodes .list) (t .values .list) (p .frame)))
+
+  -- ---- a reading in range
+  module _ (a : ℕ) (p : Float) (ax : Axis (axis t a)) where
+    last : length (axis t a) - 1 < length (axis t a)
+    last = let n : 2 ≤ length (axis t a) = ax .enough in omega arith
+
+    first : 0 < length (axis t a)
+    first = let n : 2 ≤ length (axis t a) = ax .enough in omega arith
+
+    pub range-passes : (n : ℕ) → Within t a p → good (rangeFault n (axis t a) p) ≡ true
+    range-passes n w =
+        orders.passed-no-fault (rangeFault n (axis t a) p)
+        (range-inside n (axis t a) p
+        (order.not-lt-of-le p (node (axis t a) 0) (w .finite-reading) (ax .finites 0 first) (w .low))
+        (order.not-lt-of-le (node (axis t a) (length (axis t a) - 1)) p (ax .finites (length (axis t a) - 1) last) (w .finite-reading) (w .high)))
+
+    pub within : (n : ℕ) → finite p ≡ true → good (rangeFault n (axis t a) p) ≡ true → Within t a p
+    unfolding rangeFault
+    within n f r = record {
+      finite-reading = f;
+      low = order.le-of-not-lt p (node (axis t a) 0) f (ax .finites 0 first) (orders.row-good (lt p (node (axis t a) 0)) 10 n 0 (orders.first-passed _ _ r));
+      high = order.le-of-not-lt (node (axis t a) (length (axis t a) - 1)) p (ax .finites (length (axis t a) - 1) last) f (orders.row-good (lt (node (axis t a) (length (axis t a) - 1)) p) 10 n 1 (orders.second-passed _ _ r));
+    }
+
+  module _ (ps : Floats) where
+    pub readings-pass : InRange t ps → passed.InRange (t .shape) (t .nodes .list) (ps .list)
+    readings-pass r = record {
+      count = r .lent;
+      finites = λ a l. r .each a l .finite-reading;
+      low = λ a l. r .each a l .low;
+      high = λ a l. r .each a l .high;
+    }
+
+    pub in-range : Accepted t → good (lengthFault 2 (axes t) (length (ps .list))) ≡ true → good (readingsFault (ps .list)) ≡ true → good (rangesFault (counts t) (t .nodes .list) (ps .list)) ≡ true → InRange t ps
+    unfolding rangesFault
+    in-range g n f r = record { lent = lent; each = each }
+      where
+        lent : length (ps .list) ≡ axes t
+        lent = length-passed 2 (axes t) (length (ps .list)) n
+
+        each : (a : ℕ) → a < axes t → Within t a (getD (ps .list) a nan)
+        each a l =
+            within a (getD (ps .list) a nan) (axis-good g a l) a (readings-finite (ps .list) f a (omega (arith, l, lent)))
+            (orders.all-passed (λ b. rangeFault b (getD (axesOf (counts t) (t .nodes .list)) b []) (getD (ps .list) b nan)) 0 (length (counts t)) r a (omega arith) (omega (arith, l, counted (g .few))))
+
+  -- ---- directions
+  module _ (ds : List ℕ) where
+    pub directed-lent : Directed t ds → good (lengthFault 3 (axes t) (length ds)) ≡ true
+    directed-lent d = orders.passed-no-fault _ (length-same 3 (axes t) (length ds) (d .lent))
+
+    pub directed-passes : Directed t ds → good (directionsFault ds) ≡ true
+    unfolding directionsFault
+    directed-passes d =
+        ap good (orders.none-good (λ a. directionFault a (getD ds a 0)) 0 (length ds)
+        (λ a l m. orders.passed-no-fault (directionFault a (getD ds a 0)) (direction-fine a (getD ds a 0) (let q : getD ds a 0 < 2 = d .two a (omega (arith, m, d .lent)) in omega arith))))
+        ∙ orders.good-no-fault
+
+    pub directed : good (lengthFault 3 (axes t) (length ds)) ≡ true → good (directionsFault ds) ≡ true → Directed t ds
+    unfolding directionsFault directionFault
+    directed n d = record { lent = lent; two = two }
+      where
+        lent : length ds ≡ axes t
+        lent = length-passed 3 (axes t) (length ds) n
+
+        two : (a : ℕ) → a < axes t → getD ds a 0 < 2
+        two a l =
+            let h : getD ds a 0 ≤ 1 = ltb-false 1 (getD ds a 0) (orders.row-good (ltb 1 (getD ds a 0)) 8 a 0 (orders.all-passed (λ b. directionFault b (getD ds b 0)) 0 (length ds) d a (omega arith) (omega (arith, l, lent)))) in
+            omega (arith, h)

@@ -2,7 +2,7 @@
 -- format is rounded to the lower one at most. The fraction is n / c in units of binary64's smallest value; `kept` and `drop` of the kit's library say what
 -- its rounding keeps and drops, and `rounded` is the result. Assumes nothing.
 use mathlib.Core.Path.{_≡_, refl, sym, ap, subst}
-use mathlib.Core.Logic.{_⊎_, ⊎-elim}
+use mathlib.Core.Logic.{⊎-elim}
 use mathlib.Core.Bool.{true, false}
 use Prim.Native.Nat.{ℕ, _+_, _-_, _*_, _/_, _%_, _^_, _≤_, _<_, compare, Ordering, Ordering·lt, Ordering·eq, Ordering·gt}
 use native.Mathlib.Nat.{mul-pos, mul-le-mul-right, lt-of-mul-lt-mul-right, le-trans, div-add-mod', div-div-eq-div-mul, div-lt-iff-lt-mul, le-div-iff-mul-le}

@@ -1,7 +1,7 @@
 -- The size of a finite number in units of binary64's smallest value, 2 ^ -1074: of a rounded fraction, of a product, of a number that the format holds;
 -- and how large two numbers can be for their sum to stay finite. Assumes nothing.
 use mathlib.Core.Path.{_≡_, refl, sym, ap, _∙_, subst}
-use mathlib.Core.Logic.{_⊎_, ⊎-elim}
+use mathlib.Core.Logic.{⊎-elim}
 use mathlib.Core.Bool.{Bool, true, false, _&&_, cond, Bool·beq}
 use Prim.Native.Nat.{ℕ, zero, suc, _+_, _-_, _*_, _%_, _^_, _≤_, _<_, zero-le}
 use native.Mathlib.Nat.{mul-pos, mul-one, zero-mul, mul-le-mul-right, mul-le-mul-left, mul-le-mul, lt-of-mul-lt-mul-right, mul-lt-mul-of-pos-right, le-trans, lt-of-le-of-lt, le-of-eq, le-of-lt, not-le-of-lt, mul-assoc, mul-comm}

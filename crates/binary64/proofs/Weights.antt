@@ -2,7 +2,7 @@
 -- The two weights are together at most 2 ^ -54 above 1. Where one of them is above a half, its product loses a whole last digit in rounding, and the other's is
 -- below what the weight is of 2 ^ 1024: together they stay below the middle between the largest number and 2 ^ 1024. Assumes nothing.
 use mathlib.Core.Path.{_≡_, refl, sym, ap, ap₂, _∙_, subst}
-use mathlib.Core.Logic.{_⊎_, ⊎-elim}
+use mathlib.Core.Logic.{⊎-elim}
 use mathlib.Core.Bool.{Bool, true, false, cond}
 use Prim.Native.Nat.{ℕ, zero, suc, _+_, _-_, _*_, _^_, _≤_, _<_, zero-le}
 use native.Mathlib.Nat.{mul-pos, mul-one, one-mul, zero-mul, mul-le-mul-right, mul-le-mul-left, mul-le-mul, le-of-mul-le-mul-right, lt-of-mul-lt-mul-right, eq-of-mul-eq-mul-right, mul-lt-mul-of-pos-right, le-trans, lt-of-le-of-lt, le-of-lt, not-le-of-lt, mul-assoc, mul-comm, mul-left-comm, mul-add, add-mul, add-comm}

@@ -136,7 +136,7 @@ sub-grows f x p y fx fp fy h k l =
     (widen (over y) (under y) (den y) (over p) (under p) (den p) (over x) (under x) (den x) (cross-of y p fy fp h) (cross-of y x fy fx k) (leb-true (left p x) (right p x) (sym (le-cross p x fp fx) ∙ l)))))
 
 -- ---- x - y is above zero for y < x, where the format holds both: it is a whole number of the format's smallest values
-either : (i j : ℕ) → (i ≤ j) ⊎ (j < i)
+pub either : (i j : ℕ) → (i ≤ j) ⊎ (j < i)
 either i j = go (leb i j) (leb-true i j) (leb-false i j)
   where
     go : (t : Bool) → (t ≡ true → i ≤ j) → (t ≡ false → j < i) → (i ≤ j) ⊎ (j < i)
@@ -178,24 +178,24 @@ unfolding place
 down-is (pos k) = refl
 down-is (negsuc k) = refl
 
-divides : (i j : ℕ) → i ≤ j → 2 ^ j ≡ 2 ^ i * 2 ^ (j - i)
+pub divides : (i j : ℕ) → i ≤ j → 2 ^ j ≡ 2 ^ i * 2 ^ (j - i)
 divides i j h = ap (λ (k : ℕ). 2 ^ k) more ∙ pow-add 2 i (j - i)
   where
     more : j ≡ i + (j - i)
     more = omega arith
 
-exponent : Float → ℕ
+pub exponent : Float → ℕ
 exponent nan = 0
 exponent (inf s) = 0
 exponent (fin s m e) = place e
 
-den-is : (x : Float) → den x ≡ 2 ^ exponent x
+pub den-is : (x : Float) → den x ≡ 2 ^ exponent x
 unfolding exponent
 den-is nan = refl
 den-is (inf s) = refl
 den-is (fin s m e) = down-is e
 
-noFault : (x : Float) → T (fits binary64 x) → den x ≤ 2 ^ 1074
+pub noFault : (x : Float) → T (fits binary64 x) → den x ≤ 2 ^ 1074
 unfolding fits
 noFault nan t = lit≤ tt
 noFault (inf s) t = lit≤ tt

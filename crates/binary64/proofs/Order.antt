@@ -150,7 +150,7 @@ module _ (x y : Float) (f : Fin x) (g : Fin y) where
   →lt : left x y < right x y → lt x y ≡ true
   →lt h = lt-cross x y f g ∙ lt-ltb (left x y) (right x y) h
 
-  le→ : le x y ≡ true → left x y ≤ right x y
+  pub le→ : le x y ≡ true → left x y ≤ right x y
   le→ h = leb-true (left x y) (right x y) (sym (le-cross x y f g) ∙ h)
 
   →le : left x y ≤ right x y → le x y ≡ true

@@ -4,6 +4,7 @@ pub mod Left
 pub mod LinearLaw
 pub mod SliceLaw
 pub mod Makes
+pub mod LinearMakes
 pub mod Commutes
 pub mod Premises
 pub mod Judging

@@ -6,6 +6,8 @@ pub mod Refusals
 pub mod Corners
 pub mod Located
 pub mod LinearDemands
+pub mod LinearFinite
+pub mod UniformOverflow
 pub mod KindOrder
 pub mod RecordLines
 pub mod Wholes

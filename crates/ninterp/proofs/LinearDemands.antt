@@ -15,7 +15,7 @@ use Rattle.checks.specs.Nodes.{node}
 use Rattle.checks.specs.Numbers.{resultFault, lengthFault, axesFault, rangesFault, valuesFault, readingsFault, axesUniformFault}
 use Rattle.checks.proofs.numbers.Rows.{result-wild, result-fine}
 use Rattle.layout.specs.Shape.{countsOf, size}
-use Rattle.layout.specs.Layout.{axesOf, place, table, tabulate, axisOf}
+use Rattle.layout.specs.Layout.{axesOf, place, table, tabulate, axisOf, Inside}
 use Rattle.checks.specs.Shapes.{frameFault}
 use Rattle.layout.specs.declared.Shape.{Shape}
 use Rattle.layout.proofs.Walks.{length-axes}
@@ -49,6 +49,13 @@ computed-wild x h = then-bad (resultFault 0 x) (answered x) (ap good (sym (resul
 linear-exact : (n : ℕ) (f : ℕ → ℕ) (g : List ℕ → Float) → linear (tabulate n (λ a. Exact (f a))) g ≡ g (tabulate n f)
 linear-exact zero f g = refl
 linear-exact (suc n) f g = linear-exact n (λ a. f (suc a)) (λ is. g (f 0 ∷ is))
+
+-- ---- what an accepted table stores at its own index lists is finite
+pub stored-finite : (s : Shape) (nodes values : List Float) → Accepted s nodes values → (is : List ℕ) → Inside is (countsOf s) → finite (table (countsOf s) values is) ≡ true
+unfolding table
+stored-finite s nodes values t is w =
+    let below : place (countsOf s) is < size (countsOf s) = place-below is (countsOf s) w in
+    values-finite values (t .stored) (place (countsOf s) is) (omega (arith, below, frame-values s nodes values (t .frame)))
 
 module _ (s : Shape) (nodes values readings : List Float) (t : Accepted s nodes values) (r : InRange s nodes readings) where
   -- the Rust's value over the locations of a rule
@@ -110,11 +117,9 @@ module _ (s : Shape) (nodes values readings : List Float) (t : Accepted s nodes 
         node-located (axisOf s nodes a) (getD readings a nan) (demands.axis-at s nodes values readings t r a k) (r .finites a k) (at a) (within a k) (on a k))
 
     stored-value : finite (table (countsOf s) values is) ≡ true
-    unfolding table
     stored-value =
         let g = grid-of s nodes values (t .frame) (t .axes) in
-        let below : place (countsOf s) is < size (countsOf s) = place-below is (countsOf s) (list-inside (λ a xs p. at a) (countsOf s) nodes readings (g .flat) (λ a l. within a (omega (arith, counted, l)))) in
-        values-finite values (t .stored) (place (countsOf s) is) (omega (arith, below, frame-values s nodes values (t .frame)))
+        stored-finite s nodes values t is (list-inside (λ a xs p. at a) (countsOf s) nodes readings (g .flat) (λ a l. within a (omega (arith, counted, l))))
 
     pub linear-stored : linearAnswer s nodes values readings ≡ answered (table (countsOf s) values (indices (λ a xs p. at a) (axesOf (countsOf s) nodes) readings))
     unfolding linearAnswer interpolated indices

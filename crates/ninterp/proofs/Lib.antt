@@ -6,6 +6,7 @@ pub mod Refusals
 pub mod Corners
 pub mod Located
 pub mod LinearDemands
+pub mod Rusts
 pub mod KindOrder
 pub mod RecordLines
 pub mod Wholes

@@ -5,10 +5,10 @@ use Prim.Native.Nat.{ℕ}
 use lib.Ieee.{Float}
 use Rattle.axis.specs.Cells.{lowerIndex}
 use Rattle.axis.specs.Exact.{exactNode}
-use Rattle.axis.specs.declared.exact.MaybeIndex.{MaybeIndex}
-use Rattle.axis.specs.declared.exact.MaybeIndex.the-variants.{Some, None}
+use Rattle.rust.specs.declared.MaybeIndex.{MaybeIndex}
+use Rattle.rust.specs.declared.MaybeIndex.the-variants.{Some, None}
 use Rattle.axis.specs.Locations.{fraction, axisLocation, locationAt}
-use Rattle.axis.specs.declared.AxisLocation.the-variants.{Exact, Between}
+use Rattle.rust.specs.declared.AxisLocation.the-variants.{Exact, Between}
 
 module _ (nodes : List Float) (p : Float) (l : ℕ) (e : l ≡ lowerIndex nodes p) (r : MaybeIndex) (q : r ≡ exactNode nodes l p) where
   located : axisLocation nodes p ≡ locationAt nodes l p

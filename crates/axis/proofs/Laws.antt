@@ -22,10 +22,10 @@ use Rattle.axis.proofs.cells.Cells.{cell-inside}
 use Rattle.axis.proofs.cells.Axes.{cell-high}
 use Rattle.binary64.proofs.Held.{Held}
 use Rattle.axis.proofs.picks.Laws.{from-lower, before-node, at-lower}
-use Rattle.axis.specs.declared.AxisLocation.the-variants.{Exact}
+use Rattle.rust.specs.declared.AxisLocation.the-variants.{Exact}
 use Rattle.axis.specs.Locations.{fraction, axisLocation}
 use Rattle.axis.specs.Exact.{exactNode}
-use Rattle.axis.specs.declared.exact.MaybeIndex.the-variants.{Some}
+use Rattle.rust.specs.declared.MaybeIndex.the-variants.{Some}
 use Rattle.axis.proofs.exact.Exacts.{exact-lower, exact-upper}
 
 -- what lies from 0 up to a finite number is finite

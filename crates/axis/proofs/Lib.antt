@@ -1,3 +1,4 @@
 pub mod Exacts
 pub mod Laws
 pub mod Located
+pub mod Texts

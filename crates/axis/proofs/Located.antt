@@ -13,13 +13,13 @@ use Rattle.answer.specs.Answer.{plusZero}
 use Rattle.checks.specs.Nodes.{node, gap}
 use Rattle.checks.specs.Passed.{Axis}
 use Rattle.axis.specs.Uniform.{uniformCell, uniformIndex}
-use Rattle.axis.specs.declared.AxisLocation.{AxisLocation}
-use Rattle.axis.specs.declared.AxisLocation.the-variants.{Exact, Between}
+use Rattle.rust.specs.declared.AxisLocation.{AxisLocation}
+use Rattle.rust.specs.declared.AxisLocation.the-variants.{Exact, Between}
 use Rattle.axis.specs.Cells.{lowerIndex}
 use Rattle.axis.proofs.cells.Cells.{cell-inside}
 use Rattle.axis.specs.Locations.{exactOr, fraction, axisLocation, uniformLocation, locationBy, locationFound, locationIndex, upperOf}
 use Rattle.axis.specs.Exact.{exactNode}
-use Rattle.axis.specs.declared.exact.MaybeIndex.the-variants.{Some, None}
+use Rattle.rust.specs.declared.MaybeIndex.the-variants.{Some, None}
 
 -- ---- of any location
 pub lower-upper : (p : AxisLocation) → locationIndex p ≤ upperOf p

@@ -4,8 +4,8 @@ use mathlib.Core.List.{List}
 use Prim.Native.Nat.{ℕ, _+_}
 use lib.Ieee.{Float, eq}
 use Rattle.checks.specs.Nodes.{node}
-use Rattle.axis.specs.declared.exact.MaybeIndex.{MaybeIndex}
-use Rattle.axis.specs.declared.exact.MaybeIndex.the-variants.{Some, None}
+use Rattle.rust.specs.declared.MaybeIndex.{MaybeIndex}
+use Rattle.rust.specs.declared.MaybeIndex.the-variants.{Some, None}
 
 -- "lower if that node equals the reading, else lower+1 if that one does, else none"
 unfoldable pub exactNode : List Float → ℕ → Float → MaybeIndex

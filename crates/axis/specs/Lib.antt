@@ -2,6 +2,5 @@ pub mod Locations
 pub mod Cells
 pub mod Exact
 pub mod Steps
-pub mod Rust
 pub mod Picks
 pub mod Uniform

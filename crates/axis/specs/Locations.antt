@@ -10,10 +10,10 @@ use Rattle.checks.specs.Nodes.{node, gap}
 use Rattle.axis.specs.Cells.{lowerIndex}
 use Rattle.axis.specs.Exact.{exactNode}
 use Rattle.axis.specs.Uniform.{uniformIndex}
-use Rattle.axis.specs.declared.exact.MaybeIndex.{MaybeIndex}
-use Rattle.axis.specs.declared.exact.MaybeIndex.the-variants.{Some, None}
-use Rattle.axis.specs.declared.AxisLocation.{AxisLocation}
-use Rattle.axis.specs.declared.AxisLocation.the-variants.{Exact, Between}
+use Rattle.rust.specs.declared.MaybeIndex.{MaybeIndex}
+use Rattle.rust.specs.declared.MaybeIndex.the-variants.{Some, None}
+use Rattle.rust.specs.declared.AxisLocation.{AxisLocation}
+use Rattle.rust.specs.declared.AxisLocation.the-variants.{Exact, Between}
 
 -- ---- Linear
 -- "(p - lower node) / (upper node - lower node), each operation rounded"

@@ -2,13 +2,13 @@
 use mathlib.Core.Bool.{cond}
 use mathlib.Core.List.{List}
 use Prim.Native.Nat.{ℕ, _+_}
-use lib.Dec.{ltb}
+use lib.Dec.{ltb, eqb}
 use lib.ListN.{length, getD}
 use lib.Ieee.{Float, binary64, lt, sub}
 use Rattle.checks.specs.Nodes.{node}
 use Rattle.axis.specs.Steps.{stepIndex}
 use Rattle.axis.specs.Cells.{lowerIndex}
-use Rattle.axis.specs.Rust.{rustStep}
+use Rattle.rust.specs.Utils.{lowerBy, upperBy}
 
 -- "the lower node if (p - lower) is less than (upper - p) as rounded, else the upper"
 abbrev pub nearer : List Float → ℕ → Float → ℕ
@@ -19,6 +19,10 @@ nearestIndex nodes p = nearer nodes (lowerIndex nodes p) p
 
 unfoldable pub pickIndex : ℕ → List Float → Float → ℕ
 pickIndex pick nodes p = cond (ltb pick 2) (stepIndex pick nodes p) (nearestIndex nodes p)
+
+-- the Rust's expressions in `locate_step_index`, over the lower index as the paper counts it: on a good axis its search gives that count (`lower-text`)
+unfoldable pub rustStep : ℕ → List Float → Float → ℕ
+rustStep direction nodes p = cond (eqb direction 0) (lowerBy nodes (lowerIndex nodes p) p) (upperBy nodes (lowerIndex nodes p) p)
 
 -- what the code gives, of any list at all: `rustStep` for Step, and 0 where there is no cell. On a good axis it is `pickIndex` (`pick-found`)
 unfoldable pub pickFound : ℕ → List Float → Float → ℕ

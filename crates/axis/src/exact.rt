@@ -1,12 +1,7 @@
 // The node of a cell at which a reading lies, for any lower node.
 ghost use mathlib.Core.Path.{_≡_};
 ghost use Rattle.axis.specs.Exact.{exactNode};
-
-// An index, or none: the Rust's Option<usize>.
-pub enum MaybeIndex {
-    Some(usize),
-    None,
-}
+use rust::MaybeIndex;
 
 // The node of a cell that equals the reading; a node past the end equals nothing.
 pub fn exact_node(grid: &[f64], lower: usize, point: f64) -> MaybeIndex

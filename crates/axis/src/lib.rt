@@ -11,9 +11,3 @@ pub mod exact;
 pub mod picks;
 // The index of a reading on a uniform axis.
 pub mod uniform;
-
-// Where a reading lies on an axis: on a node, or at a fraction of a cell.
-pub enum AxisLocation {
-    Exact(usize),
-    Between { lower: usize, frac: f64 },
-}

@@ -3,11 +3,11 @@ ghost use mathlib.Core.Path.{_≡_};
 ghost use Prim.Native.Nat.{_≤_};
 ghost use lib.ListN.{length};
 ghost use Rattle.axis.specs.Locations.{axisLocation, locationIndex, uniformLocation, locationFound};
-use crate::AxisLocation;
 use crate::cells;
 use crate::exact;
-use crate::exact::MaybeIndex;
 use crate::uniform;
+use rust::AxisLocation;
+use rust::MaybeIndex;
 
 // The location by Linear's rule.
 fn axis_location(grid: &[f64], point: f64) -> AxisLocation

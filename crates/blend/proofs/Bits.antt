@@ -9,10 +9,11 @@ use lib.Ieee.{Float, nan}
 use Rattle.layout.specs.Layout.{tabulate}
 use Rattle.layout.proofs.Layouts.{getD-tabulate, tabulate-same}
 use Rattle.blend.specs.Blend.{blended, sliced, linear}
-use Rattle.blend.specs.Rust.{view, lowers, diffs, corner, corners, passed, butterfly, rustLinear}
+use Rattle.rust.specs.Strategies.{view, lowers, diffs, corner, corners, passed, butterfly, rustLinear}
+use Rattle.rust.proofs.Linears.{length-lowers}
 use Rattle.blend.specs.Corners.{cornerAt}
-use Rattle.axis.specs.declared.AxisLocation.{AxisLocation}
-use Rattle.axis.specs.declared.AxisLocation.the-variants.{Exact, Between}
+use Rattle.rust.specs.declared.AxisLocation.{AxisLocation}
+use Rattle.rust.specs.declared.AxisLocation.the-variants.{Exact, Between}
 
 -- ---- powers of two and bits
 pub power-above : (k : ℕ) → 0 < 2 ^ k
@@ -61,7 +62,7 @@ high-corner ps l f m b = ap₂ (λ (x : ℕ) (r : List ℕ). (l + x) ∷ r) (bit
 -- one pass over the corners of an axis and those after it leaves the corners of the blended table
 pub pass-corners : (l : ℕ) (f : Float) (ps : List AxisLocation) (g : List ℕ → Float)
     → passed f (2 ^ length (diffs ps)) (cornersOf (Between l f ∷ ps) g) ≡ cornersOf ps (sliced (Between l f) g)
-unfolding passed
+unfolding passed blended
 pass-corners l f ps g = tabulate-same (2 ^ length (diffs ps)) _ _ turn
   where
     turn : (m : ℕ) → m < 2 ^ length (diffs ps)
@@ -81,11 +82,6 @@ fold-linear (Exact node ∷ ps) g = fold-linear ps (λ is. g (node ∷ is))
 fold-linear (Between l f ∷ ps) g = ap (butterfly (diffs ps)) (pass-corners l f ps g) ∙ fold-linear ps (sliced (Between l f) g)
 
 -- ---- the Rust's text
-length-lowers : (ps : List AxisLocation) → length (lowers ps) ≡ length (diffs ps)
-length-lowers [] = refl
-length-lowers (Exact node ∷ ps) = length-lowers ps
-length-lowers (Between l f ∷ ps) = ap suc (length-lowers ps)
-
 view-corner : (ps : List AxisLocation) (g : List ℕ → Float) (m : ℕ) → view ps g (corner (lowers ps) m) ≡ g (cornerAt ps m)
 view-corner [] g m = refl
 view-corner (Exact node ∷ ps) g m = view-corner ps (λ is. g (node ∷ is)) m
@@ -104,7 +100,7 @@ rust-linear ps g =
 
 -- ---- the butterfly looks at the corners in use alone
 pub butterfly-same : (fs xs ys : List Float) → ((i : ℕ) → i < 2 ^ length fs → getD xs i nan ≡ getD ys i nan) → butterfly fs xs ≡ butterfly fs ys
-unfolding butterfly passed
+unfolding butterfly passed blended
 butterfly-same [] xs ys h = h 0 (omega arith)
 butterfly-same (f ∷ fs) xs ys h =
     ap (butterfly fs)

@@ -16,16 +16,16 @@ use Rattle.binary64.proofs.Held.{Held}
 use Rattle.layout.specs.Layout.{tabulate}
 use Rattle.checks.specs.Nodes.{node, gap}
 use Rattle.checks.specs.Passed.{Axis}
-use Rattle.axis.specs.declared.AxisLocation.{AxisLocation}
-use Rattle.axis.specs.declared.AxisLocation.the-variants.{Exact, Between}
-use Rattle.axis.specs.declared.exact.MaybeIndex.{MaybeIndex}
-use Rattle.axis.specs.declared.exact.MaybeIndex.the-variants.{Some, None}
+use Rattle.rust.specs.declared.AxisLocation.{AxisLocation}
+use Rattle.rust.specs.declared.AxisLocation.the-variants.{Exact, Between}
+use Rattle.rust.specs.declared.MaybeIndex.{MaybeIndex}
+use Rattle.rust.specs.declared.MaybeIndex.the-variants.{Some, None}
 use Rattle.axis.specs.Cells.{lowerIndex}
 use Rattle.axis.specs.Exact.{exactNode}
 use Rattle.axis.specs.Locations.{fraction, exactOr, axisLocation, upperOf}
 use Rattle.axis.proofs.Laws.{fraction-unit}
 use Rattle.blend.specs.Blend.{one, blended, sliced, linear}
-use Rattle.blend.specs.Rust.{diffs}
+use Rattle.rust.specs.Located.{diffs}
 use Rattle.blend.specs.Corners.{cornerAt}
 use Rattle.blend.proofs.Bits.{power-suc, low-corner, high-corner}
 

@@ -5,10 +5,10 @@ use Prim.Native.Nat.{ℕ, suc, _+_, _^_, _≤_, min}
 use native.Mathlib.Nat.{pow-le-pow-right}
 use native.Mathlib.Omega.{arith}
 use lib.ListN.{length}
-use Rattle.blend.specs.Rust.{diffs}
+use Rattle.rust.specs.Strategies.{diffs}
 use Rattle.blend.specs.Corners.{moreCorners}
-use Rattle.axis.specs.declared.AxisLocation.{AxisLocation}
-use Rattle.axis.specs.declared.AxisLocation.the-variants.{Exact, Between}
+use Rattle.rust.specs.declared.AxisLocation.{AxisLocation}
+use Rattle.rust.specs.declared.AxisLocation.the-variants.{Exact, Between}
 use Rattle.blend.proofs.Bits.{power-suc}
 
 pub more-power : (p : AxisLocation) (ps : List AxisLocation) (h : ℕ) → h ≡ 2 ^ length (diffs ps) → 2 ^ length (diffs (p ∷ ps)) ≤ 16 → moreCorners p h ≡ 2 ^ length (diffs (p ∷ ps))

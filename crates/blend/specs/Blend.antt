@@ -7,8 +7,8 @@ use lib.Ieee.{Float, fin, binary64, add, sub, mul}
 use Rattle.answer.specs.Answer.{answered, _then_}
 use Rattle.answer.specs.declared.Answer.{Answer}
 use Rattle.checks.specs.Numbers.{resultFault}
-use Rattle.axis.specs.declared.AxisLocation.{AxisLocation}
-use Rattle.axis.specs.declared.AxisLocation.the-variants.{Exact, Between}
+use Rattle.rust.specs.declared.AxisLocation.{AxisLocation}
+use Rattle.rust.specs.declared.AxisLocation.the-variants.{Exact, Between}
 
 -- 1.0
 abbrev pub one : Float

@@ -3,9 +3,9 @@ use mathlib.Core.List.{List, [], _∷_}
 use Prim.Native.Nat.{ℕ, _+_, _/_, _%_, _^_, min}
 use lib.ListN.{length}
 use Rattle.layout.specs.Layout.{place}
-use Rattle.blend.specs.Rust.{diffs}
-use Rattle.axis.specs.declared.AxisLocation.{AxisLocation}
-use Rattle.axis.specs.declared.AxisLocation.the-variants.{Exact, Between}
+use Rattle.rust.specs.Strategies.{diffs}
+use Rattle.rust.specs.declared.AxisLocation.{AxisLocation}
+use Rattle.rust.specs.declared.AxisLocation.the-variants.{Exact, Between}
 
 -- the index list of a corner, by its number: the node of an exact axis, the lower or the upper node of any other
 abbrev pub cornerAt : List AxisLocation → ℕ → List ℕ

@@ -3,9 +3,9 @@ use mathlib.Core.List.{List, _++_}
 use Prim.Native.Nat.{ℕ, _+_, _/_}
 use lib.ListN.{drop}
 use lib.Ieee.{Float}
-use Rattle.blend.specs.Rust.{passed}
-use Rattle.axis.specs.declared.AxisLocation.{AxisLocation}
-use Rattle.axis.specs.declared.AxisLocation.the-variants.{Exact, Between}
+use Rattle.rust.specs.Strategies.{passed}
+use Rattle.rust.specs.declared.AxisLocation.{AxisLocation}
+use Rattle.rust.specs.declared.AxisLocation.the-variants.{Exact, Between}
 
 -- one pass of the butterfly in place: the first `half` blended with the next, the rest as it was
 abbrev pub passedOver : Float → ℕ → List Float → List Float

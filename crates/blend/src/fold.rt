@@ -3,11 +3,11 @@ ghost use mathlib.Core.Path.{_≡_};
 ghost use Prim.Native.Nat.{_+_, _^_, _≤_};
 ghost use lib.ListN.{length, take};
 ghost use Rattle.blend.specs.Blend.{computed};
-ghost use Rattle.blend.specs.Rust.{diffs, butterfly};
+ghost use Rattle.rust.specs.Strategies.{diffs, butterfly};
 ghost use Rattle.blend.specs.Folds.{passedOver, merged, halfOf, grown};
 use answer::Answer;
-use axis::AxisLocation;
 use checks::numbers;
+use rust::AxisLocation;
 
 // One pass: each of the first `half` values blended with the one `half` places on.
 fn pass_over(vals: &mut [f64], half: usize, f: f64)

@@ -9,7 +9,7 @@ pub mod fold;
 // Two runs of values blended, for the slices of the two linears.
 pub mod runs;
 
-use axis::AxisLocation;
+use rust::AxisLocation;
 
 // Two values blended: four rounded operations in this order.
 pub(crate) fn blend(a: f64, b: f64, f: f64) -> f64

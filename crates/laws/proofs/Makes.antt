@@ -16,7 +16,7 @@ use Rattle.orders.proofs.before_slice.Rows.{axis-there, first-there}
 use Rattle.layout.specs.Shape.{countsOf, size}
 use Rattle.layout.specs.Layout.{without, axisOf}
 use Rattle.layout.specs.declared.Shape.{Shape}
-use Rattle.axis.specs.declared.AxisLocation.{AxisLocation}
+use Rattle.rust.specs.declared.AxisLocation.{AxisLocation}
 use Rattle.axis.specs.Locations.{axisLocation, uniformLocation}
 use Rattle.orders.specs.Orders.{nearestFront, stepFront, linearFront, linearUniformFront, pointFault, nearestSliceFault, stepSliceFault}
 use Rattle.ninterp.proofs.Demands.{Accepted}

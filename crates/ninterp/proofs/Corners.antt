@@ -16,10 +16,10 @@ use Rattle.layout.specs.Layout.{place, table, tabulate, Inside}
 use Rattle.layout.proofs.Totals.{ahead, past}
 use Rattle.layout.proofs.Layouts.{place-cons, place-none, size-cons, size-nil, place-below, getD-tabulate}
 use Rattle.blend.specs.Blend.{linear}
-use Rattle.blend.specs.Rust.{diffs, butterfly}
+use Rattle.rust.specs.Strategies.{diffs, butterfly}
 use Rattle.blend.specs.Corners.{cornerAt, moreCorners, cornerPlace}
-use Rattle.axis.specs.declared.AxisLocation.{AxisLocation}
-use Rattle.axis.specs.declared.AxisLocation.the-variants.{Exact, Between}
+use Rattle.rust.specs.declared.AxisLocation.{AxisLocation}
+use Rattle.rust.specs.declared.AxisLocation.the-variants.{Exact, Between}
 use Rattle.blend.proofs.Bits.{power-suc, low-corner, high-corner, fold-linear, butterfly-same}
 use Rattle.blend.proofs.Counts.{few-diffs, few-corners, more-power}
 use Rattle.axis.specs.Locations.{locationIndex, upperOf}

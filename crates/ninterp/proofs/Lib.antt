@@ -8,6 +8,7 @@ pub mod Located
 pub mod LinearDemands
 pub mod LinearFinite
 pub mod UniformOverflow
+pub mod Rusts
 pub mod KindOrder
 pub mod RecordLines
 pub mod Wholes

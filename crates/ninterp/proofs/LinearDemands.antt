@@ -24,9 +24,9 @@ use Rattle.checks.proofs.values.Rows.{values-finite}
 use Rattle.checks.proofs.table.Grids.{frame-values, grid-of}
 use Rattle.orders.specs.Orders.{lookupFault, linearUniformFault}
 use Rattle.blend.specs.Blend.{linear, computed}
-use Rattle.blend.specs.Rust.{rustLinear}
-use Rattle.axis.specs.declared.AxisLocation.{AxisLocation}
-use Rattle.axis.specs.declared.AxisLocation.the-variants.{Exact}
+use Rattle.rust.specs.Strategies.{rustLinear}
+use Rattle.rust.specs.declared.AxisLocation.{AxisLocation}
+use Rattle.rust.specs.declared.AxisLocation.the-variants.{Exact}
 use Rattle.blend.proofs.Bits.{rust-linear}
 use Rattle.axis.specs.Locations.{axisLocation, uniformLocation}
 use Rattle.ninterp.specs.Tables.{indices}

@@ -15,11 +15,11 @@ use Rattle.layout.specs.Shape.{countsOf}
 use Rattle.layout.specs.Layout.{axesOf, axisOf, place, table, Inside}
 use Rattle.layout.specs.declared.Shape.{Shape}
 use Rattle.layout.proofs.Walks.{length-axes}
-use Rattle.blend.specs.Rust.{rustLinear}
+use Rattle.rust.specs.Located.{rustLinear}
 use Rattle.blend.specs.Corners.{cornerAt}
 use Rattle.blend.proofs.Bits.{rust-linear}
 use Rattle.blend.proofs.Bounded.{Number, Fairs, location-fair, fairs-tabulate, linear-bounded}
-use Rattle.axis.specs.declared.AxisLocation.{AxisLocation}
+use Rattle.rust.specs.declared.AxisLocation.{AxisLocation}
 use Rattle.axis.specs.Locations.{axisLocation}
 use Rattle.axis.proofs.Located.{location-fits}
 use Rattle.ninterp.specs.Linears.{locations, linearAnswer}

@@ -10,7 +10,7 @@ use Rattle.layout.specs.Layout.{axesOf, tabulate}
 use Rattle.layout.proofs.Walks.{length-axes}
 use Rattle.layout.proofs.Layouts.{length-tabulate}
 use Rattle.checks.proofs.table.Grids.{length-axis}
-use Rattle.axis.specs.declared.AxisLocation.{AxisLocation}
+use Rattle.rust.specs.declared.AxisLocation.{AxisLocation}
 use Rattle.ninterp.specs.Linears.{locations}
 use Rattle.axis.specs.Locations.{upperOf}
 use Rattle.ninterp.specs.Locations.{Within}

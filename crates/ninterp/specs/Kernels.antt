@@ -13,9 +13,9 @@ use Rattle.layout.specs.declared.Shape.{Shape}
 use Rattle.checks.specs.Numbers.{axesUniformFault}
 use Rattle.checks.specs.Passed.{Grid}
 use Rattle.axis.specs.Locations.{locationIndex, upperOf}
-use Rattle.axis.specs.declared.AxisLocation.{AxisLocation}
-use Rattle.axis.specs.declared.AxisLocation.the-variants.{Exact}
-use Rattle.blend.specs.Rust.{diffs}
+use Rattle.rust.specs.declared.AxisLocation.{AxisLocation}
+use Rattle.rust.specs.declared.AxisLocation.the-variants.{Exact}
+use Rattle.rust.specs.Strategies.{diffs}
 use Rattle.ninterp.specs.Tables.{indices}
 use Rattle.ninterp.specs.Linears.{locations}
 use Rattle.ninterp.specs.Kinds.{tableFault}

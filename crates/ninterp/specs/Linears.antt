@@ -10,7 +10,7 @@ use Rattle.layout.specs.Layout.{axesOf, table, tabulate}
 use Rattle.layout.specs.declared.Shape.{Shape}
 use Rattle.orders.specs.Orders.{lookupFault, linearUniformFault}
 use Rattle.blend.specs.Blend.{linear, computed}
-use Rattle.axis.specs.declared.AxisLocation.{AxisLocation}
+use Rattle.rust.specs.declared.AxisLocation.{AxisLocation}
 use Rattle.axis.specs.Locations.{axisLocation, uniformLocation}
 
 -- a rule gives each axis a location, from its nodes and its reading: `axisLocation` for Linear, `uniformLocation` for LinearUniform

@@ -19,8 +19,8 @@ use Rattle.layout.proofs.Layouts.{length-tabulate, getD-tabulate, tabulate-same
 use Rattle.blend.specs.Blend.{blended, sliced}
 use Rattle.blend.specs.Runs.{blends, blendedInto}
 use Rattle.checks.specs.Numbers.{resultsFault, resultFault}
-use Rattle.axis.specs.declared.AxisLocation.{AxisLocation}
-use Rattle.axis.specs.declared.AxisLocation.the-variants.{Exact, Between}
+use Rattle.rust.specs.declared.AxisLocation.{AxisLocation}
+use Rattle.rust.specs.declared.AxisLocation.the-variants.{Exact, Between}
 use Rattle.axis.specs.Locations.{locationIndex, upperOf}
 use Rattle.slices.specs.LinearSlices.{alongFirst, linearValues}
 use Rattle.slices.specs.Ready.{Ready, Results, Runs, Neighbours, runValues, blendedRuns}

@@ -24,7 +24,7 @@ use Rattle.layout.specs.Layout.{without, sliceValues, axisOf}
 use Rattle.layout.specs.declared.Shape.{Shape}
 use Rattle.orders.specs.Orders.{nearestFront, stepFront, linearFront, linearUniformFront, pointFault}
 use Rattle.orders.proofs.before_slice.Rows.{axis-many, axis-in, first-many, first-axis}
-use Rattle.axis.specs.declared.AxisLocation.{AxisLocation}
+use Rattle.rust.specs.declared.AxisLocation.{AxisLocation}
 use Rattle.slices.specs.Slices.{shapeWithout, sliceAnswer, refusedSlice}
 use Rattle.slices.specs.LinearSlices.{linearRest}
 use Rattle.slices.specs.Ready.{Ready, Taken, Filled}

@@ -11,7 +11,7 @@ use Rattle.layout.specs.declared.Shape.{Shape}
 use Rattle.orders.specs.Orders.{linearFront, linearUniformFront, pointFault}
 use Rattle.blend.specs.Blend.{sliced}
 use Rattle.checks.specs.Numbers.{resultsFault}
-use Rattle.axis.specs.declared.AxisLocation.{AxisLocation}
+use Rattle.rust.specs.declared.AxisLocation.{AxisLocation}
 use Rattle.axis.specs.Locations.{axisLocation, uniformLocation}
 use Rattle.slices.specs.Slices.{sliceAnswer}
 use Rattle.slices.specs.declared.SliceAnswer.{SliceAnswer}

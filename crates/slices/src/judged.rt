@@ -11,10 +11,10 @@ ghost use Rattle.slices.specs.Ready.{Ready, Taken, Filled, Results, pick
 use crate::remaining;
 use crate::written;
 use answer::Fault;
-use axis::AxisLocation;
 use axis::locate;
 use axis::picks;
 use layout::Shape;
+use rust::AxisLocation;
 
 // The slice at a pick's index on one axis: 0 Lower, 1 Upper, anything else Nearest.
 fn pick_slice(

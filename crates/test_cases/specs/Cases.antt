@@ -30,8 +30,8 @@ use Rattle.layout.specs.Shape.{size, total}
 use Rattle.layout.specs.Layout.{axesOf, strides, placeBy, table, indicesAt}
 use Rattle.layout.specs.declared.Shape.{Shape}
 use Rattle.blend.specs.Blend.{blended, computed}
-use Rattle.axis.specs.declared.AxisLocation.{AxisLocation}
-use Rattle.axis.specs.declared.AxisLocation.the-variants.{Exact, Between}
+use Rattle.rust.specs.declared.AxisLocation.{AxisLocation}
+use Rattle.rust.specs.declared.AxisLocation.the-variants.{Exact, Between}
 use Rattle.utils.specs.declared.AxisAnswer.{AxisAnswer}
 
 -- what a call tells

@@ -18,10 +18,10 @@ use Rattle.checks.proofs.lent.Rows.{direction-passed}
 use Rattle.axis.specs.Locations.{axisLocation, locationFound}
 use Rattle.axis.specs.Steps.{stepIndex}
 use Rattle.axis.specs.Picks.{pickFound}
-use Rattle.axis.specs.declared.AxisLocation.{AxisLocation}
+use Rattle.rust.specs.declared.AxisLocation.{AxisLocation}
 use Rattle.axis.proofs.Located.{location-found}
 use Rattle.axis.proofs.picks.Picks.{step-found}
-use Rattle.axis.specs.declared.exact.MaybeIndex.{MaybeIndex}
+use Rattle.rust.specs.declared.MaybeIndex.{MaybeIndex}
 use Rattle.utils.specs.Calls.{Readable, locationFraction, axisReadingFault, locateFault, directedFault}
 use Rattle.utils.specs.declared.IndexAnswer.{IndexAnswer}
 use Rattle.utils.specs.declared.ExactAnswer.{ExactAnswer}

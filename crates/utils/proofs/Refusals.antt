@@ -11,10 +11,10 @@ use Rattle.answer.specs.declared.Fault.{Fault}
 use Rattle.answer.proofs.Orders.{given-bad}
 use Rattle.answer.proofs.Answers.{Quiet, quiet}
 use Rattle.axis.specs.Locations.{locationIndex}
-use Rattle.axis.specs.declared.exact.MaybeIndex.{MaybeIndex}
-use Rattle.axis.specs.declared.exact.MaybeIndex.the-variants.{None}
-use Rattle.axis.specs.declared.AxisLocation.{AxisLocation}
-use Rattle.axis.specs.declared.AxisLocation.the-variants.{Exact}
+use Rattle.rust.specs.declared.MaybeIndex.{MaybeIndex}
+use Rattle.rust.specs.declared.MaybeIndex.the-variants.{None}
+use Rattle.rust.specs.declared.AxisLocation.{AxisLocation}
+use Rattle.rust.specs.declared.AxisLocation.the-variants.{Exact}
 use Rattle.utils.specs.Calls.{indexOf, locationFraction, indexAnswer, exactAnswer, axisAnswer, locateLowerIndex, exactIndex, locateAxis, locateStepIndex, locateLowerIndexUniform, validateUniformGrid, validateUniformGridEpsilon}
 use Rattle.utils.specs.declared.Tolerance.{Tolerance}
 

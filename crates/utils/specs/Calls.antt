@@ -20,10 +20,10 @@ use Rattle.axis.specs.Exact.{exactNode}
 use Rattle.axis.specs.Locations.{axisLocation}
 use Rattle.axis.specs.Steps.{stepIndex}
 use Rattle.axis.specs.Uniform.{uniformIndex}
-use Rattle.axis.specs.declared.exact.MaybeIndex.{MaybeIndex}
-use Rattle.axis.specs.declared.exact.MaybeIndex.the-variants.{Some, None}
-use Rattle.axis.specs.declared.AxisLocation.{AxisLocation}
-use Rattle.axis.specs.declared.AxisLocation.the-variants.{Exact, Between}
+use Rattle.rust.specs.declared.MaybeIndex.{MaybeIndex}
+use Rattle.rust.specs.declared.MaybeIndex.the-variants.{Some, None}
+use Rattle.rust.specs.declared.AxisLocation.{AxisLocation}
+use Rattle.rust.specs.declared.AxisLocation.the-variants.{Exact, Between}
 use Rattle.utils.specs.declared.IndexAnswer.{IndexAnswer}
 use Rattle.utils.specs.declared.ExactAnswer.{ExactAnswer}
 use Rattle.utils.specs.declared.AxisAnswer.{AxisAnswer}

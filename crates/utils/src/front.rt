@@ -10,12 +10,12 @@ ghost use Rattle.utils.specs.Calls.{axisReadingFault, directedFault, low
 ghost use Rattle.utils.specs.Calls.{locationFraction, lentFault, toleranceOf, spacingFault};
 use crate::Tolerance;
 use answer::Fault;
-use axis::AxisLocation;
 use checks::counts;
 use checks::lent;
 use checks::nodes;
 use checks::numbers;
 use checks::spacing;
+use rust::AxisLocation;
 
 // A fault that was found, else 10.
 fn reading_after(fault: Fault, point: f64) -> Fault

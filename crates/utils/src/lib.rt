@@ -2,18 +2,18 @@
 // Each is total, with its checks in front (front.rt), and answers as specs/Calls.antt says.
 ghost use mathlib.Core.Path.{_≡_};
 ghost use Rattle.answer.specs.Answer.{fine, refused};
-ghost use Rattle.axis.specs.declared.AxisLocation.the-variants.{Exact};
+ghost use Rattle.rust.specs.declared.AxisLocation.the-variants.{Exact};
 ghost use Rattle.axis.specs.Cells.{lowerIndex};
 ghost use Rattle.utils.specs.Calls.{Readable, locateLowerIndex, exactIndex, locateAxis, locateStepIndex};
 ghost use Rattle.utils.specs.Calls.{locateLowerIndexUniform, validateUniformGrid, validateUniformGridEpsilon};
 use answer::Answer;
 use answer::Fault;
-use axis::AxisLocation;
 use axis::exact;
-use axis::exact::MaybeIndex;
 use axis::locate;
 use axis::picks;
 use axis::uniform;
+use rust::AxisLocation;
+use rust::MaybeIndex;
 
 // the checks of the primitives, in their orders
 mod front;

@@ -8,7 +8,7 @@ use lib.ListN.{length}
 use lib.Ieee.{Float, nan, inf, fin, eq}
 use Rattle.checks.specs.Nodes.{node}
 use Rattle.axis.specs.Exact.{exactNode}
-use Rattle.axis.specs.declared.exact.MaybeIndex.the-variants.{Some, None}
+use Rattle.rust.specs.declared.MaybeIndex.the-variants.{Some, None}
 
 -- ---- the node of a cell that equals the reading
 module _ (nodes : List Float) (lower : ℕ) (p : Float) where

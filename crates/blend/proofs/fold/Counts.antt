@@ -5,10 +5,10 @@ use Prim.Native.Nat.{ℕ, _+_, _-_, _^_, _≤_, _<_}
 use native.Mathlib.Omega.{arith}
 use lib.ListN.{length, take, drop, getD, length-drop, length-take}
 use Rattle.layout.proofs.Totals.{ahead, past}
-use Rattle.blend.specs.Rust.{diffs}
+use Rattle.rust.specs.Strategies.{diffs}
 use Rattle.blend.specs.Corners.{moreCorners}
-use Rattle.axis.specs.declared.AxisLocation.{AxisLocation}
-use Rattle.axis.specs.declared.AxisLocation.the-variants.{Exact}
+use Rattle.rust.specs.declared.AxisLocation.{AxisLocation}
+use Rattle.rust.specs.declared.AxisLocation.the-variants.{Exact}
 use Rattle.blend.proofs.Counts.{more-power, few-corners}
 
 left-few : (ls : List AxisLocation) (n d : ℕ) → n ≤ 4 → length (drop d (take n ls)) ≤ 4

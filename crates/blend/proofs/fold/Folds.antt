@@ -11,9 +11,9 @@ use Rattle.layout.specs.Layout.{tabulate}
 use Rattle.layout.proofs.Layouts.{length-tabulate, tabulate-step}
 use Rattle.layout.proofs.Totals.{ahead, past}
 use Rattle.blend.specs.Blend.{blended}
-use Rattle.blend.specs.Rust.{diffs, passed, butterfly}
-use Rattle.axis.specs.declared.AxisLocation.{AxisLocation}
-use Rattle.axis.specs.declared.AxisLocation.the-variants.{Exact, Between}
+use Rattle.rust.specs.Strategies.{diffs, passed, butterfly}
+use Rattle.rust.specs.declared.AxisLocation.{AxisLocation}
+use Rattle.rust.specs.declared.AxisLocation.the-variants.{Exact, Between}
 use Rattle.blend.proofs.Bits.{power-suc, butterfly-same}
 use Rattle.blend.specs.Folds.{passedOver, merged, halfOf, grown}
 
@@ -41,7 +41,7 @@ pass-step f half i vals v b l e q =
     ∙ tabulate-step i (blendAt f half vals) vals l
 
 pub pass-done : (f : Float) (half i : ℕ) (vals v : List Float) → i ≡ half → v ≡ tabulate i (blendAt f half vals) ++ drop i vals → v ≡ passedOver f half vals
-unfolding passed
+unfolding passed blended
 pass-done f half i vals v e q = q ∙ ap (λ (k : ℕ). tabulate k (blendAt f half vals) ++ drop k vals) e
 
 pub front : (fs xs ys : List Float) → 2 ^ length fs ≤ length xs → butterfly fs (xs ++ ys) ≡ butterfly fs xs
@@ -62,7 +62,7 @@ pub record Folding (ps : List AxisLocation) (r : Float) (v : List Float) (h : �
   pub same : butterfly (diffs ps) v ≡ r
 
 pub fold-step : (p : AxisLocation) (ps : List AxisLocation) (r : Float) (v w : List Float) (h m : ℕ) → Folding (p ∷ ps) r v h → m ≡ halfOf p h → w ≡ merged p m v → Folding ps r w m
-unfolding butterfly passed
+unfolding butterfly passed blended
 fold-step (Exact node) ps r v w h m z a b = record { counted = a ∙ z .counted; same = ap (butterfly (diffs ps)) b ∙ z .same }
 fold-step (Between l f) ps r v w h m z a b =
     let e : m ≡ 2 ^ length (diffs ps) = a ∙ half-power (Between l f) ps h (z .counted) in

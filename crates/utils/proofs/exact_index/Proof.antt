@@ -1,6 +1,6 @@
 use mathlib.Core.Path.{ap}
 use Rattle.answer.specs.declared.Answer.{Answer}
-use Rattle.axis.specs.declared.exact.MaybeIndex.the-variants.{None}
+use Rattle.rust.specs.declared.MaybeIndex.the-variants.{None}
 use Rattle.utils.proofs.Primitives.{with-node, stops, goes-on}
 use Rattle.utils.specs.Calls.{exactAnswer, exactIndex}
 use borrow.Author.Needs.{needs}

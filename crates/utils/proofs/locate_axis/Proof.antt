@@ -1,7 +1,7 @@
 use mathlib.Core.Path.{ap}
 use Rattle.answer.proofs.Orders.{or-stops}
 use Rattle.answer.specs.declared.Answer.{Answer}
-use Rattle.axis.specs.declared.AxisLocation.the-variants.{Exact}
+use Rattle.rust.specs.declared.AxisLocation.the-variants.{Exact}
 use Rattle.utils.proofs.Primitives.{with-location, stops, goes-on, located, located-fault}
 use Rattle.utils.specs.Calls.{locateFault, axisAnswer, locateAxis}
 use borrow.Author.Needs.{needs}

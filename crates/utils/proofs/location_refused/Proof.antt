@@ -1,6 +1,6 @@
 use mathlib.Core.Path.{ap}
 use Rattle.answer.specs.declared.Answer.{Answer}
-use Rattle.axis.specs.declared.AxisLocation.the-variants.{Exact}
+use Rattle.rust.specs.declared.AxisLocation.the-variants.{Exact}
 use Rattle.utils.proofs.Primitives.{with-location}
 use borrow.Author.Needs.{needs}
 use Rattle.utils.proofs.location_refused.Statement.{statement}

@@ -4,9 +4,9 @@ use Prim.Native.Nat.{_+_, _-_, _≤_}
 use native.Mathlib.Omega.{arith}
 use lib.ListN.{length, take, drop, getD}
 use Rattle.layout.proofs.Totals.{counts-least}
-use Rattle.blend.specs.Rust.{diffs, butterfly}
-use Rattle.axis.specs.declared.AxisLocation.{AxisLocation}
-use Rattle.axis.specs.declared.AxisLocation.the-variants.{Exact}
+use Rattle.rust.specs.Strategies.{diffs, butterfly}
+use Rattle.rust.specs.declared.AxisLocation.{AxisLocation}
+use Rattle.rust.specs.declared.AxisLocation.the-variants.{Exact}
 use Rattle.blend.proofs.fold.Counts.{count-few}
 use Rattle.blend.proofs.fold.Folds.{Folding, fold-step, fold-fits, fold-at, fold-done}
 use borrow.Author.Needs.{needs}

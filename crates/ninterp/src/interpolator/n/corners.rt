@@ -11,10 +11,10 @@ ghost use Rattle.ninterp.specs.Linears.{interpolated};
 ghost use Rattle.ninterp.specs.Kernels.{Cornered, Placeable, Blank, Placed, Spreadable, Spread, Gatherable, Gathered};
 use crate::interpolator::n::locations;
 use answer::Answer;
-use axis::AxisLocation;
 use axis::locate;
 use blend::fold;
 use layout::Shape;
+use rust::AxisLocation;
 
 // The node of an exact axis, the upper one of any other.
 fn upper_node(location: AxisLocation) -> usize

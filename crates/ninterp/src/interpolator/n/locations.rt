@@ -1,9 +1,9 @@
 // Where a reading lies on each axis, for the two linears: by Linear's rule or by LinearUniform's.
 ghost use Rattle.axis.specs.Locations.{locationBy};
 ghost use Rattle.ninterp.specs.Kernels.{Readable, Located};
-use axis::AxisLocation;
 use axis::locate;
 use layout::Shape;
+use rust::AxisLocation;
 
 // The location on each axis, in axis order.
 pub(crate) fn all(uniform: bool, shape: Shape, nodes: &[f64], point: &[f64]) -> [AxisLocation; 4]

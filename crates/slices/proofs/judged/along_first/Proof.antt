@@ -8,7 +8,7 @@ use denote.Ref.{now}
 use Rattle.checks.specs.Passed.{Axis}
 use Rattle.layout.specs.Shape.{total}
 use Rattle.layout.specs.Layout.{axisOf}
-use Rattle.axis.specs.declared.AxisLocation.{AxisLocation}
+use Rattle.rust.specs.declared.AxisLocation.{AxisLocation}
 use Rattle.axis.specs.Locations.{locationBy, upperOf}
 use Rattle.axis.proofs.Located.{location-fits, location-found}
 use Rattle.slices.proofs.Slices.{some-at, axis-ends, axis-lies, part-axis, part-index}

@@ -10,10 +10,10 @@ use Rattle.layout.specs.Shape.{size}
 use Rattle.layout.proofs.Totals.{length-ids}
 use Rattle.layout.specs.Layout.{table}
 use Rattle.blend.specs.Blend.{computed}
-use Rattle.blend.specs.Rust.{diffs}
+use Rattle.rust.specs.Strategies.{diffs}
 use Rattle.blend.specs.Corners.{cornerAt}
-use Rattle.axis.specs.declared.AxisLocation.{AxisLocation}
-use Rattle.axis.specs.declared.AxisLocation.the-variants.{Exact}
+use Rattle.rust.specs.declared.AxisLocation.{AxisLocation}
+use Rattle.rust.specs.declared.AxisLocation.the-variants.{Exact}
 use Rattle.blend.proofs.Counts.{few-diffs}
 use Rattle.axis.specs.Locations.{locationIndex, upperOf}
 use Rattle.ninterp.proofs.Corners.{corner-under, at-node, folded}

@@ -3,7 +3,7 @@ use lib.Seq.{length-take-le}
 use Rattle.layout.specs.Layout.{axesOf, tabulate}
 use Rattle.layout.proofs.Totals.{length-ids}
 use Rattle.layout.proofs.Walks.{length-axes, Walk}
-use Rattle.axis.specs.declared.AxisLocation.the-variants.{Exact}
+use Rattle.rust.specs.declared.AxisLocation.the-variants.{Exact}
 use Rattle.ninterp.specs.Linears.{locations}
 use Rattle.axis.specs.Locations.{locationBy}
 use Rattle.ninterp.specs.Locations.{Within}

@@ -1,0 +1,2 @@
+pub mod Utils
+pub mod Strategies

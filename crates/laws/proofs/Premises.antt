@@ -43,7 +43,7 @@ then-number f a h = go (good f) refl
 
 -- ---- an accepted table
 module _ (t : Table) where
-  counted : axes t ≤ 4 → length (counts t) ≡ axes t
+  pub counted : axes t ≤ 4 → length (counts t) ≡ axes t
   counted h = length-take-le (axes t) (t .shape .counts) (omega (arith, h, t .four))
 
   pub axis-good : Accepted t → (a : ℕ) → a < axes t → Axis (axis t a)

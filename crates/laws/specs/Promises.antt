@@ -9,19 +9,17 @@ use lib.Dec.{T}
 use lib.ListN.{length, take, drop, getD}
 use lib.Ieee.{Float, nan, binary64, lt, le, eq, fits}
 use lib.Ieee.Scale.{finite}
-use Rattle.answer.specs.Faults.{good, refusal, filledInto}
+use Rattle.answer.specs.Faults.{refusal, filledInto}
 use Rattle.answer.specs.Answer.{plusZero, refused, answered, fine}
 use Rattle.answer.specs.declared.Answer.{Answer}
 use Rattle.layout.specs.Shape.{countsOf, size, total, noShape}
 use Rattle.layout.specs.Layout.{axesOf, axisOf, table, tabulate, insert, without, nodesWithout}
 use Rattle.layout.specs.declared.Shape.{Shape}
 use Rattle.checks.specs.Nodes.{node, gap}
-use Rattle.checks.specs.Numbers.{axesUniformFault}
-use Rattle.axis.specs.Locations.{axisLocation, uniformLocation}
-use Rattle.axis.specs.Picks.{nearestRule, stepRule}
-use Rattle.blend.specs.Rust.{rustLinear}
-use Rattle.ninterp.specs.Tables.{indices, nearestAnswer, stepAnswer}
-use Rattle.ninterp.specs.Linears.{locations, linearAnswer, linearUniformAnswer}
+use Rattle.rust.specs.Utils.{ok}
+use Rattle.rust.specs.Strategies.{linearText, linearUniformText, nearestText, stepText, validateLinearUniform}
+use Rattle.ninterp.specs.Tables.{nearestAnswer, stepAnswer}
+use Rattle.ninterp.specs.Linears.{linearAnswer, linearUniformAnswer}
 use Rattle.ninterp.specs.Records.{recordSize, recordAnswer}
 use Rattle.slices.specs.Slices.{shapeWithout, nearestSlice, nearestSliced, stepSlice, stepSliced}
 use Rattle.slices.specs.LinearSlices.{linearSlice, linearSliced, linearUniformSlice, linearUniformSliced}
@@ -84,13 +82,13 @@ pub record InRange (t : Table) (ps : Floats) : Type 0 where
   pub lent : length (ps .list) ≡ axes t
   pub each : (a : ℕ) → a < axes t → Within t a (getD (ps .list) a nan)
 
--- a direction for each axis, 0 lower or 1 upper; every axis uniform, so that 8 is not given
+-- a direction for each axis, 0 lower or 1 upper; every axis uniform, as the Rust's own check has it
 pub record Directed (t : Table) (ds : List ℕ) : Type 0 where
   pub lent : length ds ≡ axes t
   pub two : (a : ℕ) → a < axes t → getD ds a 0 < 2
 
 abbrev pub Uniform : Table → Type 0
-Uniform t = good (axesUniformFault (counts t) (t .nodes .list)) ≡ true
+Uniform t = validateLinearUniform (axesOf (counts t) (t .nodes .list)) ≡ ok
 
 -- ==== The calls, by their contracts: what each answers, and with it what it leaves of what it is lent to write
 abbrev pub Lookup : Type 0
@@ -199,21 +197,33 @@ WriteKeeps = (t : Table) (out : List ℕ) → Tells (write t out .0 .answer) × 
 
 -- ==== Demand 2
 
--- "On each accepted table, for finite readings in range, Linear, .. Nearest and Step give the Rust's bits in N dimensions": these three always
-abbrev pub LinearGives : Type 0
-LinearGives = (t : Table) (ps : Floats) → Accepted t → InRange t ps → linear t ps ≡ answered (rustLinear (locations axisLocation (axesOf (counts t) (t .nodes .list)) (ps .list)) (stored t))
+-- the Rust's strategies, lent the same table: its values' shape and elements, its grid, and the point
+abbrev pub rustOf : (List ℕ → (List ℕ → Float) → List (List Float) → List Float → Float) → Table → Floats → Float
+rustOf text t ps = text (counts t) (stored t) (axesOf (counts t) (t .nodes .list)) (ps .list)
 
--- ".. or refusal 12 exactly where those bits are not finite"
-abbrev pub LinearUniformGives : Type 0
-LinearUniformGives = (t : Table) (ps : Floats) → Accepted t → Uniform t → InRange t ps
-    → (finite (rustLinear (locations uniformLocation (axesOf (counts t) (t .nodes .list)) (ps .list)) (stored t)) ≡ true → linearUniform t ps ≡ answered (rustLinear (locations uniformLocation (axesOf (counts t) (t .nodes .list)) (ps .list)) (stored t)))
-    × (finite (rustLinear (locations uniformLocation (axesOf (counts t) (t .nodes .list)) (ps .list)) (stored t)) ≡ false → linearUniform t ps ≡ refused (refusal 12 0 0))
+-- "On each accepted table, for finite readings in range, Linear, .. Nearest and Step give the Rust's bits in N dimensions": these three always, so they are finite
+abbrev pub LinearGives : Type 0
+LinearGives = (t : Table) (ps : Floats) → Accepted t → InRange t ps → (linear t ps ≡ answered (rustOf linearText t ps)) × (finite (rustOf linearText t ps) ≡ true)
 
 abbrev pub NearestGives : Type 0
-NearestGives = (t : Table) (ps : Floats) → Accepted t → InRange t ps → nearest t ps ≡ answered (stored t (indices nearestRule (axesOf (counts t) (t .nodes .list)) (ps .list)))
+NearestGives = (t : Table) (ps : Floats) → Accepted t → InRange t ps → nearest t ps ≡ answered (rustOf nearestText t ps)
 
 abbrev pub StepGives : Type 0
-StepGives = (t : Table) (ps : Floats) (ds : List ℕ) → Accepted t → InRange t ps → Directed t ds → step ds t ps ≡ answered (stored t (indices (stepRule ds) (axesOf (counts t) (t .nodes .list)) (ps .list)))
+StepGives = (t : Table) (ps : Floats) (ds : List ℕ) → Accepted t → InRange t ps → Directed t ds → step ds t ps ≡ answered (rustOf (stepText ds) t ps)
+
+-- LinearUniform ".. or refusal 12 exactly where those bits are not finite", which does happen
+abbrev pub LinearUniformGives : Type 0
+LinearUniformGives = (t : Table) (ps : Floats) → Accepted t → Uniform t → InRange t ps
+    → (finite (rustOf linearUniformText t ps) ≡ true → linearUniform t ps ≡ answered (rustOf linearUniformText t ps))
+    × (finite (rustOf linearUniformText t ps) ≡ false → linearUniform t ps ≡ refused (refusal 12 0 0))
+
+pub record LinearUniformOverflows : Type 0 where
+  pub t : Table
+  pub ps : Floats
+  pub accepted : Accepted t
+  pub uniform : Uniform t
+  pub in-range : InRange t ps
+  pub refusal-12 : linearUniform t ps ≡ refused (refusal 12 0 0)
 
 -- "An image written and loaded gives the table back.": a write, then a load of the first bytes of its output; counts past the axes come back as zeros
 abbrev pub ImageReturns : Type 0

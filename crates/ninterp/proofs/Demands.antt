@@ -88,9 +88,9 @@ module _ (s : Shape) (nodes values readings : List Float) (t : Accepted s nodes 
       (orders.both-passed (valuesFault values) (readingsFault readings or rangesFault (countsOf s) nodes readings) (t .stored) point-good)))
 
   -- ---- demand 2 for Nearest: the stored value at the nearest node of each axis, and never a refusal
-  pub nearest-demand : nearestAnswer s nodes values readings ≡ answered (table (countsOf s) values (indices nearestRule (axesOf (countsOf s) nodes) readings))
-  unfolding nearestAnswer picked
-  nearest-demand = then-good (lookupFault s nodes values readings) (answered (table (countsOf s) values (indices nearestRule (axesOf (countsOf s) nodes) readings))) lookup-passed
+  pub nearest-demand : nearestAnswer s nodes values readings ≡ answered (picked nearestRule (countsOf s) nodes values readings)
+  unfolding nearestAnswer
+  nearest-demand = then-good (lookupFault s nodes values readings) (answered (picked nearestRule (countsOf s) nodes values readings)) lookup-passed
 
   same-indices : (rule other : ℕ → List Float → Float → ℕ) → ((a : ℕ) → a < s .axes → rule a (axisOf s nodes a) (getD readings a nan) ≡ other a (axisOf s nodes a) (getD readings a nan))
       → indices rule (axesOf (countsOf s) nodes) readings ≡ indices other (axesOf (countsOf s) nodes) readings
@@ -120,17 +120,16 @@ module _ (s : Shape) (nodes values readings : List Float) (t : Accepted s nodes 
         (orders.both-passed (valuesFault values) (directionsFault directions or readingsFault readings or rangesFault (countsOf s) nodes readings) (t .stored)
         (orders.both-passed (directionsFault directions) (readingsFault readings or rangesFault (countsOf s) nodes readings) directions-good point-good)))))
 
-    -- ---- demand 2 for Step: the stored value at the index that the Rust's expression gives on each axis, and never a refusal
-    pub step-demand : stepAnswer s nodes values readings directions ≡ answered (table (countsOf s) values (indices (λ a xs p. rustStep (getD directions a 0) xs p) (axesOf (countsOf s) nodes) readings))
-    unfolding stepAnswer picked
-    step-demand =
-        then-good (stepFault s nodes values readings directions) (answered (table (countsOf s) values (indices (stepRule directions) (axesOf (countsOf s) nodes) readings))) step-passed
-        ∙ ap (λ is. answered (table (countsOf s) values is)) (same-indices (stepRule directions) (λ a xs p. rustStep (getD directions a 0) xs p) (λ a l. step-rust (axisOf s nodes a) (getD readings a nan) (axis-at a l) (r .finites a l) (getD directions a 0)))
+    -- ---- demand 2 for Step: the stored value at the step index of each axis, and never a refusal
+    pub step-demand : stepAnswer s nodes values readings directions ≡ answered (picked (stepRule directions) (countsOf s) nodes values readings)
+    unfolding stepAnswer
+    step-demand = then-good (stepFault s nodes values readings directions) (answered (picked (stepRule directions) (countsOf s) nodes values readings)) step-passed
 
   -- ---- where every reading is a node, the stored bits of that node
   module _ (held : (a : ℕ) → Held (axisOf s nodes a)) (read : (a : ℕ) → T (fits binary64 (getD readings a nan))) (at : ℕ → ℕ)
       (within : (a : ℕ) → a < s .axes → at a < length (axisOf s nodes a)) (on : (a : ℕ) → a < s .axes → eq (node (axisOf s nodes a) (at a)) (getD readings a nan) ≡ true) where
     pub nearest-stored : nearestAnswer s nodes values readings ≡ answered (table (countsOf s) values (indices (λ a xs p. at a) (axesOf (countsOf s) nodes) readings))
+    unfolding picked
     nearest-stored =
         nearest-demand
         ∙ ap (λ is. answered (table (countsOf s) values is))
@@ -138,8 +137,8 @@ module _ (s : Shape) (nodes values readings : List Float) (t : Accepted s nodes 
 
     pub step-stored : (directions : List ℕ) → length directions ≡ s .axes → ((a : ℕ) → a < s .axes → getD directions a 0 < 2)
         → stepAnswer s nodes values readings directions ≡ answered (table (countsOf s) values (indices (λ a xs p. at a) (axesOf (countsOf s) nodes) readings))
-    unfolding stepAnswer picked
+    unfolding picked
     step-stored directions lent two =
-        then-good (stepFault s nodes values readings directions) (answered (table (countsOf s) values (indices (stepRule directions) (axesOf (countsOf s) nodes) readings))) (step-passed directions lent two)
+        step-demand directions lent two
         ∙ ap (λ is. answered (table (countsOf s) values is))
         (same-indices (stepRule directions) (λ a xs p. at a) (λ a l. step-on-node (axisOf s nodes a) (getD readings a nan) (axis-at a l) (r .finites a l) (held a) (read a) (at a) (within a l) (on a l) (getD directions a 0)))

@@ -1,34 +1,33 @@
 -- The Rust's text of strategy/utils.rs is the paper's rules: on a good axis and a finite reading where it searches, for every input where it does not. Assumes nothing.
-use mathlib.Core.Path.{_≡_, refl, sym, ap, ap₂, _∙_}
+use mathlib.Core.Path.{_≡_, refl, sym, ap, ap₂, _∙_, subst}
 use mathlib.Core.Bool.{Bool, true, false, _&&_, cond}
-use mathlib.Core.List.{List}
+use mathlib.Core.List.{List, [], _∷_}
 use Prim.Native.Nat.{ℕ, zero, suc, _+_, _-_, _*_, _/_, _^_, _≤_, _<_, min}
-use native.Mathlib.Nat.{mul-one, div-eq-of-lt, div-lt-iff-lt-mul}
+use native.Mathlib.Nat.{add-zero, mul-one, div-eq-of-lt, div-lt-iff-lt-mul}
 use native.Mathlib.Omega.{arith}
-use borrow.Author.Tests.{ltb-true, ltb-false, lt-ltb, le-ltb}
+use borrow.Author.Tests.{ltb-true, ltb-false, lt-ltb}
 use lib.Dec.{ltb, eqb}
 use lib.IntN.{pos, negsuc}
 use lib.Pow.{pow-pos}
-use lib.ListN.{length}
+use lib.ListN.{length, getD}
 use lib.Ieee.{Float, nan, inf, fin, Format, prec, emax, low, binary64, lt, le, sub, add, mul, div, odd, units, round, toUnsigned}
 use lib.Ieee.Scale.{finite}
 use lib.Ieee.Positive.{den}
 use Rattle.answer.specs.Faults.{good, noFault, refusal, when, _or_, firstOf}
 use Rattle.answer.specs.Answer.{plusZero}
 use Rattle.answer.specs.declared.Fault.{Fault}
-use Rattle.answer.proofs.Orders.{clash, good-no-fault, bad-refused, or-good, or-bad}
+use Rattle.answer.proofs.Orders.{clash, good-no-fault, bad-refused, or-good, or-bad, or-no-fault}
 use Rattle.binary64.proofs.Order as order
 use Rattle.binary64.proofs.Difference.{sub-is}
 use Rattle.checks.specs.Nodes.{node, gap}
 use Rattle.checks.specs.Numbers.{apart, gapFault, uniformFault, defaultTolerance, defaultFault}
 use Rattle.checks.specs.Passed.{Axis}
 use Rattle.rust.specs.Utils.{at, fracOf, bisected, lowerOf, locateLowerIndex, exactIndex, matched, locateAxis, lowerBy, upperBy, locateStepIndex, floor, toUsize, unwrapOr, cellOf, locateLowerIndexUniform}
-use Rattle.rust.specs.Utils.{spacingAt, diffOf, validateFrom, validateUniformGrid, doubled, abs, epsilon, epsilonTolerance, validateUniformGridEpsilon}
-use Rattle.rust.specs.Strategies.{nearestAt, uniformLower, uniformDiff}
+use Rattle.rust.specs.Utils.{Validated, ok, nonUniform, spacingAt, diffOf, gapsFrom, validateUniformGrid, doubled, abs, epsilon, toleranceOf, validateUniformGridEpsilon}
+use Rattle.rust.specs.Strategies.{nearestAt, uniformLower, uniformDiff, orElse, validateFrom, validateLinearUniform}
 use Rattle.rust.specs.declared.MaybeIndex.{MaybeIndex}
 use Rattle.rust.specs.declared.MaybeIndex.the-variants.{Some, None}
-use Rattle.rust.specs.declared.AxisLocation.{AxisLocation}
-use Rattle.rust.specs.declared.AxisLocation.the-variants.{Exact, Between}
+use Rattle.rust.specs.declared.AxisLocation.the-variants.{Between}
 use Rattle.axis.specs.Cells.{lowerIndex}
 use Rattle.axis.specs.Exact.{exactNode}
 use Rattle.axis.specs.Locations.{fraction, exactOr, axisLocation, uniformLocation}
@@ -197,24 +196,24 @@ pub uniform-axis-text : (xs : List Float) (p : Float) → Between (uniformLower 
 unfolding uniformLocation gap
 uniform-axis-text xs p = ap (λ (l : ℕ). Between l (div binary64 (sub binary64 p (at xs l)) (spacingAt xs 0))) (uniform-index-text (node xs 0) (spacingAt xs 0) (length xs) p)
 
--- ---- validate_uniform_grid: its error is row 8 of the axis
-abbrev pub uniformRow : ℕ → MaybeIndex → Fault
-uniformRow axis (Some i) = refusal 8 axis i
-uniformRow axis None = noFault
+-- ---- validate_uniform_grid: its error is row 8 of the axis, with the place
+abbrev pub uniformRow : Validated → Fault
+uniformRow ok = noFault
+uniformRow (nonUniform dim index) = refusal 8 dim index
 
-validate-from : (axis : ℕ) (xs : List Float) (tolerance : Float) (i turns : ℕ) → firstOf (gapFault axis xs tolerance) i turns ≡ uniformRow axis (validateFrom xs (spacingAt xs 0) tolerance i turns)
-unfolding firstOf validateFrom gapFault apart gap when
-validate-from axis xs tolerance i zero = refl
-validate-from axis xs tolerance i (suc turns) = go (lt tolerance (diffOf (spacingAt xs i) (spacingAt xs 0))) (validate-from axis xs tolerance (suc i) turns)
+gaps-from : (dim : ℕ) (xs : List Float) (tolerance : Float) (i turns : ℕ) → firstOf (gapFault dim xs tolerance) i turns ≡ uniformRow (gapsFrom xs dim tolerance i turns)
+unfolding firstOf gapsFrom gapFault apart gap when
+gaps-from dim xs tolerance i zero = refl
+gaps-from dim xs tolerance i (suc turns) = go (lt tolerance (diffOf (spacingAt xs i) (spacingAt xs 0))) (gaps-from dim xs tolerance (suc i) turns)
   where
-    go : (b : Bool) → firstOf (gapFault axis xs tolerance) (suc i) turns ≡ uniformRow axis (validateFrom xs (spacingAt xs 0) tolerance (suc i) turns)
-        → (cond b (refusal 8 axis i) noFault or firstOf (gapFault axis xs tolerance) (suc i) turns) ≡ uniformRow axis (cond b (Some i) (validateFrom xs (spacingAt xs 0) tolerance (suc i) turns))
-    go true e = or-bad (refusal 8 axis i) (firstOf (gapFault axis xs tolerance) (suc i) turns) (bad-refused 7 axis i)
-    go false e = or-good noFault (firstOf (gapFault axis xs tolerance) (suc i) turns) good-no-fault ∙ e
+    go : (b : Bool) → firstOf (gapFault dim xs tolerance) (suc i) turns ≡ uniformRow (gapsFrom xs dim tolerance (suc i) turns)
+        → (cond b (refusal 8 dim i) noFault or firstOf (gapFault dim xs tolerance) (suc i) turns) ≡ uniformRow (cond b (nonUniform dim i) (gapsFrom xs dim tolerance (suc i) turns))
+    go true e = or-bad (refusal 8 dim i) (firstOf (gapFault dim xs tolerance) (suc i) turns) (bad-refused 7 dim i)
+    go false e = or-good noFault (firstOf (gapFault dim xs tolerance) (suc i) turns) good-no-fault ∙ e
 
-pub validate-text : (axis : ℕ) (xs : List Float) (tolerance : Float) → uniformFault axis xs tolerance ≡ uniformRow axis (validateUniformGrid xs tolerance)
+pub validate-text : (dim : ℕ) (xs : List Float) (tolerance : Float) → uniformFault dim xs tolerance ≡ uniformRow (validateUniformGrid xs dim tolerance)
 unfolding uniformFault validateUniformGrid
-validate-text axis xs tolerance = ap (firstOf (gapFault axis xs tolerance) 1) same ∙ validate-from axis xs tolerance 1 (length xs - 1 - 1)
+validate-text dim xs tolerance = ap (firstOf (gapFault dim xs tolerance) 1) same ∙ gaps-from dim xs tolerance 1 (length xs - 1 - 1)
   where
     same : length xs - 2 ≡ length xs - 1 - 1
     same = omega arith
@@ -245,8 +244,8 @@ abs-round : (f : Format) (a c : ℕ) → abs (round f false a c) ≡ round f fal
 unfolding round
 abs-round f a c = abs-units f _ _
 
-pub tolerance-text : (xs : List Float) → Axis xs → epsilonTolerance xs ≡ defaultTolerance xs
-unfolding epsilonTolerance defaultTolerance gap
+pub tolerance-text : (xs : List Float) → Axis xs → toleranceOf xs ≡ defaultTolerance xs
+unfolding toleranceOf defaultTolerance gap
 tolerance-text xs ax = ap₂ (mul binary64) own ten-doublings
   where
     enough : 2 ≤ length xs
@@ -258,21 +257,49 @@ tolerance-text xs ax = ap₂ (mul binary64) own ten-doublings
     own : abs (spacingAt xs 0) ≡ spacingAt xs 0
     own = ap abs rounded ∙ abs-round binary64 _ _ ∙ sym rounded
 
--- with the default tolerance: none exactly where the axis passes row 8, and the place that row answers
-pub epsilon-text : (axis : ℕ) (xs : List Float) → Axis xs → defaultFault axis xs ≡ uniformRow axis (validateUniformGridEpsilon xs)
-epsilon-text axis xs ax = validate-text axis xs (defaultTolerance xs) ∙ ap (λ (t : Float). uniformRow axis (validateUniformGrid xs t)) (sym (tolerance-text xs ax))
+pub epsilon-text : (dim : ℕ) (xs : List Float) → Axis xs → defaultFault dim xs ≡ uniformRow (validateUniformGridEpsilon xs dim)
+unfolding validateUniformGridEpsilon
+epsilon-text dim xs ax = validate-text dim xs (defaultTolerance xs) ∙ ap (λ (t : Float). uniformRow (validateUniformGrid xs dim t)) (sym (tolerance-text xs ax))
 
-row-none : (axis : ℕ) (m : MaybeIndex) → good (uniformRow axis m) ≡ true → m ≡ None
-row-none axis (Some i) h = clash (good (refusal 8 axis i)) h (bad-refused 7 axis i)
-row-none axis None h = refl
+-- `Ok(())` exactly where the axis passes row 8, and an error at the place that the row answers
+row-passed : (v : Validated) → good (uniformRow v) ≡ true → v ≡ ok
+row-passed ok h = refl
+row-passed (nonUniform dim index) h = clash (good (refusal 8 dim index)) h (bad-refused 7 dim index)
 
-row-some : (axis i : ℕ) (m : MaybeIndex) → uniformRow axis m ≡ refusal 8 axis i → m ≡ Some i
+row-failed : (dim index : ℕ) (v : Validated) → uniformRow v ≡ refusal 8 dim index → v ≡ nonUniform dim index
 unfolding refusal
-row-some axis i (Some j) h = ap (λ (f : Fault). Some (f .place)) h
-row-some axis i None h = clash (good noFault) good-no-fault (ap good h ∙ bad-refused 7 axis i)
+row-failed dim index ok h = clash (good noFault) good-no-fault (ap good h ∙ bad-refused 7 dim index)
+row-failed dim index (nonUniform d i) h = ap (λ (f : Fault). nonUniform (f .axis) (f .place)) h
 
-pub epsilon-passes : (axis : ℕ) (xs : List Float) → Axis xs → good (defaultFault axis xs) ≡ true → validateUniformGridEpsilon xs ≡ None
-epsilon-passes axis xs ax h = row-none axis (validateUniformGridEpsilon xs) (ap good (sym (epsilon-text axis xs ax)) ∙ h)
+module _ (dim : ℕ) (xs : List Float) (ax : Axis xs) where
+  pub epsilon-passes : good (defaultFault dim xs) ≡ true → validateUniformGridEpsilon xs dim ≡ ok
+  epsilon-passes h = row-passed (validateUniformGridEpsilon xs dim) (ap good (sym (epsilon-text dim xs ax)) ∙ h)
 
-pub epsilon-fails : (axis i : ℕ) (xs : List Float) → Axis xs → defaultFault axis xs ≡ refusal 8 axis i → validateUniformGridEpsilon xs ≡ Some i
-epsilon-fails axis i xs ax h = row-some axis i (validateUniformGridEpsilon xs) (sym (epsilon-text axis xs ax) ∙ h)
+  pub epsilon-passed : validateUniformGridEpsilon xs dim ≡ ok → good (defaultFault dim xs) ≡ true
+  epsilon-passed e = ap good (epsilon-text dim xs ax ∙ ap uniformRow e) ∙ good-no-fault
+
+  pub epsilon-fails : (index : ℕ) → defaultFault dim xs ≡ refusal 8 dim index → validateUniformGridEpsilon xs dim ≡ nonUniform dim index
+  epsilon-fails index h = row-failed dim index (validateUniformGridEpsilon xs dim) (sym (epsilon-text dim xs ax) ∙ h)
+
+-- ---- LinearUniform's validate, over good axes: row 8 for all axes
+join : (a b : Fault) (v w : Validated) → a ≡ uniformRow v → b ≡ uniformRow w → (a or b) ≡ uniformRow (orElse v w)
+join a b ok w e d = ap₂ _or_ e d ∙ or-no-fault (uniformRow w)
+join a b (nonUniform dim index) w e d = ap₂ _or_ e d ∙ or-bad (refusal 8 dim index) (uniformRow w) (bad-refused 7 dim index)
+
+axes-from : (row : ℕ → Fault) (i : ℕ) (xss : List (List Float)) → ((a : ℕ) → a < length xss → Axis (getD xss a [])) → ((a : ℕ) → row (i + a) ≡ defaultFault (i + a) (getD xss a []))
+    → firstOf row i (length xss) ≡ uniformRow (validateFrom i xss)
+unfolding firstOf validateFrom
+axes-from row i [] ax e = refl
+axes-from row i (xs ∷ xss) ax e =
+    join (row i) (firstOf row (suc i) (length xss)) (validateUniformGridEpsilon xs i) (validateFrom (suc i) xss)
+    (subst (λ (k : ℕ). row k ≡ defaultFault k xs) (add-zero i) (e 0) ∙ epsilon-text i xs (ax 0 (omega arith)))
+    (axes-from row (suc i) xss (λ a l. ax (suc a) (omega arith)) (λ a. subst (λ (k : ℕ). row k ≡ defaultFault k (getD xss a [])) (after a) (e (suc a))))
+  where
+    after : (a : ℕ) → i + suc a ≡ suc i + a
+    after a = omega arith
+
+pub validate-axes-text : (xss : List (List Float)) → ((a : ℕ) → a < length xss → Axis (getD xss a [])) → firstOf (λ a. defaultFault a (getD xss a [])) 0 (length xss) ≡ uniformRow (validateLinearUniform xss)
+validate-axes-text xss ax = axes-from (λ a. defaultFault a (getD xss a [])) 0 xss ax (λ a. subst (λ (k : ℕ). defaultFault k (getD xss k []) ≡ defaultFault k (getD xss a [])) (zero-on a) refl)
+  where
+    zero-on : (a : ℕ) → a ≡ 0 + a
+    zero-on a = omega arith

@@ -9,20 +9,14 @@ use lib.Ieee.{Float, nan}
 use Rattle.layout.specs.Layout.{tabulate}
 use Rattle.layout.proofs.Layouts.{getD-tabulate, tabulate-same}
 use Rattle.blend.specs.Blend.{blended, sliced, linear}
-use Rattle.rust.specs.Strategies.{view, lowers, diffs, corner, corners, passed, butterfly, rustLinear}
+use Rattle.rust.specs.Located.{view, lowers, diffs, corner, corners, passed, butterfly, rustLinear}
+use Rattle.rust.proofs.Passes.{power-above, power-suc}
 use Rattle.rust.proofs.Linears.{length-lowers}
 use Rattle.blend.specs.Corners.{cornerAt}
 use Rattle.rust.specs.declared.AxisLocation.{AxisLocation}
 use Rattle.rust.specs.declared.AxisLocation.the-variants.{Exact, Between}
 
 -- ---- powers of two and bits
-pub power-above : (k : ℕ) → 0 < 2 ^ k
-power-above zero = omega arith
-power-above (suc k) = rw pow-suc (omega (arith, power-above k))
-
-pub power-suc : (k : ℕ) → 2 ^ suc k ≡ 2 ^ k + 2 ^ k
-power-suc k = rw pow-suc (omega arith)
-
 power-add : (a j : ℕ) → 2 ^ (a + j) ≡ 2 ^ a * 2 ^ j
 power-add a zero = ap (λ (x : ℕ). 2 ^ x) (add-zero a) ∙ sym (mul-one (2 ^ a))
 power-add a (suc j) = ap (λ (x : ℕ). 2 ^ x) (add-suc a j) ∙ pow-suc 2 (a + j) ∙ ap (λ (x : ℕ). x * 2) (power-add a j) ∙ mul-assoc (2 ^ a) (2 ^ j) 2 ∙ ap (λ (x : ℕ). 2 ^ a * x) (sym (pow-suc 2 j))
@@ -97,12 +91,3 @@ rust-linear ps g =
     (ap (λ (n : ℕ). tabulate n (λ m. view ps g (corner (lowers ps) m))) (ap (λ (k : ℕ). 2 ^ k) (length-lowers ps))
     ∙ tabulate-same (2 ^ length (diffs ps)) _ _ (λ m b. view-corner ps g m))
     ∙ fold-linear ps g
-
--- ---- the butterfly looks at the corners in use alone
-pub butterfly-same : (fs xs ys : List Float) → ((i : ℕ) → i < 2 ^ length fs → getD xs i nan ≡ getD ys i nan) → butterfly fs xs ≡ butterfly fs ys
-unfolding butterfly passed blended
-butterfly-same [] xs ys h = h 0 (omega arith)
-butterfly-same (f ∷ fs) xs ys h =
-    ap (butterfly fs)
-    (tabulate-same (2 ^ length fs) _ _
-    (λ i b. ap₂ (λ (x y : Float). blended x y f) (h i (omega (arith, power-suc (length fs), b))) (h (i + 2 ^ length fs) (omega (arith, power-suc (length fs), b)))))

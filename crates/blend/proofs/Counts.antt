@@ -5,11 +5,11 @@ use Prim.Native.Nat.{ℕ, suc, _+_, _^_, _≤_, min}
 use native.Mathlib.Nat.{pow-le-pow-right}
 use native.Mathlib.Omega.{arith}
 use lib.ListN.{length}
-use Rattle.rust.specs.Strategies.{diffs}
+use Rattle.rust.specs.Located.{diffs}
 use Rattle.blend.specs.Corners.{moreCorners}
 use Rattle.rust.specs.declared.AxisLocation.{AxisLocation}
 use Rattle.rust.specs.declared.AxisLocation.the-variants.{Exact, Between}
-use Rattle.blend.proofs.Bits.{power-suc}
+use Rattle.rust.proofs.Passes.{power-suc}
 
 pub more-power : (p : AxisLocation) (ps : List AxisLocation) (h : ℕ) → h ≡ 2 ^ length (diffs ps) → 2 ^ length (diffs (p ∷ ps)) ≤ 16 → moreCorners p h ≡ 2 ^ length (diffs (p ∷ ps))
 more-power (Exact node) ps h e l = e

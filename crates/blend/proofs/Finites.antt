@@ -13,11 +13,12 @@ use lib.Ieee.Scale.{finite}
 use borrow.Author.Tests.{ltb-true, ltb-false}
 use Rattle.binary64.proofs.Finite.{add-finite, mul-finite}
 use Rattle.blend.specs.Blend.{one, blended, sliced, linear}
-use Rattle.rust.specs.Strategies.{diffs}
+use Rattle.rust.specs.Located.{diffs}
 use Rattle.blend.specs.Corners.{cornerAt}
 use Rattle.rust.specs.declared.AxisLocation.{AxisLocation}
 use Rattle.rust.specs.declared.AxisLocation.the-variants.{Exact, Between}
-use Rattle.blend.proofs.Bits.{power-suc, low-corner, high-corner}
+use Rattle.rust.proofs.Passes.{power-suc}
+use Rattle.blend.proofs.Bits.{low-corner, high-corner}
 
 -- 3, and the number of the format nearest to 0.2
 abbrev pub three : Float

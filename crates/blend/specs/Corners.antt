@@ -3,7 +3,7 @@ use mathlib.Core.List.{List, [], _∷_}
 use Prim.Native.Nat.{ℕ, _+_, _/_, _%_, _^_, min}
 use lib.ListN.{length}
 use Rattle.layout.specs.Layout.{place}
-use Rattle.rust.specs.Strategies.{diffs}
+use Rattle.rust.specs.Located.{diffs}
 use Rattle.rust.specs.declared.AxisLocation.{AxisLocation}
 use Rattle.rust.specs.declared.AxisLocation.the-variants.{Exact, Between}
 

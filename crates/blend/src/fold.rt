@@ -3,7 +3,7 @@ ghost use mathlib.Core.Path.{_≡_};
 ghost use Prim.Native.Nat.{_+_, _^_, _≤_};
 ghost use lib.ListN.{length, take};
 ghost use Rattle.blend.specs.Blend.{computed};
-ghost use Rattle.rust.specs.Strategies.{diffs, butterfly};
+ghost use Rattle.rust.specs.Located.{diffs, butterfly};
 ghost use Rattle.blend.specs.Folds.{passedOver, merged, halfOf, grown};
 use answer::Answer;
 use checks::numbers;

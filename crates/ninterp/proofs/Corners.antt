@@ -16,11 +16,12 @@ use Rattle.layout.specs.Layout.{place, table, tabulate, Inside}
 use Rattle.layout.proofs.Totals.{ahead, past}
 use Rattle.layout.proofs.Layouts.{place-cons, place-none, size-cons, size-nil, place-below, getD-tabulate}
 use Rattle.blend.specs.Blend.{linear}
-use Rattle.rust.specs.Strategies.{diffs, butterfly}
+use Rattle.rust.specs.Located.{diffs, butterfly}
 use Rattle.blend.specs.Corners.{cornerAt, moreCorners, cornerPlace}
 use Rattle.rust.specs.declared.AxisLocation.{AxisLocation}
 use Rattle.rust.specs.declared.AxisLocation.the-variants.{Exact, Between}
-use Rattle.blend.proofs.Bits.{power-suc, low-corner, high-corner, fold-linear, butterfly-same}
+use Rattle.rust.proofs.Passes.{power-suc, butterfly-same}
+use Rattle.blend.proofs.Bits.{low-corner, high-corner, fold-linear}
 use Rattle.blend.proofs.Counts.{few-diffs, few-corners, more-power}
 use Rattle.axis.specs.Locations.{locationIndex, upperOf}
 use Rattle.axis.proofs.Located.{lower-upper}

@@ -15,7 +15,7 @@ use Rattle.checks.specs.Passed.{Grid}
 use Rattle.axis.specs.Locations.{locationIndex, upperOf}
 use Rattle.rust.specs.declared.AxisLocation.{AxisLocation}
 use Rattle.rust.specs.declared.AxisLocation.the-variants.{Exact}
-use Rattle.rust.specs.Strategies.{diffs}
+use Rattle.rust.specs.Located.{diffs}
 use Rattle.ninterp.specs.Tables.{indices}
 use Rattle.ninterp.specs.Linears.{locations}
 use Rattle.ninterp.specs.Kinds.{tableFault}

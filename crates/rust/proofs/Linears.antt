@@ -13,7 +13,9 @@ use Rattle.layout.specs.Shape.{size}
 use Rattle.layout.specs.Layout.{tabulate, insert}
 use Rattle.layout.proofs.Layouts.{size-cons, size-nil, length-tabulate, tabulate-same}
 use Rattle.rust.specs.Utils.{at, fracOf, locateLowerIndex, exactIndex, matched, locateAxis}
-use Rattle.rust.specs.Strategies.{Reduced, removed, reducedAt, reduced, corner, corners, butterfly, blendedFrom, linearText, uniformLower, uniformDiff, zipped, linearUniformText, view, lowers, diffs, rustLinear}
+use Rattle.rust.specs.Strategies.{Reduced, removed, reducedAt, reduced, valsOf, butterflyFrom, blendedFrom, linearText, uniformLower, uniformDiff, zipped, linearUniformText}
+use Rattle.rust.specs.Located.{corner, corners, butterfly, view, lowers, diffs, rustLinear}
+use Rattle.rust.proofs.Passes.{blend-text}
 use Rattle.rust.specs.declared.MaybeIndex.{MaybeIndex}
 use Rattle.rust.specs.declared.MaybeIndex.the-variants.{Some, None}
 use Rattle.rust.specs.declared.AxisLocation.{AxisLocation}
@@ -218,15 +220,16 @@ alone (i ∷ ns) fs g n f = absurd (omega arith)
 
 module _ (ls : List AxisLocation) (g h : List ℕ → Float) (valued : (is : List ℕ) → length is ≡ length (lowers ls) → h is ≡ view ls g is) where
   ended : (cs : List ℕ) → Wide cs → length cs ≡ length (lowers ls)
-      → cond (eqb (size cs) 1) (h (tabulate (length cs) (λ dim. 0))) (butterfly (diffs ls) (corners (lowers ls) h)) ≡ rustLinear ls g
+      → cond (eqb (size cs) 1) (h (tabulate (length cs) (λ dim. 0))) (butterflyFrom (length cs) 0 (diffs ls) (valsOf (length cs) (lowers ls) h)) ≡ rustLinear ls g
   unfolding rustLinear
   ended [] w n =
-      ap (λ (b : Bool). cond b (h []) (butterfly (diffs ls) (corners (lowers ls) h))) (eq-eqb (size []) 1 size-nil)
+      ap (λ (b : Bool). cond b (h []) (butterflyFrom 0 0 (diffs ls) (valsOf 0 (lowers ls) h))) (eq-eqb (size []) 1 size-nil)
       ∙ valued [] n
       ∙ sym (alone (lowers ls) (diffs ls) (view ls g) (sym n) (sym (n ∙ length-lowers ls)))
   ended (c ∷ cs) w n =
-      ap (λ (b : Bool). cond b (h (tabulate (suc (length cs)) (λ dim. 0))) (butterfly (diffs ls) (corners (lowers ls) h)))
+      ap (λ (b : Bool). cond b (h (tabulate (suc (length cs)) (λ dim. 0))) (butterflyFrom (suc (length cs)) 0 (diffs ls) (valsOf (suc (length cs)) (lowers ls) h)))
       (ne-eqb (size (c ∷ cs)) 1 (λ e. omega (arith, e, size-cons c cs, mul-le-mul-right (size cs) (w .0), wide-size cs (w .1))))
+      ∙ blend-text (suc (length cs)) (lowers ls) (diffs ls) h n (n ∙ length-lowers ls)
       ∙ ap (butterfly (diffs ls)) (corners-same (lowers ls) (view ls g) h valued)
 
 -- what the text makes of the axes that are left
@@ -236,7 +239,8 @@ blended-left : (ls : List AxisLocation) (s t : Reduced) → Left ls s t
     → Wide (kept ls (s .shape)) → length (kept ls (s .shape)) ≡ length (lowers ls) → blendedFrom t ≡ rustLinear ls (s .values)
 blended-left ls s t l e d w n =
     ap blendedFrom same
-    ∙ ap₂ (λ (fs : List Float) (ns : List ℕ). cond (eqb (size (kept ls (s .shape))) 1) (t .values (tabulate (length (kept ls (s .shape))) (λ dim. 0))) (butterfly fs (corners ns (t .values)))) d e
+    ∙ ap₂ (λ (fs : List Float) (ns : List ℕ). cond (eqb (size (kept ls (s .shape))) 1) (t .values (tabulate (length (kept ls (s .shape))) (λ dim. 0)))
+    (butterflyFrom (length (kept ls (s .shape))) 0 fs (valsOf (length (kept ls (s .shape))) ns (t .values)))) d e
     ∙ ended ls (s .values) (t .values) (l .valued) (kept ls (s .shape)) w n
   where
     same : t ≡ start (kept ls (s .grid)) (kept ls (s .point)) (kept ls (s .shape)) (t .values)
@@ -251,6 +255,12 @@ unfolding linearText
 linear-located xs ps cs g f =
     blended-left (zipped locateAxis xs ps) (start xs ps cs g) (reduced (length cs) (start xs ps cs g)) (left xs ps cs g f) (lowers-left xs ps cs f) (diffs-left xs ps cs f)
     (wide-kept (zipped locateAxis xs ps) cs (fitting-wide xs ps cs f)) (length-kept xs ps cs f)
+
+-- ---- axis by axis, as lists and by number
+pub zipped-tabulate : {A : Type 0} (push : List Float → Float → A) (xs : List (List Float)) (ps : List Float) → length ps ≡ length xs → zipped push xs ps ≡ tabulate (length xs) (λ a. push (getD xs a []) (at ps a))
+zipped-tabulate push [] ps e = refl
+zipped-tabulate push (x ∷ xs) [] e = absurd (omega arith)
+zipped-tabulate push (x ∷ xs) (p ∷ ps) e = ap (λ r. push x p ∷ r) (zipped-tabulate push xs ps (omega arith))
 
 -- ---- LinearUniform's text, which has no exact axis
 abbrev pub uniformAt : List Float → Float → AxisLocation
@@ -272,17 +282,16 @@ view-all (x ∷ xs) [] g is e = refl
 view-all (x ∷ xs) (p ∷ ps) g [] e = absurd (omega arith)
 view-all (x ∷ xs) (p ∷ ps) g (j ∷ is) e = view-all xs ps (λ js. g (j ∷ js)) is (omega arith)
 
-pub linear-uniform-located : (xs : List (List Float)) (ps : List Float) (g : List ℕ → Float) → linearUniformText g xs ps ≡ rustLinear (zipped uniformAt xs ps) g
+pub linear-uniform-located : (xs : List (List Float)) (ps : List Float) (cs : List ℕ) (g : List ℕ → Float) → length ps ≡ length xs → length cs ≡ length xs
+    → linearUniformText cs g xs ps ≡ rustLinear (zipped uniformAt xs ps) g
 unfolding linearUniformText rustLinear
-linear-uniform-located xs ps g =
-    ap₂ (λ (fs : List Float) (ns : List ℕ). butterfly fs (corners ns g)) (zipped-diffs xs ps) (zipped-lowers xs ps)
+linear-uniform-located xs ps cs g e n =
+    ap₂ (λ (fs : List Float) (ns : List ℕ). butterflyFrom (length cs) 0 fs (valsOf (length cs) ns g)) (zipped-diffs xs ps) (zipped-lowers xs ps)
+    ∙ blend-text (length cs) (lowers (zipped uniformAt xs ps)) (diffs (zipped uniformAt xs ps)) g many (many ∙ length-lowers (zipped uniformAt xs ps))
     ∙ ap (butterfly (diffs (zipped uniformAt xs ps))) (corners-same (lowers (zipped uniformAt xs ps)) (view (zipped uniformAt xs ps) g) g (view-all xs ps g))
-
--- ---- axis by axis, as lists and by number
-pub zipped-tabulate : {A : Type 0} (push : List Float → Float → A) (xs : List (List Float)) (ps : List Float) → length ps ≡ length xs → zipped push xs ps ≡ tabulate (length xs) (λ a. push (getD xs a []) (at ps a))
-zipped-tabulate push [] ps e = refl
-zipped-tabulate push (x ∷ xs) [] e = absurd (omega arith)
-zipped-tabulate push (x ∷ xs) (p ∷ ps) e = ap (λ r. push x p ∷ r) (zipped-tabulate push xs ps (omega arith))
+  where
+    many : length cs ≡ length (lowers (zipped uniformAt xs ps))
+    many = n ∙ sym (length-tabulate (length xs) _) ∙ sym (ap length (zipped-tabulate uniformLower xs ps e)) ∙ ap length (zipped-lowers xs ps)
 
 pub fitting : (xs : List (List Float)) (ps : List Float) (cs : List ℕ) → length xs ≡ length cs → length ps ≡ length cs
     → ((a : ℕ) → a < length cs → 1 ≤ length (getD xs a [])) → ((a : ℕ) → a < length cs → 2 ≤ getD cs a 0) → Fitting xs ps cs

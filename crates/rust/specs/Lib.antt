@@ -1,2 +1,3 @@
 pub mod Utils
 pub mod Strategies
+pub mod Located

@@ -2,17 +2,15 @@
 -- axes, and its values, a shape and a function of the index list.
 use mathlib.Core.Bool.{cond}
 use mathlib.Core.List.{List, [], _∷_}
-use Prim.Native.Nat.{ℕ, zero, suc, _+_, _/_, _%_, _^_}
+use Prim.Native.Nat.{ℕ, zero, suc, _+_, _-_, _/_, _%_, _^_}
 use lib.Dec.{eqb}
-use lib.ListN.{length, getD}
-use lib.Ieee.{Float, nan, binary64, lt, add, sub, mul, div}
+use lib.ListN.{length, getD, set}
+use lib.Ieee.{Float, binary64, lt, add, sub, mul, div}
 use Rattle.layout.specs.Shape.{size}
 use Rattle.layout.specs.Layout.{tabulate, insert, without}
-use Rattle.rust.specs.Utils.{one, at, fracOf, locateLowerIndex, exactIndex, locateStepIndex, locateLowerIndexUniform, spacingAt}
+use Rattle.rust.specs.Utils.{one, at, fracOf, locateLowerIndex, exactIndex, locateStepIndex, locateLowerIndexUniform, spacingAt, Validated, ok, nonUniform, validateUniformGridEpsilon}
 use Rattle.rust.specs.declared.MaybeIndex.{MaybeIndex}
 use Rattle.rust.specs.declared.MaybeIndex.the-variants.{Some, None}
-use Rattle.rust.specs.declared.AxisLocation.{AxisLocation}
-use Rattle.rust.specs.declared.AxisLocation.the-variants.{Exact, Between}
 
 -- ---- Linear: exact axes removed
 -- `point`, `grid` and `values_view`, which has a shape and an element at each index list
@@ -46,23 +44,31 @@ reduced zero s = s
 reduced (suc dim) s = reduced dim (reducedAt dim s)
 
 -- ---- Linear and LinearUniform: corners by bit mask, and the butterfly
--- "Bit (n-1-d) of the mask = 1 selects the upper index in dimension d.", `idx[d] = lower_idxs[d] + ((mask >> (n - 1 - d)) & 1)`: n - 1 - d come after d
-abbrev pub corner : List ℕ → ℕ → List ℕ
-corner [] mask = []
-corner (lower ∷ ls) mask = (lower + mask / 2 ^ length ls % 2) ∷ corner ls mask
+-- "Bit (n-1-d) of the mask = 1 selects the upper index in dimension d.", `for d in 0..n { idx[d] = lower_idxs[d] + ((mask >> (n - 1 - d)) & 1); }`
+abbrev pub idxOf : ℕ → List ℕ → ℕ → List ℕ
+idxOf n lowerIdxs mask = tabulate n (λ d. getD lowerIdxs d 0 + mask / 2 ^ (n - 1 - d) % 2)
 
--- "Fill all 2^n corner values into a flat array indexed by bitmask.", `*val = values_view[idx.as_slice()]`
-unfoldable pub corners : List ℕ → (List ℕ → Float) → List Float
-corners ls g = tabulate (2 ^ length ls) (λ mask. g (corner ls mask))
+-- "Fill all 2^n corner values into a flat array indexed by bitmask.", `let size = 1usize << n;`,
+-- `for (mask, val) in vals.iter_mut().enumerate() { .. *val = values_view[idx.as_slice()]; }`
+unfoldable pub valsOf : ℕ → List ℕ → (List ℕ → Float) → List Float
+valsOf n lowerIdxs values = tabulate (2 ^ n) (λ mask. values (idxOf n lowerIdxs mask))
 
--- `for i in 0..half { vals[i] = vals[i] * (D::Elem::one() - *diff) + vals[i + half] * *diff; }`: the first half, which alone is read again
-unfoldable pub passed : Float → ℕ → List Float → List Float
-passed diff half vals = tabulate half (λ i. add binary64 (mul binary64 (at vals i) (sub binary64 one diff)) (mul binary64 (at vals (i + half)) diff))
+-- `vals[i] * (D::Elem::one() - *diff) + vals[i + half] * *diff`
+abbrev pub reducedBy : Float → ℕ → List Float → ℕ → Float
+reducedBy diff half vals i = add binary64 (mul binary64 (at vals i) (sub binary64 one diff)) (mul binary64 (at vals (i + half)) diff)
 
--- "Butterfly reduction: one pass per dimension.", `let half = 1 << (n - 1 - d);`, at the end `Ok(vals[0])`
-unfoldable pub butterfly : List Float → List Float → Float
-butterfly [] vals = at vals 0
-butterfly (diff ∷ rest) vals = butterfly rest (passed diff (2 ^ length rest) vals)
+-- `for i in 0..half { vals[i] = ..; }`, from i on with so many turns left
+unfoldable pub passedFrom : Float → ℕ → ℕ → ℕ → List Float → List Float
+passedFrom diff half i zero vals = vals
+passedFrom diff half i (suc turns) vals = passedFrom diff half (suc i) turns (set vals i (reducedBy diff half vals i))
+
+-- "Butterfly reduction: one pass per dimension.", `for (d, diff) in interp_diffs.iter().enumerate() { let half = 1 << (n - 1 - d); .. }`, from d on;
+-- then `Ok(vals[0])`
+unfoldable pub butterflyFrom : ℕ → ℕ → List Float → List Float → Float
+butterflyFrom n d [] vals = at vals 0
+butterflyFrom n d (diff ∷ rest) vals =
+    let half = 2 ^ (n - 1 - d) in
+    butterflyFrom n (suc d) rest (passedFrom diff half 0 half vals)
 
 -- ---- Linear
 -- `lower_idxs` and `interp_diffs`, `for dim in 0..n`
@@ -74,18 +80,32 @@ interpDiffs s =
     tabulate (length (s .shape))
     (λ dim. fracOf (getD (s .grid) dim []) (locateLowerIndex (getD (s .grid) dim []) (at (s .point) dim)) (at (s .point) dim))
 
--- `if values_view.len() == 1 { return Ok(values_view.first().copied().unwrap()); }`, else the blend
+-- `if values_view.len() == 1 { return Ok(values_view.first().copied().unwrap()); }`, else the blend, with `n = values_view.ndim();`
 abbrev pub blendedFrom : Reduced → Float
 blendedFrom s =
-    cond (eqb (size (s .shape)) 1) (s .values (tabulate (length (s .shape)) (λ dim. 0)))
-    (butterfly (interpDiffs s) (corners (lowerIdxs s) (s .values)))
+    let n = length (s .shape) in
+    cond (eqb (size (s .shape)) 1) (s .values (tabulate n (λ dim. 0)))
+    (butterflyFrom n 0 (interpDiffs s) (valsOf n (lowerIdxs s) (s .values)))
 
 -- `let mut n = data.values.ndim();`
 unfoldable pub linearText : List ℕ → (List ℕ → Float) → List (List Float) → List Float → Float
 linearText shape values grid point = blendedFrom (reduced (length shape) (record { point = point; grid = grid; shape = shape; values = values }))
 
 -- ---- LinearUniform
--- `let step = grid_dim[1] - grid_dim[0]; let lower_idx = locate_lower_index_uniform(grid_dim[0], step, grid_dim.len(), point_dim);`
+-- `?`: the first error is the answer
+abbrev pub orElse : Validated → Validated → Validated
+orElse ok next = next
+orElse (nonUniform dim index) next = nonUniform dim index
+
+-- its validate: `for (dim, grid) in data.grid.iter().enumerate() { validate_uniform_grid_epsilon(grid.view(), dim, None)?; }`, from dim on
+unfoldable pub validateFrom : ℕ → List (List Float) → Validated
+validateFrom dim [] = ok
+validateFrom dim (grid ∷ rest) = orElse (validateUniformGridEpsilon grid dim) (validateFrom (suc dim) rest)
+
+abbrev pub validateLinearUniform : List (List Float) → Validated
+validateLinearUniform grid = validateFrom 0 grid
+
+-- its interpolate: `let step = grid_dim[1] - grid_dim[0]; let lower_idx = locate_lower_index_uniform(grid_dim[0], step, grid_dim.len(), point_dim);`
 abbrev pub uniformLower : List Float → Float → ℕ
 uniformLower gridDim pointDim = locateLowerIndexUniform (at gridDim 0) (spacingAt gridDim 0) (length gridDim) pointDim
 
@@ -99,9 +119,11 @@ zipped push [] point = []
 zipped push (gridDim ∷ grid) [] = []
 zipped push (gridDim ∷ grid) (pointDim ∷ point) = push gridDim pointDim ∷ zipped push grid point
 
--- "Same bitmask/butterfly reduction as Linear ND"
-unfoldable pub linearUniformText : (List ℕ → Float) → List (List Float) → List Float → Float
-linearUniformText values grid point = butterfly (zipped uniformDiff grid point) (corners (zipped uniformLower grid point) values)
+-- `let n = data.values.ndim();`, "Same bitmask/butterfly reduction as Linear ND"
+unfoldable pub linearUniformText : List ℕ → (List ℕ → Float) → List (List Float) → List Float → Float
+linearUniformText shape values grid point =
+    let n = length shape in
+    butterflyFrom n 0 (zipped uniformDiff grid point) (valsOf n (zipped uniformLower grid point) values)
 
 -- ---- Nearest
 -- `let lower_idx = locate_lower_index(data.grid[dim].view(), &point[dim]);`, then
@@ -119,26 +141,3 @@ nearestText shape values grid point = values (tabulate (length shape) (λ dim. n
 -- `idx[dim] = locate_step_index(self.directions[dim], data.grid[dim].view(), &point[dim]);`
 unfoldable pub stepText : List ℕ → List ℕ → (List ℕ → Float) → List (List Float) → List Float → Float
 stepText directions shape values grid point = values (tabulate (length shape) (λ dim. locateStepIndex (getD directions dim 0) (getD grid dim []) (at point dim)))
-
--- ---- the two linears over the locations of all axes, as the proofs and the code take them
--- the values over the axes that are left
-abbrev pub view : List AxisLocation → (List ℕ → Float) → List ℕ → Float
-view [] g is = g is
-view (Exact pos ∷ ps) g is = view ps (λ js. g (pos ∷ js)) is
-view (Between lower frac ∷ ps) g [] = nan
-view (Between lower frac ∷ ps) g (j ∷ is) = view ps (λ js. g (j ∷ js)) is
-
--- `lower_idxs` and `interp_diffs` of those axes
-abbrev pub lowers : List AxisLocation → List ℕ
-lowers [] = []
-lowers (Exact pos ∷ ps) = lowers ps
-lowers (Between lower frac ∷ ps) = lower ∷ lowers ps
-
-abbrev pub diffs : List AxisLocation → List Float
-diffs [] = []
-diffs (Exact pos ∷ ps) = diffs ps
-diffs (Between lower frac ∷ ps) = frac ∷ diffs ps
-
--- the whole of it; that it is `linear`, axis by axis, is `rust-linear` (blend/proofs/Bits.antt)
-unfoldable pub rustLinear : List AxisLocation → (List ℕ → Float) → Float
-rustLinear ps g = butterfly (diffs ps) (corners (lowers ps) (view ps g))

@@ -118,6 +118,11 @@ unfoldable pub locateLowerIndexUniform : Float → Float → ℕ → Float → �
 locateLowerIndexUniform grid0 step n point = cellOf n (div binary64 (sub binary64 point grid0) step)
 
 -- ---- validate_uniform_grid
+-- `Result<(), ValidateError>`: `Ok(())`, or `Err(ValidateError::NonUniform { dim, index })`
+pub data Validated : Type 0 where
+  ok : Validated
+  nonUniform : ℕ → ℕ → Validated
+
 -- `let spacing = grid[i + 1] - grid[i];`; at 0 it is `let step = grid[1] - grid[0];`
 abbrev pub spacingAt : List Float → ℕ → Float
 spacingAt grid i = sub binary64 (at grid (i + 1)) (at grid i)
@@ -126,15 +131,15 @@ spacingAt grid i = sub binary64 (at grid (i + 1)) (at grid i)
 abbrev pub diffOf : Float → Float → Float
 diffOf spacing step = cond (lt step spacing) (sub binary64 spacing step) (sub binary64 step spacing)
 
--- the loop from i on, with so many turns left: `if diff > tolerance { return Err(ValidateError::NonUniform { dim, index: i }); }`
-unfoldable pub validateFrom : List Float → Float → Float → ℕ → ℕ → MaybeIndex
-validateFrom grid step tolerance i zero = None
-validateFrom grid step tolerance i (suc turns) =
-    cond (lt tolerance (diffOf (spacingAt grid i) step)) (Some i) (validateFrom grid step tolerance (suc i) turns)
+-- `if diff > tolerance { return Err(ValidateError::NonUniform { dim, index: i }); }`, from i on with so many turns left
+unfoldable pub gapsFrom : List Float → ℕ → Float → ℕ → ℕ → Validated
+gapsFrom grid dim tolerance i zero = ok
+gapsFrom grid dim tolerance i (suc turns) =
+    cond (lt tolerance (diffOf (spacingAt grid i) (spacingAt grid 0))) (nonUniform dim i) (gapsFrom grid dim tolerance (suc i) turns)
 
--- `for i in 1..grid.len() - 1`; the index of the error, and none for `Ok(())`
-unfoldable pub validateUniformGrid : List Float → Float → MaybeIndex
-validateUniformGrid grid tolerance = validateFrom grid (spacingAt grid 0) tolerance 1 (length grid - 1 - 1)
+-- `for i in 1..grid.len() - 1`
+unfoldable pub validateUniformGrid : List Float → ℕ → Float → Validated
+validateUniformGrid grid dim tolerance = gapsFrom grid dim tolerance 1 (length grid - 1 - 1)
 
 -- ---- validate_uniform_grid_epsilon
 -- `for _ in 0..10 { tol = tol + tol; }`, with so many turns
@@ -152,10 +157,10 @@ abs (fin s m e) = fin false m e
 abbrev pub epsilon : Float
 epsilon = fin false 1 (negsuc 51)
 
--- `step.abs() * tol`
-unfoldable pub epsilonTolerance : List Float → Float
-epsilonTolerance grid = mul binary64 (abs (spacingAt grid 0)) (doubled 10 epsilon)
+-- `let mut tol = T::epsilon();`, `step.abs() * tol`
+unfoldable pub toleranceOf : List Float → Float
+toleranceOf grid = mul binary64 (abs (spacingAt grid 0)) (doubled 10 epsilon)
 
--- `tolerance.unwrap_or_else(..)`, with None lent
-abbrev pub validateUniformGridEpsilon : List Float → MaybeIndex
-validateUniformGridEpsilon grid = validateUniformGrid grid (epsilonTolerance grid)
+-- with `None` for the tolerance: `let tolerance = tolerance.unwrap_or_else(|| { .. });`
+unfoldable pub validateUniformGridEpsilon : List Float → ℕ → Validated
+validateUniformGridEpsilon grid dim = validateUniformGrid grid dim (toleranceOf grid)

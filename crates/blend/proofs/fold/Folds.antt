@@ -2,30 +2,18 @@
 use mathlib.Core.Path.{_≡_, sym, ap, ap₂, _∙_}
 use mathlib.Core.List.{List, _∷_, _++_}
 use Prim.Native.Nat.{ℕ, _+_, _^_, _≤_, _<_}
-use native.Mathlib.Nat.{add-zero}
 use native.Mathlib.Omega.{arith}
-use lib.ListN.{length, take, drop, getD, set, List·getD-append}
-use lib.Seq.{getD-append-add, getD-drop}
+use lib.ListN.{length, take, drop, getD, set}
 use lib.Ieee.{Float, nan}
 use Rattle.layout.specs.Layout.{tabulate}
 use Rattle.layout.proofs.Layouts.{length-tabulate, tabulate-step}
 use Rattle.layout.proofs.Totals.{ahead, past}
 use Rattle.blend.specs.Blend.{blended}
-use Rattle.rust.specs.Strategies.{diffs, passed, butterfly}
+use Rattle.rust.specs.Located.{diffs, passed, butterfly}
 use Rattle.rust.specs.declared.AxisLocation.{AxisLocation}
 use Rattle.rust.specs.declared.AxisLocation.the-variants.{Exact, Between}
-use Rattle.blend.proofs.Bits.{power-suc, butterfly-same}
+use Rattle.rust.proofs.Passes.{power-suc, over-at, over-here, front}
 use Rattle.blend.specs.Folds.{passedOver, merged, halfOf, grown}
-
--- ---- writing over the front of a list
-pub over-at : (i j : ℕ) (h : ℕ → Float) (xs : List Float) → getD (tabulate i h ++ drop i xs) (i + j) nan ≡ getD xs (i + j) nan
-over-at i j h xs =
-    ap (λ (k : ℕ). getD (tabulate i h ++ drop i xs) (k + j) nan) (sym (length-tabulate i h))
-    ∙ getD-append-add (tabulate i h) (drop i xs) j nan
-    ∙ getD-drop i xs j nan
-
-over-here : (i : ℕ) (h : ℕ → Float) (xs : List Float) → getD (tabulate i h ++ drop i xs) i nan ≡ getD xs i nan
-over-here i h xs = ap (λ (k : ℕ). getD (tabulate i h ++ drop i xs) k nan) (sym (add-zero i)) ∙ over-at i 0 h xs ∙ ap (λ (k : ℕ). getD xs k nan) (add-zero i)
 
 -- one more value of a pass in place
 abbrev pub blendAt : Float → ℕ → List Float → ℕ → Float
@@ -43,9 +31,6 @@ pass-step f half i vals v b l e q =
 pub pass-done : (f : Float) (half i : ℕ) (vals v : List Float) → i ≡ half → v ≡ tabulate i (blendAt f half vals) ++ drop i vals → v ≡ passedOver f half vals
 unfolding passed blended
 pass-done f half i vals v e q = q ∙ ap (λ (k : ℕ). tabulate k (blendAt f half vals) ++ drop k vals) e
-
-pub front : (fs xs ys : List Float) → 2 ^ length fs ≤ length xs → butterfly fs (xs ++ ys) ≡ butterfly fs xs
-front fs xs ys l = butterfly-same fs (xs ++ ys) xs (λ i b. List·getD-append xs ys nan i (omega (arith, l, b)))
 
 -- ---- how many corners are in use
 pub half-power : (p : AxisLocation) (ps : List AxisLocation) (h : ℕ) → h ≡ 2 ^ length (diffs (p ∷ ps)) → halfOf p h ≡ 2 ^ length (diffs ps)

@@ -10,7 +10,7 @@ use Rattle.layout.specs.Shape.{size}
 use Rattle.layout.proofs.Totals.{length-ids}
 use Rattle.layout.specs.Layout.{table}
 use Rattle.blend.specs.Blend.{computed}
-use Rattle.rust.specs.Strategies.{diffs}
+use Rattle.rust.specs.Located.{diffs}
 use Rattle.blend.specs.Corners.{cornerAt}
 use Rattle.rust.specs.declared.AxisLocation.{AxisLocation}
 use Rattle.rust.specs.declared.AxisLocation.the-variants.{Exact}

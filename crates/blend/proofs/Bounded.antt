@@ -27,7 +27,8 @@ use Rattle.axis.proofs.Laws.{fraction-unit}
 use Rattle.blend.specs.Blend.{one, blended, sliced, linear}
 use Rattle.rust.specs.Located.{diffs}
 use Rattle.blend.specs.Corners.{cornerAt}
-use Rattle.blend.proofs.Bits.{power-suc, low-corner, high-corner}
+use Rattle.rust.proofs.Passes.{power-suc}
+use Rattle.blend.proofs.Bits.{low-corner, high-corner}
 
 -- a finite number that the format holds
 pub record Number (x : Float) : Type 0 where

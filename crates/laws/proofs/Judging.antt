@@ -39,7 +39,7 @@ use Rattle.writer.proofs.Trip.{loaded-frame}
 use Rattle.ninterp.proofs.Demands as passed
 use Rattle.laws.specs.Promises.{Floats, Table, axes, counts, axis, Accepted, Within, InRange, Directed, Uniform, Tells, load, write}
 use Rattle.laws.proofs.Left.{front-accepted}
-use Rattle.laws.proofs.Premises.{then-number, accepted, axis-good, in-range, within, directed}
+use Rattle.laws.proofs.Premises.{then-number, accepted, axis-good, in-range, within, uniform, directed}
 
 -- ---- the lookups
 module _ (t : Table) (ps : Floats) where
@@ -62,7 +62,7 @@ module _ (t : Table) (ps : Floats) where
       let h4 = orders.second-passed _ _ h3 in
       let h5 = orders.second-passed _ _ h4 in
       let g : Accepted t = accepted t (record { frame = orders.first-passed _ _ h; axes = orders.first-passed _ _ h2; stored = orders.first-passed _ _ h3 }) in
-      ((g, in-range t ps g (orders.first-passed _ _ h1) (orders.first-passed _ _ h5) (orders.second-passed _ _ h5)), orders.first-passed _ _ h4)
+      ((g, in-range t ps g (orders.first-passed _ _ h1) (orders.first-passed _ _ h5) (orders.second-passed _ _ h5)), uniform t g (orders.first-passed _ _ h4))
 
   pub step-judged : (ds : List ℕ) → good (stepFault (t .shape) (t .nodes .list) (t .values .list) (ps .list) ds) ≡ true → (Accepted t × InRange t ps) × Directed t ds
   unfolding stepFault

@@ -8,6 +8,7 @@ pub mod LinearMakes
 pub mod Commutes
 pub mod Premises
 pub mod Judging
+pub mod Giving
 pub mod Slicing
 pub mod Commuting
 pub mod Promises

@@ -10,7 +10,7 @@ use lib.ListN.{length, getD}
 use lib.Seq.{length-take-le}
 use lib.Ieee.{Float, nan, lt, le}
 use lib.Ieee.Scale.{finite}
-use Rattle.answer.specs.Faults.{good, refusal, _or_}
+use Rattle.answer.specs.Faults.{good, refusal, firstOf}
 use Rattle.answer.specs.Answer.{refused, _then_}
 use Rattle.answer.specs.declared.Fault.{Fault}
 use Rattle.answer.specs.declared.Answer.{Answer}
@@ -20,7 +20,7 @@ use Rattle.binary64.proofs.Order as order
 use Rattle.checks.specs.Nodes.{node}
 use Rattle.checks.specs.Passed.{Axis, Grid}
 use Rattle.checks.specs.Shapes.{shapeFault}
-use Rattle.checks.specs.Numbers.{lengthFault, rangeFault, rangesFault, valueFault, valuesFault, directionFault, directionsFault, readingsFault}
+use Rattle.checks.specs.Numbers.{lengthFault, rangeFault, rangesFault, valueFault, valuesFault, directionFault, directionsFault, readingsFault, defaultFault, axesUniformFault}
 use Rattle.checks.proofs.lent.Rows.{direction-fine, length-same, length-passed}
 use Rattle.checks.proofs.lists.Rows.{readings-finite}
 use Rattle.checks.proofs.ranges.Rows.{range-inside}
@@ -29,8 +29,12 @@ use Rattle.checks.proofs.shapes.Frames.{shape-some, shape-four}
 use Rattle.checks.proofs.table.Grids.{frame-shape, frame-axes, frame-values, grid-of}
 use Rattle.layout.specs.Shape.{countsOf}
 use Rattle.layout.specs.Layout.{axesOf}
+use Rattle.layout.proofs.Walks.{length-axes}
+use Rattle.rust.specs.Utils.{Validated, ok, nonUniform}
+use Rattle.rust.specs.Strategies.{validateLinearUniform}
+use Rattle.axis.proofs.Texts.{uniformRow, validate-axes-text}
 use Rattle.ninterp.proofs.Demands as passed
-use Rattle.laws.specs.Promises.{Floats, Table, axes, counts, axis, Accepted, Within, InRange, Directed}
+use Rattle.laws.specs.Promises.{Floats, Table, axes, counts, axis, Accepted, Within, InRange, Directed, Uniform}
 use Rattle.laws.proofs.Accepts.{accepts}
 
 -- an answer that tells 0 passed its checks
@@ -128,6 +132,23 @@ module _ (t : Table) where
         each a l =
             within a (getD (ps .list) a nan) (axis-good g a l) a (readings-finite (ps .list) f a (omega (arith, l, lent)))
             (orders.all-passed (λ b. rangeFault b (getD (axesOf (counts t) (t .nodes .list)) b []) (getD (ps .list) b nan)) 0 (length (counts t)) r a (omega arith) (omega (arith, l, counted (g .few))))
+
+  -- ---- uniform axes: the Rust's own check is 8 for all axes
+  uniform-row : Accepted t → axesUniformFault (counts t) (t .nodes .list) ≡ uniformRow (validateLinearUniform (axesOf (counts t) (t .nodes .list)))
+  unfolding axesUniformFault
+  uniform-row g =
+      ap (firstOf (λ a. defaultFault a (axis t a)) 0) (sym (length-axes (counts t) (t .nodes .list)))
+      ∙ validate-axes-text (axesOf (counts t) (t .nodes .list)) (λ a l. axis-good g a (omega (arith, l, length-axes (counts t) (t .nodes .list), counted (g .few))))
+
+  pub uniform-passes : Accepted t → Uniform t → good (axesUniformFault (counts t) (t .nodes .list)) ≡ true
+  uniform-passes g u = ap good (uniform-row g ∙ ap uniformRow u) ∙ orders.good-no-fault
+
+  pub uniform : Accepted t → good (axesUniformFault (counts t) (t .nodes .list)) ≡ true → Uniform t
+  uniform g h = go (validateLinearUniform (axesOf (counts t) (t .nodes .list))) (sym (ap good (uniform-row g)) ∙ h)
+    where
+      go : (v : Validated) → good (uniformRow v) ≡ true → v ≡ ok
+      go ok e = refl
+      go (nonUniform dim index) e = orders.clash (good (refusal 8 dim index)) e (orders.bad-refused 7 dim index)
 
   -- ---- directions
   module _ (ds : List ℕ) where

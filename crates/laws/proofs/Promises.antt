@@ -1,2 +1,186 @@
 -- The page of promises (laws/specs/Promises.antt), statement by statement, by the theorems there are. Assumes nothing.
-use mathlib.Core.Path.{_≡_}
+use mathlib.Core.Path.{_≡_, refl, sym, ap, _∙_, subst}
+use mathlib.Core.Logic.{_⊎_, inl, inr}
+use mathlib.Core.Bool.{Bool, true, false}
+use mathlib.Core.List.{List, [], _∷_}
+use Prim.Native.Nat.{ℕ, zero, suc}
+use lib.ListN.{length, getD}
+use lib.Ieee.{Float, nan}
+use lib.Ieee.Scale.{finite}
+use Rattle.answer.specs.Faults.{good, refusal, noFault, _or_, firstOf}
+use Rattle.answer.specs.Answer.{refused, answered, fine, _then_}
+use Rattle.answer.specs.declared.Fault.{Fault}
+use Rattle.answer.specs.declared.Answer.{Answer}
+use Rattle.answer.proofs.Orders as orders
+use Rattle.answer.proofs.Answers.{then-good, then-bad}
+use Rattle.checks.specs.Numbers.{rangeFault, resultFault, resultsFault}
+use Rattle.checks.proofs.numbers.Rows.{result-fine, result-wild}
+use Rattle.axis.specs.Locations.{uniformLocation}
+use Rattle.ninterp.specs.Tables.{nearestAnswer, stepAnswer}
+use Rattle.ninterp.specs.Linears.{linearAnswer, linearUniformAnswer}
+use Rattle.ninterp.specs.Records.{recordAnswer}
+use Rattle.ninterp.proofs.Refusals.{nearest-told, step-told, linear-told, linear-uniform-told, record-told}
+use Rattle.ninterp.proofs.UniformOverflow as wide
+use Rattle.slices.specs.Slices.{sliceAnswer, nearestSlice, nearestSliced, stepSlice, stepSliced}
+use Rattle.slices.specs.LinearSlices.{linearValues, linearSliceFault, linearUniformSliceFault, linearSlice, linearSliced, linearUniformSlice, linearUniformSliced}
+use Rattle.laws.specs.Promises.{Floats, Table, axis, Accepted, Uniform, Sliceable, LookupsJudge, DirectionsJudged, SlicesJudge, LoadJudges, WriteJudges, RecordJudges, LookupsTell, SlicesKeep, LoadKeeps, WriteKeeps, LinearGives, NearestGives, StepGives, LinearUniformGives, LinearUniformOverflows, ImageReturns, SlicesMade, SlicesAnswer, SlicesCommute, StoredBits}
+use Rattle.laws.proofs.Premises.{then-number, passes, accepted, in-range, uniform, uniform-passes, range-passes, axis-good, directed-lent, directed-passes}
+use Rattle.laws.proofs.Judging as judging
+use Rattle.laws.proofs.Giving as giving
+use Rattle.laws.proofs.Slicing as slicing
+use Rattle.laws.proofs.Slicing.{slice-good}
+use Rattle.laws.proofs.Commuting as commuting
+use Rattle.laws.proofs.Makes.{nearest-slice-made, step-slice-made, linear-uniform-slice-made}
+use Rattle.laws.proofs.LinearMakes.{linear-slice-always}
+
+-- ==== Demand 1
+pub lookups-judge : LookupsJudge
+unfolding linearAnswer linearUniformAnswer nearestAnswer stepAnswer
+lookups-judge =
+    (λ t ps h. judging.lookup-judged t ps (then-number _ _ h),
+    (λ t ps h. judging.uniform-judged t ps (then-number _ _ h) .0,
+    (λ t ps h. judging.lookup-judged t ps (then-number _ _ h),
+    λ ds t ps h. judging.step-judged t ps ds (then-number _ _ h) .0)))
+
+pub directions-judged : DirectionsJudged
+unfolding linearUniformAnswer stepAnswer
+directions-judged t ps = (λ h. judging.uniform-judged t ps (then-number _ _ h) .1, λ ds h. judging.step-judged t ps ds (then-number _ _ h) .1)
+
+pub slices-judge : SlicesJudge
+unfolding linearSlice linearUniformSlice nearestSlice stepSlice
+slices-judge =
+    (λ t k p out h. judging.linear-slice-judged t k p (length out) (slice-good _ (t .shape) k h),
+    (λ t k p out h. judging.uniform-slice-judged t k p (length out) (slice-good _ (t .shape) k h),
+    (λ t k p out h. judging.nearest-judged t k p (length out) (slice-good _ (t .shape) k h),
+    λ ds t k p out h. judging.step-slice-judged t k p (length out) ds (slice-good _ (t .shape) k h))))
+
+pub load-judges : LoadJudges
+load-judges = judging.load-judged
+
+pub write-judges : WriteJudges
+write-judges = judging.write-judged
+
+pub record-judges : RecordJudges
+unfolding recordAnswer
+record-judges t rec h = judging.record-judged t rec (then-number _ _ h)
+
+pub lookups-tell : LookupsTell
+lookups-tell =
+    ((λ t ps. judging.tells (linear-told (t .shape) (t .nodes .list) (t .values .list) (ps .list)),
+    (λ t ps. judging.tells (linear-uniform-told (t .shape) (t .nodes .list) (t .values .list) (ps .list)),
+    (λ t ps. judging.tells (nearest-told (t .shape) (t .nodes .list) (t .values .list) (ps .list)),
+    λ ds t ps. judging.tells (step-told (t .shape) (t .nodes .list) (t .values .list) (ps .list) ds)))),
+    λ t rec. judging.tells (record-told (t .shape) (t .nodes .list) (t .values .list) rec))
+
+pub slices-keep : SlicesKeep
+unfolding linearSlice linearSliced linearUniformSlice linearUniformSliced nearestSlice nearestSliced stepSlice stepSliced
+slices-keep =
+    (λ t k p out. judging.slice-keeps _ (t .shape) k _ out,
+    (λ t k p out. judging.slice-keeps _ (t .shape) k _ out,
+    (λ t k p out. judging.slice-keeps _ (t .shape) k _ out,
+    λ ds t k p out. judging.slice-keeps _ (t .shape) k _ out)))
+
+pub load-keeps : LoadKeeps
+load-keeps = judging.load-keeps
+
+pub write-keeps : WriteKeeps
+write-keeps = judging.write-keeps
+
+-- ==== Demand 2
+pub linear-gives : LinearGives
+linear-gives = giving.linear-bits
+
+pub nearest-gives : NearestGives
+nearest-gives = giving.nearest-bits
+
+pub step-gives : StepGives
+step-gives t ps ds g r d = giving.step-bits t ps g r ds d
+
+pub linear-uniform-gives : LinearUniformGives
+linear-uniform-gives t ps g u r = giving.uniform-bits t ps g r u
+
+-- nodes 0, 1 and 2 + 2^-42, the largest number at the last of them, and the reading there
+pub linear-uniform-overflows : LinearUniformOverflows
+linear-uniform-overflows = record {
+  t = big;
+  ps = at-last;
+  accepted = good-table;
+  uniform = uniform big good-table wide.wide-uniform;
+  in-range = record { lent = refl; each = λ a l. record { finite-reading = wide.wide-in-range .finites a l; low = wide.wide-in-range .low a l; high = wide.wide-in-range .high a l } };
+  refusal-12 = wide.uniform-overflows;
+}
+  where
+    at-last : Floats
+    at-last = record { list = wide.last ∷ []; held = wide.wide-held .1 .1 }
+
+    big : Table
+    big = record { shape = wide.wide; four = refl; nodes = record { list = wide.nodes; held = wide.wide-held .0 }; values = record { list = wide.values; held = wide.wide-held .1 .0 } }
+
+    good-table : Accepted big
+    good-table = accepted big wide.wide-accepted
+
+pub image-returns : ImageReturns
+image-returns = giving.image-back
+
+-- ==== Demand 3
+
+-- 12 is all that results can be refused with
+result-twelve : (place : ℕ) (x : Float) → good (resultFault place x) ≡ false → resultFault place x .number ≡ 12
+unfolding resultFault refusal
+result-twelve place x h = go (finite x) refl
+  where
+    go : (b : Bool) → finite x ≡ b → resultFault place x .number ≡ 12
+    go true e = orders.clash (good (resultFault place x)) (orders.passed-no-fault (resultFault place x) (result-fine place x e)) h
+    go false e = ap (λ (f : Fault). f .number) (sym (result-wild place x e))
+
+first-twelve : (f : ℕ → Fault) → ((j : ℕ) → good (f j) ≡ false → f j .number ≡ 12) → (i k : ℕ) → good (firstOf f i k) ≡ false → firstOf f i k .number ≡ 12
+unfolding firstOf
+first-twelve f each i zero h = orders.clash (good noFault) orders.good-no-fault h
+first-twelve f each i (suc k) h = go (good (f i)) refl
+  where
+    go : (b : Bool) → good (f i) ≡ b → (f i or firstOf f (suc i) k) .number ≡ 12
+    go true e = let same = orders.or-good (f i) (firstOf f (suc i) k) e in ap (λ (x : Fault). x .number) same ∙ first-twelve f each (suc i) k (sym (ap good same) ∙ h)
+    go false e = ap (λ (x : Fault). x .number) (orders.or-bad (f i) (firstOf f (suc i) k) e) ∙ each i e
+
+results-number : (xs : List Float) → ((resultsFault xs then fine) .number ≡ 0) ⊎ ((resultsFault xs then fine) .number ≡ 12)
+unfolding resultsFault fine answered refused
+results-number xs = go (good (resultsFault xs)) refl
+  where
+    go : (b : Bool) → good (resultsFault xs) ≡ b → ((resultsFault xs then fine) .number ≡ 0) ⊎ ((resultsFault xs then fine) .number ≡ 12)
+    go true e = inl (ap (λ (a : Answer). a .number) (then-good (resultsFault xs) fine e))
+    go false e = inr (ap (λ (a : Answer). a .number) (then-bad (resultsFault xs) fine e) ∙ first-twelve (λ i. resultFault i (getD xs i nan)) (λ j. result-twelve j (getD xs j nan)) 0 (length xs) e)
+
+module _ (t : Table) (p : Float) (out : List Float) where
+  inside : (k : ℕ) → Sliceable t k p out → good (rangeFault k (axis t k) p) ≡ true
+  inside k s = range-passes t k p (axis-good t (s .accepted) k (s .there)) k (s .inside)
+
+  linear-good : (k : ℕ) → k ≡ 0 → Sliceable t k p out → good (linearSliceFault (t .shape) (t .nodes .list) (t .values .list) k p (length out)) ≡ true
+  linear-good k z = subst (λ (a : ℕ). Sliceable t a p out → good (linearSliceFault (t .shape) (t .nodes .list) (t .values .list) a p (length out)) ≡ true) (sym z)
+      (λ s. linear-slice-always (t .shape) (t .nodes .list) (t .values .list) (passes t (s .accepted)) (s .many) p (length out) (s .inside .finite-reading) (t .nodes .held) (t .values .held) (inside 0 s) (s .room))
+
+  uniform-results : (k : ℕ) → k ≡ 0 → Sliceable t k p out → Uniform t → linearUniformSliceFault (t .shape) (t .nodes .list) (t .values .list) k p (length out) ≡ resultsFault (linearValues uniformLocation (t .shape) (t .nodes .list) (t .values .list) p)
+  uniform-results k z = subst (λ (a : ℕ). Sliceable t a p out → Uniform t → linearUniformSliceFault (t .shape) (t .nodes .list) (t .values .list) a p (length out) ≡ resultsFault (linearValues uniformLocation (t .shape) (t .nodes .list) (t .values .list) p)) (sym z)
+      (λ s u. linear-uniform-slice-made (t .shape) (t .nodes .list) (t .values .list) (passes t (s .accepted)) (s .many) p (length out) (s .inside .finite-reading) (inside 0 s) (s .room) (uniform-passes t (s .accepted) u))
+
+pub slices-made : SlicesMade
+unfolding linearSlice linearUniformSlice nearestSlice stepSlice sliceAnswer
+slices-made t k p out s =
+    (
+      λ z. then-good _ fine (linear-good t p out k z s),
+      (
+        λ z u. subst (λ (f : Fault). ((f then fine) .number ≡ 0) ⊎ ((f then fine) .number ≡ 12)) (sym (uniform-results t p out k z s u)) (results-number _),
+        (
+          then-good _ fine (nearest-slice-made (t .shape) (t .nodes .list) (t .values .list) (passes t (s .accepted)) (s .many) p (length out) (s .inside .finite-reading) k (s .there) (inside t p out k s) (s .room)),
+          λ ds d. then-good _ fine (step-slice-made (t .shape) (t .nodes .list) (t .values .list) (passes t (s .accepted)) (s .many) p (length out) (s .inside .finite-reading) k (s .there) (inside t p out k s) (s .room) ds (directed-lent t ds d) (directed-passes t ds d)),
+        ),
+      ),
+    )
+
+pub slices-answer : SlicesAnswer
+slices-answer = (slicing.linear-answers, (slicing.uniform-answers, (slicing.nearest-answers, slicing.step-answers)))
+
+pub slices-commute : SlicesCommute
+slices-commute = (commuting.nearest-commute, commuting.step-commute)
+
+pub stored-bits : StoredBits
+stored-bits = giving.stored-bits

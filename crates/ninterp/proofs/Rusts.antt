@@ -5,23 +5,21 @@ use Prim.Native.Nat.{ℕ, _≤_, _<_}
 use native.Mathlib.Omega.{arith}
 use lib.ListN.{length, getD}
 use lib.Ieee.{Float, nan}
-use Rattle.answer.specs.Faults.{firstOf}
 use Rattle.layout.specs.Shape.{countsOf}
 use Rattle.layout.specs.Layout.{axesOf, table, tabulate, axisOf}
 use Rattle.layout.specs.declared.Shape.{Shape}
 use Rattle.layout.proofs.Walks.{length-axes}
 use Rattle.layout.proofs.Layouts.{tabulate-same}
 use Rattle.rust.specs.Utils.{locateAxis, locateStepIndex}
-use Rattle.rust.specs.Strategies.{zipped, linearText, validateLinearUniform, linearUniformText, nearestAt, nearestText, stepText}
+use Rattle.rust.specs.Strategies.{zipped, linearText, linearUniformText, nearestAt, nearestText, stepText}
 use Rattle.rust.specs.Located.{rustLinear}
 use Rattle.rust.specs.declared.AxisLocation.{AxisLocation}
 use Rattle.rust.proofs.Linears.{Fitting, uniformAt, linear-located, linear-uniform-located, zipped-tabulate, fitting}
 use Rattle.checks.specs.Passed.{Axis}
-use Rattle.checks.specs.Numbers.{defaultFault, axesUniformFault}
 use Rattle.checks.proofs.table.Grids.{length-axis, grid-of}
 use Rattle.axis.specs.Locations.{axisLocation, uniformLocation}
 use Rattle.axis.specs.Picks.{nearestRule, stepRule}
-use Rattle.axis.proofs.Texts.{uniformRow, validate-axes-text, axis-text, step-index-text, nearest-index-text, uniform-axis-text}
+use Rattle.axis.proofs.Texts.{axis-text, step-index-text, nearest-index-text, uniform-axis-text}
 use Rattle.blend.proofs.Bits.{rust-linear}
 use Rattle.ninterp.specs.Tables.{indices, picked}
 use Rattle.ninterp.specs.Linears.{locations, interpolated}
@@ -68,13 +66,7 @@ module _ (s : Shape) (nodes values readings : List Float) (t : Accepted s nodes 
       ∙ ap (λ (ls : List AxisLocation). rustLinear ls (table (countsOf s) values)) linear-locations
       ∙ rust-linear (locations axisLocation (axesOf (countsOf s) nodes) readings) (table (countsOf s) values)
 
-  -- ---- LinearUniform: its validate is 8 for all axes, and its interpolate the rule
-  pub validate-linear-uniform-text : axesUniformFault (countsOf s) nodes ≡ uniformRow (validateLinearUniform (axesOf (countsOf s) nodes))
-  unfolding axesUniformFault
-  validate-linear-uniform-text =
-      ap (firstOf (λ a. defaultFault a (axisOf s nodes a)) 0) (sym (length-axes (countsOf s) nodes))
-      ∙ validate-axes-text (axesOf (countsOf s) nodes) (λ a l. good-axis a (omega (arith, axes-count, l)))
-
+  -- ---- LinearUniform
   uniform-locations : zipped uniformAt (axesOf (countsOf s) nodes) readings ≡ locations uniformLocation (axesOf (countsOf s) nodes) readings
   unfolding locations
   uniform-locations =

@@ -88,7 +88,7 @@ module _ (n c : ℕ) (C : 0 < c) where
           let b : 2 * last ≤ 2 ^ j = subst (λ (x : ℕ). x ≤ 2 ^ j) (pow-add 2 1 (drop 53 n c)) a in
           omega (arith, mul-le-mul-right last kept-le, b, mul-le-mul-right (2 ^ j) low)
 
-  -- (1 - 2 ^ -53) times a whole number of units is rounded to less than the number, and nothing to nothing
+  -- what is at most 1 - 2 ^ -53 of w, w being 2 ^ 53 units or more, is rounded to less than w
   pub rounded-less : (w : ℕ) → 2 ^ 53 * n + w * c ≤ 2 ^ 53 * (w * c) → 2 ^ 53 ≤ w → rounded n c < w
   rounded-less w h big = ⊎-elim none some (either (drop 53 n c) 0)
     where

@@ -205,7 +205,7 @@ one-less (inf s) u = clash (sym (unit-finite (inf s) u))
 one-less (fin false m e) u = over-zero (m * up e) (down e) (unit-num (fin false m e) u)
 one-less (fin true m e) u = minus-zero (m * up e) (down e) (nothing m e u)
 
--- N / D is the weight, G its rounded difference to 1, E the unit 2 ^ 1020
+-- N / D is f in size, and `other` is 1 - f as rounded, in units
 module _ (N D : ℕ) (d : 0 < D) (h : N ≤ D) where
   abbrev other : ℕ
   other = rounded ((D - N) * 2 ^ 1074) D

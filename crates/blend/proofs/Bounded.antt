@@ -1,4 +1,4 @@
--- A blend of finite numbers of the format stays finite where its fraction lies between 0 and 1, both included: so does Linear's, at every reading in range.
+-- A blend of finite numbers of the format stays finite where its fraction lies between 0 and 1, both included, as Linear's does at every reading in range.
 -- Assumes nothing.
 use mathlib.Core.Path.{_≡_, subst}
 use mathlib.Core.Bool.{true}

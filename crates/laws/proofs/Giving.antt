@@ -51,9 +51,10 @@ module _ (t : Table) (ps : Floats) (g : Accepted t) (r : InRange t ps) where
   text-is = rust-linear (locations axisLocation (axesOf (counts t) (t .nodes .list)) (ps .list)) (stored t) ∙ sym (linear-text (t .shape) (t .nodes .list) (t .values .list) (ps .list) (passes t g) (readings-pass t ps r))
 
   pub linear-bits : (linear t ps ≡ answered (rustOf linearText t ps)) × (finite (rustOf linearText t ps) ≡ true)
-  linear-bits =
-      (linear-given (t .shape) (t .nodes .list) (t .values .list) (ps .list) (passes t g) (readings-pass t ps r) (t .nodes .held) (t .values .held) ∙ ap answered text-is,
-      sym (ap finite text-is) ∙ linear-always (t .shape) (t .nodes .list) (t .values .list) (ps .list) (passes t g) (readings-pass t ps r) (t .nodes .held) (t .values .held))
+  linear-bits = (
+    linear-given (t .shape) (t .nodes .list) (t .values .list) (ps .list) (passes t g) (readings-pass t ps r) (t .nodes .held) (t .values .held) ∙ ap answered text-is,
+    sym (ap finite text-is) ∙ linear-always (t .shape) (t .nodes .list) (t .values .list) (ps .list) (passes t g) (readings-pass t ps r) (t .nodes .held) (t .values .held),
+  )
 
   abbrev over-uniform : Float
   over-uniform = rustLinear (locations uniformLocation (axesOf (counts t) (t .nodes .list)) (ps .list)) (stored t)
@@ -63,9 +64,10 @@ module _ (t : Table) (ps : Floats) (g : Accepted t) (r : InRange t ps) where
   uniform-text-is = rust-linear (locations uniformLocation (axesOf (counts t) (t .nodes .list)) (ps .list)) (stored t) ∙ sym (linear-uniform-text (t .shape) (t .nodes .list) (t .values .list) (ps .list) (passes t g) (readings-pass t ps r))
 
   pub uniform-bits : Uniform t → (finite (rustOf linearUniformText t ps) ≡ true → linearUniform t ps ≡ answered (rustOf linearUniformText t ps)) × (finite (rustOf linearUniformText t ps) ≡ false → linearUniform t ps ≡ refused (refusal 12 0 0))
-  uniform-bits u =
-      (λ f. linear-uniform-answers (t .shape) (t .nodes .list) (t .values .list) (ps .list) (passes t g) (readings-pass t ps r) (uniform-passes t g u) (ap finite uniform-text-is ∙ f) ∙ ap answered uniform-text-is,
-      λ f. linear-uniform-refuses (t .shape) (t .nodes .list) (t .values .list) (ps .list) (passes t g) (readings-pass t ps r) (uniform-passes t g u) (ap finite uniform-text-is ∙ f))
+  uniform-bits u = (
+    λ f. linear-uniform-answers (t .shape) (t .nodes .list) (t .values .list) (ps .list) (passes t g) (readings-pass t ps r) (uniform-passes t g u) (ap finite uniform-text-is ∙ f) ∙ ap answered uniform-text-is,
+    λ f. linear-uniform-refuses (t .shape) (t .nodes .list) (t .values .list) (ps .list) (passes t g) (readings-pass t ps r) (uniform-passes t g u) (ap finite uniform-text-is ∙ f),
+  )
 
   pub nearest-bits : nearest t ps ≡ answered (rustOf nearestText t ps)
   nearest-bits =
@@ -83,10 +85,11 @@ pub image-back : (t : Table) (out : List ℕ) (ns vs : List Float) → Accepted 
     × (load (take (write t out .0 .length) (write t out .1)) ns vs
     ≡ (record { answer = fine; shape = plain (t .shape) }, (t .nodes .list ++ drop (length (t .nodes .list)) ns, t .values .list ++ drop (length (t .values .list)) vs)))
 unfolding writeAnswer
-image-back t out ns vs a room n v =
-    (ap₂ (λ (x : Answer) (l : ℕ). record { answer = x; length = l }) (then-good fault fine g) (orders.given-good fault (imageLength (t .shape)) 0 g),
-    ap₂ (λ (x : LoadAnswer) (y : List Float × List Float). (x, y)) (answer-back s (t .four) nodes values (t .nodes .held) (t .values .held) out g ns vs ln lv)
-    (ap₂ (λ (x y : List Float). (x, y)) (nodes-returned s (t .four) nodes values (t .nodes .held) (t .values .held) out g ns vs ln lv) (values-returned s (t .four) nodes values (t .nodes .held) (t .values .held) out g ns vs ln lv)))
+image-back t out ns vs a room n v = (
+  ap₂ (λ (x : Answer) (l : ℕ). record { answer = x; length = l }) (then-good fault fine g) (orders.given-good fault (imageLength (t .shape)) 0 g),
+  ap₂ (λ (x : LoadAnswer) (y : List Float × List Float). (x, y)) (answer-back s (t .four) nodes values (t .nodes .held) (t .values .held) out g ns vs ln lv)
+      (ap₂ (λ (x y : List Float). (x, y)) (nodes-returned s (t .four) nodes values (t .nodes .held) (t .values .held) out g ns vs ln lv) (values-returned s (t .four) nodes values (t .nodes .held) (t .values .held) out g ns vs ln lv)),
+)
   where
     s : Shape
     s = t .shape
@@ -112,10 +115,10 @@ image-back t out ns vs a room n v =
 -- ---- readings that are nodes
 eq-finite : (x p : Float) → finite x ≡ true → eq x p ≡ true → finite p ≡ true
 unfolding eq
-eq-finite nan p f e = orders.clash false (sym f) refl
-eq-finite (inf s) p f e = orders.clash false (sym f) refl
-eq-finite (fin s m k) nan f e = orders.clash false (sym e) refl
-eq-finite (fin s m k) (inf z) f e = orders.clash false (sym e) refl
+eq-finite nan p f e = orders.clash false f refl
+eq-finite (inf s) p f e = orders.clash false f refl
+eq-finite (fin s m k) nan f e = orders.clash false e refl
+eq-finite (fin s m k) (inf z) f e = orders.clash false e refl
 eq-finite (fin s m k) (fin z n l) f e = refl
 
 module _ (t : Table) (ps : Floats) (at : ℕ → ℕ) (g : Accepted t) (o : OnNodes t ps at) where
@@ -156,8 +159,7 @@ module _ (t : Table) (ps : Floats) (at : ℕ → ℕ) (g : Accepted t) (o : OnNo
   stored-bits =
       let p = passes t g in
       let r = readings-pass t ps on-range in
-      let held = held-axis (counts t) (t .nodes .list) (t .nodes .held) in
-      (
+      let held = held-axis (counts t) (t .nodes .list) (t .nodes .held) in (
         linear-stored (t .shape) (t .nodes .list) (t .values .list) (ps .list) p r at (o .there) (o .on) ∙ nodes-at,
         (
           nearest-stored (t .shape) (t .nodes .list) (t .values .list) (ps .list) p r held (ps .held) at (o .there) (o .on) ∙ nodes-at,

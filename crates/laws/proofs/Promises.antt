@@ -36,11 +36,16 @@ use Rattle.laws.proofs.LinearMakes.{linear-slice-always}
 -- ==== Demand 1
 pub lookups-judge : LookupsJudge
 unfolding linearAnswer linearUniformAnswer nearestAnswer stepAnswer
-lookups-judge =
-    (λ t ps h. judging.lookup-judged t ps (then-number _ _ h),
-    (λ t ps h. judging.uniform-judged t ps (then-number _ _ h) .0,
-    (λ t ps h. judging.lookup-judged t ps (then-number _ _ h),
-    λ ds t ps h. judging.step-judged t ps ds (then-number _ _ h) .0)))
+lookups-judge = (
+  λ t ps h. judging.lookup-judged t ps (then-number _ _ h),
+  (
+    λ t ps h. judging.uniform-judged t ps (then-number _ _ h) .0,
+    (
+      λ t ps h. judging.lookup-judged t ps (then-number _ _ h),
+      λ ds t ps h. judging.step-judged t ps ds (then-number _ _ h) .0,
+    ),
+  ),
+)
 
 pub directions-judged : DirectionsJudged
 unfolding linearUniformAnswer stepAnswer
@@ -48,11 +53,16 @@ directions-judged t ps = (λ h. judging.uniform-judged t ps (then-number _ _ h) 
 
 pub slices-judge : SlicesJudge
 unfolding linearSlice linearUniformSlice nearestSlice stepSlice
-slices-judge =
-    (λ t k p out h. judging.linear-slice-judged t k p (length out) (slice-good _ (t .shape) k h),
-    (λ t k p out h. judging.uniform-slice-judged t k p (length out) (slice-good _ (t .shape) k h),
-    (λ t k p out h. judging.nearest-judged t k p (length out) (slice-good _ (t .shape) k h),
-    λ ds t k p out h. judging.step-slice-judged t k p (length out) ds (slice-good _ (t .shape) k h))))
+slices-judge = (
+  λ t k p out h. judging.linear-slice-judged t k p (length out) (slice-good _ (t .shape) k h),
+  (
+    λ t k p out h. judging.uniform-slice-judged t k p (length out) (slice-good _ (t .shape) k h),
+    (
+      λ t k p out h. judging.nearest-judged t k p (length out) (slice-good _ (t .shape) k h),
+      λ ds t k p out h. judging.step-slice-judged t k p (length out) ds (slice-good _ (t .shape) k h),
+    ),
+  ),
+)
 
 pub load-judges : LoadJudges
 load-judges = judging.load-judged
@@ -65,20 +75,32 @@ unfolding recordAnswer
 record-judges t rec h = judging.record-judged t rec (then-number _ _ h)
 
 pub lookups-tell : LookupsTell
-lookups-tell =
-    ((λ t ps. judging.tells (linear-told (t .shape) (t .nodes .list) (t .values .list) (ps .list)),
-    (λ t ps. judging.tells (linear-uniform-told (t .shape) (t .nodes .list) (t .values .list) (ps .list)),
-    (λ t ps. judging.tells (nearest-told (t .shape) (t .nodes .list) (t .values .list) (ps .list)),
-    λ ds t ps. judging.tells (step-told (t .shape) (t .nodes .list) (t .values .list) (ps .list) ds)))),
-    λ t rec. judging.tells (record-told (t .shape) (t .nodes .list) (t .values .list) rec))
+lookups-tell = (
+  (
+    λ t ps. judging.tells (linear-told (t .shape) (t .nodes .list) (t .values .list) (ps .list)),
+    (
+      λ t ps. judging.tells (linear-uniform-told (t .shape) (t .nodes .list) (t .values .list) (ps .list)),
+      (
+        λ t ps. judging.tells (nearest-told (t .shape) (t .nodes .list) (t .values .list) (ps .list)),
+        λ ds t ps. judging.tells (step-told (t .shape) (t .nodes .list) (t .values .list) (ps .list) ds),
+      ),
+    ),
+  ),
+  λ t rec. judging.tells (record-told (t .shape) (t .nodes .list) (t .values .list) rec),
+)
 
 pub slices-keep : SlicesKeep
 unfolding linearSlice linearSliced linearUniformSlice linearUniformSliced nearestSlice nearestSliced stepSlice stepSliced
-slices-keep =
-    (λ t k p out. judging.slice-keeps _ (t .shape) k _ out,
-    (λ t k p out. judging.slice-keeps _ (t .shape) k _ out,
-    (λ t k p out. judging.slice-keeps _ (t .shape) k _ out,
-    λ ds t k p out. judging.slice-keeps _ (t .shape) k _ out)))
+slices-keep = (
+  λ t k p out. judging.slice-keeps _ (t .shape) k _ out,
+  (
+    λ t k p out. judging.slice-keeps _ (t .shape) k _ out,
+    (
+      λ t k p out. judging.slice-keeps _ (t .shape) k _ out,
+      λ ds t k p out. judging.slice-keeps _ (t .shape) k _ out,
+    ),
+  ),
+)
 
 pub load-keeps : LoadKeeps
 load-keeps = judging.load-keeps
@@ -111,10 +133,10 @@ linear-uniform-overflows = record {
 }
   where
     at-last : Floats
-    at-last = record { list = wide.last ∷ []; held = wide.wide-held .1 .1 }
+    at-last = record { list = wide.last ∷ []; held = wide.wide-held .2 }
 
     big : Table
-    big = record { shape = wide.wide; four = refl; nodes = record { list = wide.nodes; held = wide.wide-held .0 }; values = record { list = wide.values; held = wide.wide-held .1 .0 } }
+    big = record { shape = wide.wide; four = refl; nodes = record { list = wide.nodes; held = wide.wide-held .0 }; values = record { list = wide.values; held = wide.wide-held .1 } }
 
     good-table : Accepted big
     good-table = accepted big wide.wide-accepted
@@ -136,11 +158,13 @@ result-twelve place x h = go (finite x) refl
 first-twelve : (f : ℕ → Fault) → ((j : ℕ) → good (f j) ≡ false → f j .number ≡ 12) → (i k : ℕ) → good (firstOf f i k) ≡ false → firstOf f i k .number ≡ 12
 unfolding firstOf
 first-twelve f each i zero h = orders.clash (good noFault) orders.good-no-fault h
-first-twelve f each i (suc k) h = go (good (f i)) refl
+first-twelve f each i (suc k) h = go (good (f i)) refl (first-twelve f each (suc i) k)
   where
-    go : (b : Bool) → good (f i) ≡ b → (f i or firstOf f (suc i) k) .number ≡ 12
-    go true e = let same = orders.or-good (f i) (firstOf f (suc i) k) e in ap (λ (x : Fault). x .number) same ∙ first-twelve f each (suc i) k (sym (ap good same) ∙ h)
-    go false e = ap (λ (x : Fault). x .number) (orders.or-bad (f i) (firstOf f (suc i) k) e) ∙ each i e
+    go : (b : Bool) → good (f i) ≡ b → (good (firstOf f (suc i) k) ≡ false → firstOf f (suc i) k .number ≡ 12) → (f i or firstOf f (suc i) k) .number ≡ 12
+    go true e next =
+        ap (λ (x : Fault). x .number) (orders.or-good (f i) (firstOf f (suc i) k) e)
+        ∙ next (sym (ap good (orders.or-good (f i) (firstOf f (suc i) k) e)) ∙ h)
+    go false e next = ap (λ (x : Fault). x .number) (orders.or-bad (f i) (firstOf f (suc i) k) e) ∙ each i e
 
 results-number : (xs : List Float) → ((resultsFault xs then fine) .number ≡ 0) ⊎ ((resultsFault xs then fine) .number ≡ 12)
 unfolding resultsFault fine answered refused
@@ -164,17 +188,16 @@ module _ (t : Table) (p : Float) (out : List Float) where
 
 pub slices-made : SlicesMade
 unfolding linearSlice linearUniformSlice nearestSlice stepSlice sliceAnswer
-slices-made t k p out s =
+slices-made t k p out s = (
+  λ z. then-good _ fine (linear-good t p out k z s),
+  (
+    λ z u. subst (λ (f : Fault). ((f then fine) .number ≡ 0) ⊎ ((f then fine) .number ≡ 12)) (sym (uniform-results t p out k z s u)) (results-number _),
     (
-      λ z. then-good _ fine (linear-good t p out k z s),
-      (
-        λ z u. subst (λ (f : Fault). ((f then fine) .number ≡ 0) ⊎ ((f then fine) .number ≡ 12)) (sym (uniform-results t p out k z s u)) (results-number _),
-        (
-          then-good _ fine (nearest-slice-made (t .shape) (t .nodes .list) (t .values .list) (passes t (s .accepted)) (s .many) p (length out) (s .inside .finite-reading) k (s .there) (inside t p out k s) (s .room)),
-          λ ds d. then-good _ fine (step-slice-made (t .shape) (t .nodes .list) (t .values .list) (passes t (s .accepted)) (s .many) p (length out) (s .inside .finite-reading) k (s .there) (inside t p out k s) (s .room) ds (directed-lent t ds d) (directed-passes t ds d)),
-        ),
-      ),
-    )
+      then-good _ fine (nearest-slice-made (t .shape) (t .nodes .list) (t .values .list) (passes t (s .accepted)) (s .many) p (length out) (s .inside .finite-reading) k (s .there) (inside t p out k s) (s .room)),
+      λ ds d. then-good _ fine (step-slice-made (t .shape) (t .nodes .list) (t .values .list) (passes t (s .accepted)) (s .many) p (length out) (s .inside .finite-reading) k (s .there) (inside t p out k s) (s .room) ds (directed-lent t ds d) (directed-passes t ds d)),
+    ),
+  ),
+)
 
 pub slices-answer : SlicesAnswer
 slices-answer = (slicing.linear-answers, (slicing.uniform-answers, (slicing.nearest-answers, slicing.step-answers)))

@@ -1,5 +1,5 @@
--- THE PAGE OF PROMISES: the three demands, sentence by sentence, over what the calls answer and leave. Nothing but statements: each is inhabited, under its
--- own name in small letters, in laws/proofs/Promises.antt. "No input traps or runs on" is the proof of every function: none asks anything of its caller.
+-- THE PAGE OF PROMISES: the three demands, sentence by sentence, over what the calls answer and leave. Nothing but statements; `demand-1`, `demand-2` and
+-- `demand-3` (laws/proofs/Promises.antt) inhabit the three records at the end, so that no statement of them can be left out.
 use mathlib.Core.Path.{_≡_}
 use mathlib.Core.Logic.{_⊎_}
 use mathlib.Core.Bool.{true, false}
@@ -15,13 +15,15 @@ use Rattle.answer.specs.declared.Answer.{Answer}
 use Rattle.layout.specs.Shape.{countsOf, size, total, noShape}
 use Rattle.layout.specs.Layout.{axesOf, axisOf, table, tabulate, insert, without, nodesWithout}
 use Rattle.layout.specs.declared.Shape.{Shape}
-use Rattle.checks.specs.Nodes.{node, gap}
+use Rattle.checks.specs.Nodes.{node}
+use Rattle.checks.specs.Passed.{Axis}
 use Rattle.rust.specs.Utils.{ok}
 use Rattle.rust.specs.Strategies.{linearText, linearUniformText, nearestText, stepText, validateLinearUniform}
 use Rattle.ninterp.specs.Tables.{nearestAnswer, stepAnswer}
 use Rattle.ninterp.specs.Linears.{linearAnswer, linearUniformAnswer}
 use Rattle.ninterp.specs.Records.{recordSize, recordAnswer}
-use Rattle.slices.specs.Slices.{shapeWithout, nearestSlice, nearestSliced, stepSlice, stepSliced}
+use Rattle.utils.specs.Calls.{locateLowerIndex, exactIndex, locateAxis, locateStepIndex}
+use Rattle.slices.specs.Slices.{nearestSlice, nearestSliced, stepSlice, stepSliced}
 use Rattle.slices.specs.LinearSlices.{linearSlice, linearSliced, linearUniformSlice, linearUniformSliced}
 use Rattle.slices.specs.declared.SliceAnswer.{SliceAnswer}
 use Rattle.image.specs.Load.{loadFault, loadAnswer}
@@ -59,17 +61,15 @@ axis t a = axisOf (t .shape) (t .nodes .list) a
 abbrev pub stored : Table → List ℕ → Float
 stored t is = table (counts t) (t .values .list) is
 
--- an accepted table: 1 to 4 axes of 2 to 64 nodes, at most 4,096 values, lent as long as the shape says; finite nodes that rise by finite steps; finite values
+-- an accepted table: "1 to 4 axes, 2 to 64 nodes each, at most 4,096 values", lent as long as the shape says; on each axis finite nodes that rise by finite
+-- steps (`Axis`, checks/specs/Passed.antt); finite values
 pub record Accepted (t : Table) : Type 0 where
   pub some : 1 ≤ axes t
   pub few : axes t ≤ 4
   pub small : size (counts t) ≤ 4096
   pub nodes-lent : length (t .nodes .list) ≡ total (counts t)
   pub values-lent : length (t .values .list) ≡ size (counts t)
-  pub enough : (a : ℕ) → a < axes t → (2 ≤ length (axis t a)) × (length (axis t a) ≤ 64)
-  pub finite-nodes : (a i : ℕ) → a < axes t → i < length (axis t a) → finite (node (axis t a) i) ≡ true
-  pub rising : (a i : ℕ) → a < axes t → i + 1 < length (axis t a) → lt (node (axis t a) i) (node (axis t a) (i + 1)) ≡ true
-  pub gaps : (a i : ℕ) → a < axes t → i + 1 < length (axis t a) → finite (gap (axis t a) i) ≡ true
+  pub rising : (a : ℕ) → a < axes t → Axis (axis t a)
   pub finite-values : (i : ℕ) → i < length (t .values .list) → finite (getD (t .values .list) i nan) ≡ true
 
 -- a finite reading in range, on one axis; and one on each
@@ -149,90 +149,30 @@ write t out = (
 abbrev pub record-of : Table → List ℕ → Answer
 record-of t rec = recordAnswer (t .shape) (t .nodes .list) (t .values .list) rec
 
--- ==== Demand 1
+-- the primitives on one axis that take a reading; the others take no axis or no reading (utils/specs/Calls.antt)
+abbrev pub EveryPrimitive : ((List Float → Float → Answer) → Type 0) → Type 0
+EveryPrimitive P =
+    P (λ nodes p. locateLowerIndex nodes p .answer) × (((lower : ℕ) → P (λ nodes p. exactIndex nodes lower p .answer))
+    × (P (λ nodes p. locateAxis nodes p .answer) × ((direction : ℕ) → P (λ nodes p. locateStepIndex direction nodes p .answer))))
 
--- "Each public call judges the table and reading it is lent."
-abbrev pub LookupsJudge : Type 0
-LookupsJudge = EveryLookup (λ lookup. (t : Table) (ps : Floats) → lookup t ps .number ≡ 0 → Accepted t × InRange t ps)
+-- ==== What is said of any of them
 
-abbrev pub DirectionsJudged : Type 0
-DirectionsJudged = (t : Table) (ps : Floats) → (linearUniform t ps .number ≡ 0 → Uniform t) × ((ds : List ℕ) → step ds t ps .number ≡ 0 → Directed t ds)
-
-abbrev pub SlicesJudge : Type 0
-SlicesJudge =
-    EverySlice (λ slice. (t : Table) (k : ℕ) (p : Float) (out : List Float) → slice t k p out .0 .answer .number ≡ 0
-    → Accepted t × ((1 < axes t) × ((k < axes t) × Within t k p)))
-
--- .. the loader: a table that is lent from the fronts of its outputs is an accepted one
-abbrev pub LoadJudges : Type 0
-LoadJudges = (img : List ℕ) (ns vs : List Float) (t : Table) → load img ns vs .0 .answer .number ≡ 0
-    → t .shape ≡ load img ns vs .0 .shape → t .nodes .list ≡ take (total (counts t)) (load img ns vs .1 .0) → t .values .list ≡ take (size (counts t)) (load img ns vs .1 .1)
-    → Accepted t
-
-abbrev pub WriteJudges : Type 0
-WriteJudges = (t : Table) (out : List ℕ) → write t out .0 .answer .number ≡ 0 → Accepted t
-
-abbrev pub RecordJudges : Type 0
-RecordJudges = (t : Table) (rec : List ℕ) → record-of t rec .number ≡ 0 → Accepted t × (length rec ≡ recordSize (t .shape))
-
--- "A refusal gives its number, axis and place, with value +0.0"; a success is 0, 0, 0
+-- "A refusal gives its number, axis and place, with value +0.0"; "Success is 0, 0, 0"
 abbrev pub Tells : Answer → Type 0
 Tells a = ((a .number ≡ 0 → ⊥) → a .value ≡ plusZero) × (a .number ≡ 0 → (a .axis ≡ 0) × (a .place ≡ 0))
-
-abbrev pub LookupsTell : Type 0
-LookupsTell = EveryLookup (λ lookup. (t : Table) (ps : Floats) → Tells (lookup t ps)) × ((t : Table) (rec : List ℕ) → Tells (record-of t rec))
-
--- .. and "every lent buffer stays as it was"
-abbrev pub SlicesKeep : Type 0
-SlicesKeep =
-    EverySlice (λ slice. (t : Table) (k : ℕ) (p : Float) (out : List Float) → Tells (slice t k p out .0 .answer)
-    × ((slice t k p out .0 .answer .number ≡ 0 → ⊥) → (slice t k p out .0 .shape ≡ noShape) × (slice t k p out .1 ≡ out)))
-
-abbrev pub LoadKeeps : Type 0
-LoadKeeps = (img : List ℕ) (ns vs : List Float) → Tells (load img ns vs .0 .answer)
-    × ((load img ns vs .0 .answer .number ≡ 0 → ⊥) → (load img ns vs .0 .shape ≡ noShape) × ((load img ns vs .1 .0 ≡ ns) × (load img ns vs .1 .1 ≡ vs)))
-
-abbrev pub WriteKeeps : Type 0
-WriteKeeps = (t : Table) (out : List ℕ) → Tells (write t out .0 .answer) × ((write t out .0 .answer .number ≡ 0 → ⊥) → (write t out .0 .length ≡ 0) × (write t out .1 ≡ out))
-
--- ==== Demand 2
 
 -- the Rust's strategies, lent the same table: its values' shape and elements, its grid, and the point
 abbrev pub rustOf : (List ℕ → (List ℕ → Float) → List (List Float) → List Float → Float) → Table → Floats → Float
 rustOf text t ps = text (counts t) (stored t) (axesOf (counts t) (t .nodes .list)) (ps .list)
 
--- "On each accepted table, for finite readings in range, Linear, .. Nearest and Step give the Rust's bits in N dimensions": these three always, so they are finite
-abbrev pub LinearGives : Type 0
-LinearGives = (t : Table) (ps : Floats) → Accepted t → InRange t ps → (linear t ps ≡ answered (rustOf linearText t ps)) × (finite (rustOf linearText t ps) ≡ true)
-
-abbrev pub NearestGives : Type 0
-NearestGives = (t : Table) (ps : Floats) → Accepted t → InRange t ps → nearest t ps ≡ answered (rustOf nearestText t ps)
-
-abbrev pub StepGives : Type 0
-StepGives = (t : Table) (ps : Floats) (ds : List ℕ) → Accepted t → InRange t ps → Directed t ds → step ds t ps ≡ answered (rustOf (stepText ds) t ps)
-
--- LinearUniform ".. or refusal 12 exactly where those bits are not finite", which does happen
-abbrev pub LinearUniformGives : Type 0
-LinearUniformGives = (t : Table) (ps : Floats) → Accepted t → Uniform t → InRange t ps
-    → (finite (rustOf linearUniformText t ps) ≡ true → linearUniform t ps ≡ answered (rustOf linearUniformText t ps))
-    × (finite (rustOf linearUniformText t ps) ≡ false → linearUniform t ps ≡ refused (refusal 12 0 0))
-
-pub record LinearUniformOverflows : Type 0 where
+-- a table on which LinearUniform refuses 12
+pub record Overflows : Type 0 where
   pub t : Table
   pub ps : Floats
   pub accepted : Accepted t
   pub uniform : Uniform t
   pub in-range : InRange t ps
   pub refusal-12 : linearUniform t ps ≡ refused (refusal 12 0 0)
-
--- "An image written and loaded gives the table back.": a write, then a load of the first bytes of its output; counts past the axes come back as zeros
-abbrev pub ImageReturns : Type 0
-ImageReturns = (t : Table) (out : List ℕ) (ns vs : List Float) → Accepted t → imageLength (t .shape) ≤ length out → total (counts t) ≤ length ns → size (counts t) ≤ length vs
-    → (write t out .0 ≡ record { answer = fine; length = imageLength (t .shape) })
-    × (load (take (write t out .0 .length) (write t out .1)) ns vs
-    ≡ (record { answer = fine; shape = plain (t .shape) }, (t .nodes .list ++ drop (length (t .nodes .list)) ns, t .values .list ++ drop (length (t .values .list)) vs)))
-
--- ==== Demand 3
 
 -- what a slice on axis k leaves, lent as a table: the shape that it answers, the nodes of the other axes, the first places of its output
 pub record After (t : Table) (k : ℕ) (made : SliceAnswer × List Float) (t' : Table) : Type 0 where
@@ -248,25 +188,13 @@ pub record Sliceable (t : Table) (k : ℕ) (p : Float) (out : List Float) : Type
   pub inside : Within t k p
   pub room : size (without k (counts t)) ≤ length out
 
--- .. is made: "on its first axis"; "For Nearest and Step any axis will do"; LinearUniform's may be refused 12
-abbrev pub SlicesMade : Type 0
-SlicesMade = (t : Table) (k : ℕ) (p : Float) (out : List Float) → Sliceable t k p out
-    → (k ≡ 0 → sliceLinear t k p out .0 .answer ≡ fine)
-    × ((k ≡ 0 → Uniform t → (sliceLinearUniform t k p out .0 .answer .number ≡ 0) ⊎ (sliceLinearUniform t k p out .0 .answer .number ≡ 12))
-    × ((sliceNearest t k p out .0 .answer ≡ fine)
-    × ((ds : List ℕ) → Directed t ds → sliceStep ds t k p out .0 .answer ≡ fine)))
-
--- .. "answers every remaining reading as the whole table does, bit for bit or with the same refusal (axes in 10 and 11 one lower)": a slice, then a lookup
+-- a slice, then a lookup in what it left: as the whole table answers, axes in 10 and 11 one lower
 abbrev pub Answers : Lookup → (ℕ → Lookup) → Slice → Type 0
 Answers whole left slice = (t t' : Table) (k : ℕ) (p : Float) (out : List Float) → slice t k p out .0 .answer .number ≡ 0 → After t k (slice t k p out) t'
     → (ps all : Floats) → all .list ≡ insert k p (ps .list) → left k t' ps ≡ lowered k (whole t all)
 
-abbrev pub SlicesAnswer : Type 0
-SlicesAnswer =
-    Answers linear (λ k. linear) sliceLinear × (Answers linearUniform (λ k. linearUniform) sliceLinearUniform
-    × (Answers nearest (λ k. nearest) sliceNearest × ((ds : List ℕ) → Answers (step ds) (λ k. step (without k ds)) (sliceStep ds))))
-
--- "two slices on different axes commute": axes k and suc m, where the second is m once k is gone. For every room of the second slice, answers and outputs are equal
+-- two slices on different axes, k and suc m, where the second is m once k is gone: for every room of the second slice, answers and outputs are equal in either
+-- order, and so are the nodes that are left; on a table of two axes the second slice is 16 in either order
 abbrev pub Commute : Slice → (ℕ → Slice) → Type 0
 Commute slice left = (t one other : Table) (k m : ℕ) (p q : Float) (out out' again : List Float) → k ≤ m
     → slice t k p out .0 .answer .number ≡ 0 → slice t (suc m) q out' .0 .answer .number ≡ 0 → After t k (slice t k p out) one → After t (suc m) (slice t (suc m) q out') other
@@ -274,16 +202,72 @@ Commute slice left = (t one other : Table) (k m : ℕ) (p q : Float) (out out' a
     × ((nodesWithout m (counts one) (one .nodes .list) ≡ nodesWithout k (counts other) (other .nodes .list))
     × (axes t ≡ 2 → left k one m q again .0 .answer ≡ refused (refusal 16 0 0)))
 
-abbrev pub SlicesCommute : Type 0
-SlicesCommute = Commute sliceNearest (λ k. sliceNearest) × ((ds : List ℕ) → Commute (sliceStep ds) (λ k. sliceStep (without k ds)))
-
--- "Where every reading is a node, Linear, Nearest and Step return the stored bits."
+-- every reading is a node, by its place on its axis
 pub record OnNodes (t : Table) (ps : Floats) (at : ℕ → ℕ) : Type 0 where
   pub lent : length (ps .list) ≡ axes t
   pub there : (a : ℕ) → a < axes t → at a < length (axis t a)
   pub on : (a : ℕ) → a < axes t → eq (node (axis t a) (at a)) (getD (ps .list) a nan) ≡ true
 
-abbrev pub StoredBits : Type 0
-StoredBits = (t : Table) (ps : Floats) (at : ℕ → ℕ) → Accepted t → OnNodes t ps at
-    → (linear t ps ≡ answered (stored t (tabulate (axes t) at)))
-    × ((nearest t ps ≡ answered (stored t (tabulate (axes t) at))) × ((ds : List ℕ) → Directed t ds → step ds t ps ≡ answered (stored t (tabulate (axes t) at))))
+-- ==== The demands
+
+pub record Demand1 : Type 0 where
+  -- "Each public call judges the table and reading it is lent."
+  pub lookups-judge : EveryLookup (λ lookup. (t : Table) (ps : Floats) → lookup t ps .number ≡ 0 → Accepted t × InRange t ps)
+  pub uniform-judged : (t : Table) (ps : Floats) → linearUniform t ps .number ≡ 0 → Uniform t
+  pub directions-judged : (t : Table) (ps : Floats) (ds : List ℕ) → step ds t ps .number ≡ 0 → Directed t ds
+  pub slices-judge : EverySlice (λ slice. (t : Table) (k : ℕ) (p : Float) (out : List Float) → slice t k p out .0 .answer .number ≡ 0
+      → Accepted t × ((1 < axes t) × ((k < axes t) × Within t k p)))
+  -- .. a table that is lent from the fronts of the loader's outputs is an accepted one
+  pub load-judges : (img : List ℕ) (ns vs : List Float) (t : Table) → load img ns vs .0 .answer .number ≡ 0 → t .shape ≡ load img ns vs .0 .shape
+      → t .nodes .list ≡ take (total (counts t)) (load img ns vs .1 .0) → t .values .list ≡ take (size (counts t)) (load img ns vs .1 .1) → Accepted t
+  pub write-judges : (t : Table) (out : List ℕ) → write t out .0 .answer .number ≡ 0 → Accepted t
+  pub record-judges : (t : Table) (rec : List ℕ) → record-of t rec .number ≡ 0 → Accepted t × (length rec ≡ recordSize (t .shape))
+  pub primitives-judge : EveryPrimitive (λ call. (nodes : List Float) (p : Float) → call nodes p .number ≡ 0 → Axis nodes × (finite p ≡ true))
+  -- "A refusal gives its number, axis and place, with value +0.0"
+  pub lookups-tell : EveryLookup (λ lookup. (t : Table) (ps : Floats) → Tells (lookup t ps))
+  pub record-tells : (t : Table) (rec : List ℕ) → Tells (record-of t rec)
+  pub primitives-tell : EveryPrimitive (λ call. (nodes : List Float) (p : Float) → Tells (call nodes p))
+  -- "and every lent buffer stays as it was"
+  pub slices-keep : EverySlice (λ slice. (t : Table) (k : ℕ) (p : Float) (out : List Float) → Tells (slice t k p out .0 .answer)
+      × ((slice t k p out .0 .answer .number ≡ 0 → ⊥) → (slice t k p out .0 .shape ≡ noShape) × (slice t k p out .1 ≡ out)))
+  pub load-keeps : (img : List ℕ) (ns vs : List Float) → Tells (load img ns vs .0 .answer)
+      × ((load img ns vs .0 .answer .number ≡ 0 → ⊥) → (load img ns vs .0 .shape ≡ noShape) × ((load img ns vs .1 .0 ≡ ns) × (load img ns vs .1 .1 ≡ vs)))
+  pub write-keeps : (t : Table) (out : List ℕ) → Tells (write t out .0 .answer)
+      × ((write t out .0 .answer .number ≡ 0 → ⊥) → (write t out .0 .length ≡ 0) × (write t out .1 ≡ out))
+
+pub record Demand2 : Type 0 where
+  -- "On each accepted table, for finite readings in range, Linear, .. Nearest and Step give the Rust's bits in N dimensions": these three always
+  pub linear-gives : (t : Table) (ps : Floats) → Accepted t → InRange t ps → (linear t ps ≡ answered (rustOf linearText t ps)) × (finite (rustOf linearText t ps) ≡ true)
+  pub nearest-gives : (t : Table) (ps : Floats) → Accepted t → InRange t ps → nearest t ps ≡ answered (rustOf nearestText t ps)
+  pub step-gives : (t : Table) (ps : Floats) (ds : List ℕ) → Accepted t → InRange t ps → Directed t ds → step ds t ps ≡ answered (rustOf (stepText ds) t ps)
+  -- LinearUniform ".. or refusal 12 exactly where those bits are not finite", which does happen
+  pub linear-uniform-gives : (t : Table) (ps : Floats) → Accepted t → Uniform t → InRange t ps
+      → (finite (rustOf linearUniformText t ps) ≡ true → linearUniform t ps ≡ answered (rustOf linearUniformText t ps))
+      × (finite (rustOf linearUniformText t ps) ≡ false → linearUniform t ps ≡ refused (refusal 12 0 0))
+  pub linear-uniform-overflows : Overflows
+  -- "An image written and loaded gives the table back.": a write, then a load of the first bytes of its output; counts past the axes come back as zeros
+  pub image-returns : (t : Table) (out : List ℕ) (ns vs : List Float)
+      → Accepted t → imageLength (t .shape) ≤ length out → total (counts t) ≤ length ns → size (counts t) ≤ length vs
+      → (write t out .0 ≡ record { answer = fine; length = imageLength (t .shape) })
+      × (load (take (write t out .0 .length) (write t out .1)) ns vs
+      ≡ (record { answer = fine; shape = plain (t .shape) }, (t .nodes .list ++ drop (length (t .nodes .list)) ns, t .values .list ++ drop (length (t .values .list)) vs)))
+
+pub record Demand3 : Type 0 where
+  -- "A slice of an accepted table at an in-range reading on its first axis" is made; "For Nearest and Step any axis will do"; LinearUniform's may be refused 12
+  pub linear-slices : (t : Table) (p : Float) (out : List Float) → Sliceable t 0 p out → sliceLinear t 0 p out .0 .answer ≡ fine
+  pub linear-uniform-slices : (t : Table) (p : Float) (out : List Float) → Sliceable t 0 p out → Uniform t
+      → (sliceLinearUniform t 0 p out .0 .answer .number ≡ 0) ⊎ (sliceLinearUniform t 0 p out .0 .answer .number ≡ 12)
+  pub nearest-slices : (t : Table) (k : ℕ) (p : Float) (out : List Float) → Sliceable t k p out → sliceNearest t k p out .0 .answer ≡ fine
+  pub step-slices : (t : Table) (k : ℕ) (p : Float) (out : List Float) (ds : List ℕ) → Sliceable t k p out → Directed t ds → sliceStep ds t k p out .0 .answer ≡ fine
+  -- .. "answers every remaining reading as the whole table does, bit for bit or with the same refusal (axes in 10 and 11 one lower)"
+  pub linear-answers : Answers linear (λ k. linear) sliceLinear
+  pub linear-uniform-answers : Answers linearUniform (λ k. linearUniform) sliceLinearUniform
+  pub nearest-answers : Answers nearest (λ k. nearest) sliceNearest
+  pub step-answers : (ds : List ℕ) → Answers (step ds) (λ k. step (without k ds)) (sliceStep ds)
+  -- "two slices on different axes commute"
+  pub nearest-commute : Commute sliceNearest (λ k. sliceNearest)
+  pub step-commute : (ds : List ℕ) → Commute (sliceStep ds) (λ k. sliceStep (without k ds))
+  -- "Where every reading is a node, Linear, Nearest and Step return the stored bits."
+  pub linear-stored : (t : Table) (ps : Floats) (at : ℕ → ℕ) → Accepted t → OnNodes t ps at → linear t ps ≡ answered (stored t (tabulate (axes t) at))
+  pub nearest-stored : (t : Table) (ps : Floats) (at : ℕ → ℕ) → Accepted t → OnNodes t ps at → nearest t ps ≡ answered (stored t (tabulate (axes t) at))
+  pub step-stored : (t : Table) (ps : Floats) (at : ℕ → ℕ) (ds : List ℕ) → Accepted t → OnNodes t ps at → Directed t ds → step ds t ps ≡ answered (stored t (tabulate (axes t) at))

@@ -5,13 +5,15 @@ use Prim.Native.Nat.{ℕ, _≤_, _<_}
 use native.Mathlib.Omega.{arith}
 use lib.ListN.{length, getD}
 use lib.Ieee.{Float, nan}
-use Rattle.answer.specs.Faults.{firstOf}
+use Rattle.answer.specs.Faults.{good, firstOf}
+use Rattle.answer.specs.Answer.{answered}
+use Rattle.answer.proofs.Orders as orders
 use Rattle.layout.specs.Shape.{countsOf}
 use Rattle.layout.specs.Layout.{axesOf, table, tabulate, axisOf}
 use Rattle.layout.specs.declared.Shape.{Shape}
 use Rattle.layout.proofs.Walks.{length-axes}
 use Rattle.layout.proofs.Layouts.{tabulate-same}
-use Rattle.rust.specs.Utils.{locateAxis, locateStepIndex}
+use Rattle.rust.specs.Utils.{locateAxis, locateStepIndex, ok}
 use Rattle.rust.specs.Strategies.{zipped, linearText, validateLinearUniform, linearUniformText, nearestAt, nearestText, stepText}
 use Rattle.rust.specs.Located.{rustLinear}
 use Rattle.rust.specs.declared.AxisLocation.{AxisLocation}
@@ -20,13 +22,16 @@ use Rattle.checks.specs.Passed.{Axis}
 use Rattle.checks.specs.Numbers.{defaultFault, axesUniformFault}
 use Rattle.checks.proofs.table.Grids.{length-axis, grid-of}
 use Rattle.axis.specs.Locations.{axisLocation, uniformLocation}
-use Rattle.axis.specs.Picks.{nearestRule, stepRule}
+use Rattle.axis.specs.Picks.{rustStep, nearestRule, stepRule}
+use Rattle.axis.proofs.picks.Nodes.{step-rust}
 use Rattle.axis.proofs.Texts.{uniformRow, validate-axes-text, axis-text, step-index-text, nearest-index-text, uniform-axis-text}
+use Rattle.blend.specs.Blend.{computed}
 use Rattle.blend.proofs.Bits.{rust-linear}
-use Rattle.ninterp.specs.Tables.{indices, picked}
-use Rattle.ninterp.specs.Linears.{locations, interpolated}
+use Rattle.ninterp.specs.Tables.{indices, picked, nearestAnswer, stepAnswer}
+use Rattle.ninterp.specs.Linears.{locations, interpolated, linearAnswer, linearUniformAnswer}
 use Rattle.ninterp.proofs.Demands as demands
 use Rattle.ninterp.proofs.Demands.{Accepted, InRange}
+use Rattle.ninterp.proofs.LinearDemands.{linear-demand, linear-uniform-demand}
 
 module _ (s : Shape) (nodes values readings : List Float) (t : Accepted s nodes values) (r : InRange s nodes readings) where
   counted : length (countsOf s) ≡ s .axes
@@ -102,3 +107,30 @@ module _ (s : Shape) (nodes values readings : List Float) (t : Accepted s nodes 
       ap (table (countsOf s) values)
       (same-rule (λ a. locateStepIndex (getD directions a 0)) (stepRule directions) (λ a l. step-index-text (axisOf s nodes a) (getD readings a nan) (good-axis a l) (r .finites a l) (getD directions a 0)) (length (countsOf s)) counted
       ∙ ap (λ (n : ℕ). tabulate n (λ a. stepRule directions a (axisOf s nodes a) (getD readings a nan))) (sym (length-axes (countsOf s) nodes)))
+
+  -- ---- demand 2, over the whole text: what a lookup answers is what the Rust gives from the readings on
+  pub linear-demand-text : linearAnswer s nodes values readings ≡ computed (linearText (countsOf s) (table (countsOf s) values) (axesOf (countsOf s) nodes) readings)
+  unfolding interpolated
+  linear-demand-text =
+      linear-demand s nodes values readings t r
+      ∙ ap computed (rust-linear (locations axisLocation (axesOf (countsOf s) nodes) readings) (table (countsOf s) values) ∙ sym linear-text)
+
+  pub linear-uniform-demand-text : validateLinearUniform (axesOf (countsOf s) nodes) ≡ ok
+      → linearUniformAnswer s nodes values readings ≡ computed (linearUniformText (countsOf s) (table (countsOf s) values) (axesOf (countsOf s) nodes) readings)
+  unfolding interpolated
+  linear-uniform-demand-text e =
+      linear-uniform-demand s nodes values readings t r (ap good (validate-linear-uniform-text ∙ ap uniformRow e) ∙ orders.good-no-fault)
+      ∙ ap computed (rust-linear (locations uniformLocation (axesOf (countsOf s) nodes) readings) (table (countsOf s) values) ∙ sym linear-uniform-text)
+
+  pub nearest-demand-text : nearestAnswer s nodes values readings ≡ answered (nearestText (countsOf s) (table (countsOf s) values) (axesOf (countsOf s) nodes) readings)
+  unfolding picked
+  nearest-demand-text = demands.nearest-demand s nodes values readings t r ∙ ap answered (sym nearest-text)
+
+  pub step-demand-text : (directions : List ℕ) → length directions ≡ s .axes → ((a : ℕ) → a < s .axes → getD directions a 0 < 2)
+      → stepAnswer s nodes values readings directions ≡ answered (stepText directions (countsOf s) (table (countsOf s) values) (axesOf (countsOf s) nodes) readings)
+  unfolding picked indices
+  step-demand-text directions lent two =
+      demands.step-demand s nodes values readings t r directions lent two
+      ∙ ap (λ is. answered (table (countsOf s) values is))
+      (same-rule (λ a xs p. rustStep (getD directions a 0) xs p) (stepRule directions) (λ a l. sym (step-rust (axisOf s nodes a) (getD readings a nan) (good-axis a l) (r .finites a l) (getD directions a 0))) (length (axesOf (countsOf s) nodes)) axes-count)
+      ∙ ap answered (sym (step-text directions))

@@ -39,7 +39,7 @@ use Rattle.writer.specs.Write.{writeFault, writeAnswer, plain}
 use Rattle.writer.proofs.Laws.{write-accepts}
 use Rattle.writer.proofs.Trip.{answer-back, nodes-returned, values-returned}
 use Rattle.laws.specs.Promises.{Floats, Table, axes, counts, axis, stored, Accepted, Within, InRange, Directed, Uniform, linear, linearUniform, nearest, step, rustOf, write, load, OnNodes}
-use Rattle.laws.proofs.Premises.{counted, passes, axis-good, readings-pass, uniform-passes}
+use Rattle.laws.proofs.Premises.{counted, passes, readings-pass, uniform-passes}
 
 -- ---- the Rust's bits
 module _ (t : Table) (ps : Floats) (g : Accepted t) (r : InRange t ps) where
@@ -124,7 +124,7 @@ eq-finite (fin s m k) (fin z n l) f e = refl
 module _ (t : Table) (ps : Floats) (at : ℕ → ℕ) (g : Accepted t) (o : OnNodes t ps at) where
   module _ (a : ℕ) (l : a < axes t) where
     ax : Axis (axis t a)
-    ax = axis-good t g a l
+    ax = g .rising a l
 
     p-finite : finite (getD (ps .list) a nan) ≡ true
     p-finite = eq-finite (node (axis t a) (at a)) (getD (ps .list) a nan) (ax .finites (at a) (o .there a l)) (o .on a l)

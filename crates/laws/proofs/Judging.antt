@@ -39,7 +39,7 @@ use Rattle.writer.proofs.Trip.{loaded-frame}
 use Rattle.ninterp.proofs.Demands as passed
 use Rattle.laws.specs.Promises.{Floats, Table, axes, counts, axis, Accepted, Within, InRange, Directed, Uniform, Tells, load, write}
 use Rattle.laws.proofs.Left.{front-accepted}
-use Rattle.laws.proofs.Premises.{then-number, accepted, axis-good, in-range, within, uniform, directed}
+use Rattle.laws.proofs.Premises.{then-number, accepted, in-range, within, uniform, directed}
 
 -- ---- the lookups
 module _ (t : Table) (ps : Floats) where
@@ -91,7 +91,7 @@ module _ (t : Table) (k : ℕ) (p : Float) (room : ℕ) where
   sliced : Fronted (t .shape) (t .nodes .list) (t .values .list) → Ready (t .shape) (t .nodes .list) (t .values .list) k → good (pointFault (t .shape) (t .nodes .list) k p room) ≡ true → Sliced
   sliced f r point =
       let g : Accepted t = accepted t (front-accepted f) in
-      (g, (r .many, (r .within, within t k p (axis-good t g k (r .within)) k (point-taken (t .shape) (t .nodes .list) k p room point .finite-point) (point-range (t .shape) (t .nodes .list) k p room point))))
+      (g, (r .many, (r .within, within t k p (g .rising k (r .within)) k (point-taken (t .shape) (t .nodes .list) k p room point .finite-point) (point-range (t .shape) (t .nodes .list) k p room point))))
 
   pub nearest-judged : good (nearestSliceFault (t .shape) (t .nodes .list) (t .values .list) k p room) ≡ true → Sliced
   unfolding nearestSliceFault

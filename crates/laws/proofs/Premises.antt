@@ -50,17 +50,8 @@ module _ (t : Table) where
   pub counted : axes t ≤ 4 → length (counts t) ≡ axes t
   counted h = length-take-le (axes t) (t .shape .counts) (omega (arith, h, t .four))
 
-  pub axis-good : Accepted t → (a : ℕ) → a < axes t → Axis (axis t a)
-  axis-good g a l = record {
-    enough = g .enough a l .0;
-    few = g .enough a l .1;
-    finites = λ i h. g .finite-nodes a i l h;
-    rises = λ i h. g .rising a i l h;
-    gaps = λ i h. g .gaps a i l h;
-  }
-
   pub passes : Accepted t → passed.Accepted (t .shape) (t .nodes .list) (t .values .list)
-  passes g = accepts (t .shape) (t .nodes .list) (t .values .list) (counted (g .few)) (g .some) (g .few) (g .nodes-lent) (g .small) (g .values-lent) (axis-good g) values-good
+  passes g = accepts (t .shape) (t .nodes .list) (t .values .list) (counted (g .few)) (g .some) (g .few) (g .nodes-lent) (g .small) (g .values-lent) (g .rising) values-good
     where
       values-good : good (valuesFault (t .values .list)) ≡ true
       values-good = unfold valuesFault in (ap good (orders.none-good (valueFault (t .values .list)) 0 (length (t .values .list)) (λ i l m. value-good (t .values .list) i (g .finite-values i (omega (arith, m))))) ∙ orders.good-no-fault)
@@ -73,10 +64,7 @@ module _ (t : Table) where
         small = grid .small;
         nodes-lent = grid .flat;
         values-lent = frame-values (t .shape) (t .nodes .list) (t .values .list) (p .frame);
-        enough = λ a l. (at a l .enough, at a l .few);
-        finite-nodes = λ a i l h. at a l .finites i h;
-        rising = λ a i l h. at a l .rises i h;
-        gaps = λ a i l h. at a l .gaps i h;
+        rising = at;
         finite-values = values-finite (t .values .list) (p .stored);
       }
     where
@@ -130,7 +118,7 @@ module _ (t : Table) where
 
         each : (a : ℕ) → a < axes t → Within t a (getD (ps .list) a nan)
         each a l =
-            within a (getD (ps .list) a nan) (axis-good g a l) a (readings-finite (ps .list) f a (omega (arith, l, lent)))
+            within a (getD (ps .list) a nan) (g .rising a l) a (readings-finite (ps .list) f a (omega (arith, l, lent)))
             (orders.all-passed (λ b. rangeFault b (getD (axesOf (counts t) (t .nodes .list)) b []) (getD (ps .list) b nan)) 0 (length (counts t)) r a (omega arith) (omega (arith, l, counted (g .few))))
 
   -- ---- uniform axes: the Rust's own check is 8 for all axes
@@ -138,7 +126,7 @@ module _ (t : Table) where
   unfolding axesUniformFault
   uniform-row g =
       ap (firstOf (λ a. defaultFault a (axis t a)) 0) (sym (length-axes (counts t) (t .nodes .list)))
-      ∙ validate-axes-text (axesOf (counts t) (t .nodes .list)) (λ a l. axis-good g a (omega (arith, l, length-axes (counts t) (t .nodes .list), counted (g .few))))
+      ∙ validate-axes-text (axesOf (counts t) (t .nodes .list)) (λ a l. g .rising a (omega (arith, l, length-axes (counts t) (t .nodes .list), counted (g .few))))
 
   pub uniform-passes : Accepted t → Uniform t → good (axesUniformFault (counts t) (t .nodes .list)) ≡ true
   uniform-passes g u = ap good (uniform-row g ∙ ap uniformRow u) ∙ orders.good-no-fault

@@ -12,19 +12,23 @@ use Rattle.answer.specs.Answer.{refused, answered, fine, _then_}
 use Rattle.answer.specs.declared.Fault.{Fault}
 use Rattle.answer.specs.declared.Answer.{Answer}
 use Rattle.answer.proofs.Orders as orders
-use Rattle.answer.proofs.Answers.{then-good, then-bad}
-use Rattle.checks.specs.Numbers.{rangeFault, resultFault, resultsFault}
-use Rattle.checks.proofs.numbers.Rows.{result-fine, result-wild}
-use Rattle.axis.specs.Locations.{uniformLocation}
+use Rattle.answer.proofs.Answers.{Quiet, then-good, then-bad}
+use Rattle.checks.specs.Passed.{Axis}
+use Rattle.checks.specs.Shapes.{axisFault}
+use Rattle.checks.specs.Numbers.{readingFault, rangeFault, resultFault, resultsFault}
+use Rattle.checks.proofs.nodes.Rows.{axis-of}
+use Rattle.checks.proofs.numbers.Rows.{reading-finite, result-fine, result-wild}
+use Rattle.utils.specs.Calls.{locateLowerIndex, exactIndex, locateAxis, locateStepIndex, indexAnswer, exactAnswer, axisAnswer, axisReadingFault, exactFault, locateFault, directedFault}
+use Rattle.utils.proofs.Refusals.{lower-index-quiet, exact-index-quiet, locate-axis-quiet, step-index-quiet}
 use Rattle.ninterp.specs.Tables.{nearestAnswer, stepAnswer}
 use Rattle.ninterp.specs.Linears.{linearAnswer, linearUniformAnswer}
 use Rattle.ninterp.specs.Records.{recordAnswer}
 use Rattle.ninterp.proofs.Refusals.{nearest-told, step-told, linear-told, linear-uniform-told, record-told}
 use Rattle.ninterp.proofs.UniformOverflow as wide
 use Rattle.slices.specs.Slices.{sliceAnswer, nearestSlice, nearestSliced, stepSlice, stepSliced}
-use Rattle.slices.specs.LinearSlices.{linearValues, linearSliceFault, linearUniformSliceFault, linearSlice, linearSliced, linearUniformSlice, linearUniformSliced}
-use Rattle.laws.specs.Promises.{Floats, Table, axis, Accepted, Uniform, Sliceable, LookupsJudge, DirectionsJudged, SlicesJudge, LoadJudges, WriteJudges, RecordJudges, LookupsTell, SlicesKeep, LoadKeeps, WriteKeeps, LinearGives, NearestGives, StepGives, LinearUniformGives, LinearUniformOverflows, ImageReturns, SlicesMade, SlicesAnswer, SlicesCommute, StoredBits}
-use Rattle.laws.proofs.Premises.{then-number, passes, accepted, in-range, uniform, uniform-passes, range-passes, axis-good, directed-lent, directed-passes}
+use Rattle.slices.specs.LinearSlices.{linearSlice, linearSliced, linearUniformSlice, linearUniformSliced}
+use Rattle.laws.specs.Promises.{Floats, Table, axis, Accepted, Sliceable, Tells, Overflows, Demand1, Demand2, Demand3}
+use Rattle.laws.proofs.Premises.{then-number, passes, accepted, in-range, uniform, uniform-passes, range-passes, directed-lent, directed-passes}
 use Rattle.laws.proofs.Judging as judging
 use Rattle.laws.proofs.Giving as giving
 use Rattle.laws.proofs.Slicing as slicing
@@ -33,50 +37,50 @@ use Rattle.laws.proofs.Commuting as commuting
 use Rattle.laws.proofs.Makes.{nearest-slice-made, step-slice-made, linear-uniform-slice-made}
 use Rattle.laws.proofs.LinearMakes.{linear-slice-always}
 
--- ==== Demand 1
-pub lookups-judge : LookupsJudge
-unfolding linearAnswer linearUniformAnswer nearestAnswer stepAnswer
-lookups-judge = (
-  λ t ps h. judging.lookup-judged t ps (then-number _ _ h),
-  (
-    λ t ps h. judging.uniform-judged t ps (then-number _ _ h) .0,
+-- ---- what a primitive judges
+primitive-judged : (nodes : List Float) (p : Float) → good (axisFault nodes) ≡ true → good (readingFault 0 p) ≡ true → Axis nodes × (finite p ≡ true)
+primitive-judged nodes p a r = (axis-of nodes a, reading-finite 0 p r)
+
+quiet-told : {a : Answer} → Quiet a → Tells a
+unfolding fine answered
+quiet-told q = (λ h. q .empty, λ h. (ap (λ (x : Answer). x .axis) (q .clear h), ap (λ (x : Answer). x .place) (q .clear h)))
+
+pub demand-1 : Demand1
+unfolding linearAnswer linearUniformAnswer nearestAnswer stepAnswer recordAnswer linearSlice linearSliced linearUniformSlice linearUniformSliced nearestSlice nearestSliced stepSlice stepSliced locateLowerIndex exactIndex locateAxis locateStepIndex indexAnswer exactAnswer axisAnswer axisReadingFault exactFault locateFault directedFault
+demand-1 = record {
+  lookups-judge = (
+    λ t ps h. judging.lookup-judged t ps (then-number _ _ h),
     (
-      λ t ps h. judging.lookup-judged t ps (then-number _ _ h),
-      λ ds t ps h. judging.step-judged t ps ds (then-number _ _ h) .0,
+      λ t ps h. judging.uniform-judged t ps (then-number _ _ h) .0,
+      (λ t ps h. judging.lookup-judged t ps (then-number _ _ h), λ ds t ps h. judging.step-judged t ps ds (then-number _ _ h) .0),
     ),
-  ),
-)
-
-pub directions-judged : DirectionsJudged
-unfolding linearUniformAnswer stepAnswer
-directions-judged t ps = (λ h. judging.uniform-judged t ps (then-number _ _ h) .1, λ ds h. judging.step-judged t ps ds (then-number _ _ h) .1)
-
-pub slices-judge : SlicesJudge
-unfolding linearSlice linearUniformSlice nearestSlice stepSlice
-slices-judge = (
-  λ t k p out h. judging.linear-slice-judged t k p (length out) (slice-good _ (t .shape) k h),
-  (
-    λ t k p out h. judging.uniform-slice-judged t k p (length out) (slice-good _ (t .shape) k h),
+  );
+  uniform-judged = λ t ps h. judging.uniform-judged t ps (then-number _ _ h) .1;
+  directions-judged = λ t ps ds h. judging.step-judged t ps ds (then-number _ _ h) .1;
+  slices-judge = (
+    λ t k p out h. judging.linear-slice-judged t k p (length out) (slice-good _ (t .shape) k h),
     (
-      λ t k p out h. judging.nearest-judged t k p (length out) (slice-good _ (t .shape) k h),
-      λ ds t k p out h. judging.step-slice-judged t k p (length out) ds (slice-good _ (t .shape) k h),
+      λ t k p out h. judging.uniform-slice-judged t k p (length out) (slice-good _ (t .shape) k h),
+      (
+        λ t k p out h. judging.nearest-judged t k p (length out) (slice-good _ (t .shape) k h),
+        λ ds t k p out h. judging.step-slice-judged t k p (length out) ds (slice-good _ (t .shape) k h),
+      ),
     ),
-  ),
-)
-
-pub load-judges : LoadJudges
-load-judges = judging.load-judged
-
-pub write-judges : WriteJudges
-write-judges = judging.write-judged
-
-pub record-judges : RecordJudges
-unfolding recordAnswer
-record-judges t rec h = judging.record-judged t rec (then-number _ _ h)
-
-pub lookups-tell : LookupsTell
-lookups-tell = (
-  (
+  );
+  load-judges = judging.load-judged;
+  write-judges = judging.write-judged;
+  record-judges = λ t rec h. judging.record-judged t rec (then-number _ _ h);
+  primitives-judge = (
+    λ nodes p h. let g = then-number _ fine h in primitive-judged nodes p (orders.first-passed _ _ g) (orders.second-passed _ _ g),
+    (
+      λ lower nodes p h. let g = then-number _ fine h in primitive-judged nodes p (orders.first-passed _ _ g) (orders.second-passed _ _ (orders.second-passed _ _ g)),
+      (
+        λ nodes p h. let g = orders.first-passed _ _ (then-number _ fine h) in primitive-judged nodes p (orders.first-passed _ _ g) (orders.second-passed _ _ g),
+        λ direction nodes p h. let g = then-number _ fine h in primitive-judged nodes p (orders.first-passed _ _ g) (orders.second-passed _ _ (orders.second-passed _ _ g)),
+      ),
+    ),
+  );
+  lookups-tell = (
     λ t ps. judging.tells (linear-told (t .shape) (t .nodes .list) (t .values .list) (ps .list)),
     (
       λ t ps. judging.tells (linear-uniform-told (t .shape) (t .nodes .list) (t .values .list) (ps .list)),
@@ -85,45 +89,23 @@ lookups-tell = (
         λ ds t ps. judging.tells (step-told (t .shape) (t .nodes .list) (t .values .list) (ps .list) ds),
       ),
     ),
-  ),
-  λ t rec. judging.tells (record-told (t .shape) (t .nodes .list) (t .values .list) rec),
-)
-
-pub slices-keep : SlicesKeep
-unfolding linearSlice linearSliced linearUniformSlice linearUniformSliced nearestSlice nearestSliced stepSlice stepSliced
-slices-keep = (
-  λ t k p out. judging.slice-keeps _ (t .shape) k _ out,
-  (
+  );
+  record-tells = λ t rec. judging.tells (record-told (t .shape) (t .nodes .list) (t .values .list) rec);
+  primitives-tell = (
+    λ nodes p. quiet-told (lower-index-quiet nodes p),
+    (λ lower nodes p. quiet-told (exact-index-quiet nodes p lower), (λ nodes p. quiet-told (locate-axis-quiet nodes p), λ direction nodes p. quiet-told (step-index-quiet nodes p direction))),
+  );
+  slices-keep = (
     λ t k p out. judging.slice-keeps _ (t .shape) k _ out,
-    (
-      λ t k p out. judging.slice-keeps _ (t .shape) k _ out,
-      λ ds t k p out. judging.slice-keeps _ (t .shape) k _ out,
-    ),
-  ),
-)
+    (λ t k p out. judging.slice-keeps _ (t .shape) k _ out, (λ t k p out. judging.slice-keeps _ (t .shape) k _ out, λ ds t k p out. judging.slice-keeps _ (t .shape) k _ out)),
+  );
+  load-keeps = judging.load-keeps;
+  write-keeps = judging.write-keeps;
+}
 
-pub load-keeps : LoadKeeps
-load-keeps = judging.load-keeps
-
-pub write-keeps : WriteKeeps
-write-keeps = judging.write-keeps
-
--- ==== Demand 2
-pub linear-gives : LinearGives
-linear-gives = giving.linear-bits
-
-pub nearest-gives : NearestGives
-nearest-gives = giving.nearest-bits
-
-pub step-gives : StepGives
-step-gives t ps ds g r d = giving.step-bits t ps g r ds d
-
-pub linear-uniform-gives : LinearUniformGives
-linear-uniform-gives t ps g u r = giving.uniform-bits t ps g r u
-
--- nodes 0, 1 and 2 + 2^-42, the largest number at the last of them, and the reading there
-pub linear-uniform-overflows : LinearUniformOverflows
-linear-uniform-overflows = record {
+-- ---- nodes 0, 1 and 2 + 2^-42, the largest number at the last of them, and the reading there
+overflows : Overflows
+overflows = record {
   t = big;
   ps = at-last;
   accepted = good-table;
@@ -141,10 +123,15 @@ linear-uniform-overflows = record {
     good-table : Accepted big
     good-table = accepted big wide.wide-accepted
 
-pub image-returns : ImageReturns
-image-returns = giving.image-back
-
--- ==== Demand 3
+pub demand-2 : Demand2
+demand-2 = record {
+  linear-gives = giving.linear-bits;
+  nearest-gives = giving.nearest-bits;
+  step-gives = λ t ps ds g r d. giving.step-bits t ps g r ds d;
+  linear-uniform-gives = λ t ps g u r. giving.uniform-bits t ps g r u;
+  linear-uniform-overflows = overflows;
+  image-returns = giving.image-back;
+}
 
 -- 12 is all that results can be refused with
 result-twelve : (place : ℕ) (x : Float) → good (resultFault place x) ≡ false → resultFault place x .number ≡ 12
@@ -174,36 +161,33 @@ results-number xs = go (good (resultsFault xs)) refl
     go true e = inl (ap (λ (a : Answer). a .number) (then-good (resultsFault xs) fine e))
     go false e = inr (ap (λ (a : Answer). a .number) (then-bad (resultsFault xs) fine e) ∙ first-twelve (λ i. resultFault i (getD xs i nan)) (λ j. result-twelve j (getD xs j nan)) 0 (length xs) e)
 
-module _ (t : Table) (p : Float) (out : List Float) where
-  inside : (k : ℕ) → Sliceable t k p out → good (rangeFault k (axis t k) p) ≡ true
-  inside k s = range-passes t k p (axis-good t (s .accepted) k (s .there)) k (s .inside)
+-- a reading of the page passes 11
+inside : (t : Table) (k : ℕ) (p : Float) (out : List Float) → Sliceable t k p out → good (rangeFault k (axis t k) p) ≡ true
+inside t k p out s = range-passes t k p (s .accepted .rising k (s .there)) k (s .inside)
 
-  linear-good : (k : ℕ) → k ≡ 0 → Sliceable t k p out → good (linearSliceFault (t .shape) (t .nodes .list) (t .values .list) k p (length out)) ≡ true
-  linear-good k z = subst (λ (a : ℕ). Sliceable t a p out → good (linearSliceFault (t .shape) (t .nodes .list) (t .values .list) a p (length out)) ≡ true) (sym z)
-      (λ s. linear-slice-always (t .shape) (t .nodes .list) (t .values .list) (passes t (s .accepted)) (s .many) p (length out) (s .inside .finite-reading) (t .nodes .held) (t .values .held) (inside 0 s) (s .room))
-
-  uniform-results : (k : ℕ) → k ≡ 0 → Sliceable t k p out → Uniform t → linearUniformSliceFault (t .shape) (t .nodes .list) (t .values .list) k p (length out) ≡ resultsFault (linearValues uniformLocation (t .shape) (t .nodes .list) (t .values .list) p)
-  uniform-results k z = subst (λ (a : ℕ). Sliceable t a p out → Uniform t → linearUniformSliceFault (t .shape) (t .nodes .list) (t .values .list) a p (length out) ≡ resultsFault (linearValues uniformLocation (t .shape) (t .nodes .list) (t .values .list) p)) (sym z)
-      (λ s u. linear-uniform-slice-made (t .shape) (t .nodes .list) (t .values .list) (passes t (s .accepted)) (s .many) p (length out) (s .inside .finite-reading) (inside 0 s) (s .room) (uniform-passes t (s .accepted) u))
-
-pub slices-made : SlicesMade
+pub demand-3 : Demand3
 unfolding linearSlice linearUniformSlice nearestSlice stepSlice sliceAnswer
-slices-made t k p out s = (
-  λ z. then-good _ fine (linear-good t p out k z s),
-  (
-    λ z u. subst (λ (f : Fault). ((f then fine) .number ≡ 0) ⊎ ((f then fine) .number ≡ 12)) (sym (uniform-results t p out k z s u)) (results-number _),
-    (
-      then-good _ fine (nearest-slice-made (t .shape) (t .nodes .list) (t .values .list) (passes t (s .accepted)) (s .many) p (length out) (s .inside .finite-reading) k (s .there) (inside t p out k s) (s .room)),
-      λ ds d. then-good _ fine (step-slice-made (t .shape) (t .nodes .list) (t .values .list) (passes t (s .accepted)) (s .many) p (length out) (s .inside .finite-reading) k (s .there) (inside t p out k s) (s .room) ds (directed-lent t ds d) (directed-passes t ds d)),
-    ),
-  ),
-)
-
-pub slices-answer : SlicesAnswer
-slices-answer = (slicing.linear-answers, (slicing.uniform-answers, (slicing.nearest-answers, slicing.step-answers)))
-
-pub slices-commute : SlicesCommute
-slices-commute = (commuting.nearest-commute, commuting.step-commute)
-
-pub stored-bits : StoredBits
-stored-bits = giving.stored-bits
+demand-3 = record {
+  linear-slices = λ t p out s.
+      then-good _ fine
+      (linear-slice-always (t .shape) (t .nodes .list) (t .values .list) (passes t (s .accepted)) (s .many) p (length out) (s .inside .finite-reading) (t .nodes .held) (t .values .held) (inside t 0 p out s) (s .room));
+  linear-uniform-slices = λ t p out s u.
+      subst (λ (f : Fault). ((f then fine) .number ≡ 0) ⊎ ((f then fine) .number ≡ 12))
+      (sym (linear-uniform-slice-made (t .shape) (t .nodes .list) (t .values .list) (passes t (s .accepted)) (s .many) p (length out) (s .inside .finite-reading) (inside t 0 p out s) (s .room) (uniform-passes t (s .accepted) u)))
+      (results-number _);
+  nearest-slices = λ t k p out s.
+      then-good _ fine
+      (nearest-slice-made (t .shape) (t .nodes .list) (t .values .list) (passes t (s .accepted)) (s .many) p (length out) (s .inside .finite-reading) k (s .there) (inside t k p out s) (s .room));
+  step-slices = λ t k p out ds s d.
+      then-good _ fine
+      (step-slice-made (t .shape) (t .nodes .list) (t .values .list) (passes t (s .accepted)) (s .many) p (length out) (s .inside .finite-reading) k (s .there) (inside t k p out s) (s .room) ds (directed-lent t ds d) (directed-passes t ds d));
+  linear-answers = slicing.linear-answers;
+  linear-uniform-answers = slicing.uniform-answers;
+  nearest-answers = slicing.nearest-answers;
+  step-answers = slicing.step-answers;
+  nearest-commute = commuting.nearest-commute;
+  step-commute = commuting.step-commute;
+  linear-stored = λ t ps at g o. giving.stored-bits t ps at g o .0;
+  nearest-stored = λ t ps at g o. giving.stored-bits t ps at g o .1 .0;
+  step-stored = λ t ps at ds g o d. giving.stored-bits t ps at g o .1 .1 ds d;
+}

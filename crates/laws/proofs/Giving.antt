@@ -1,9 +1,10 @@
 -- Demand 2 of the page of promises: the Rust's bits, the image's return; and stored bits at nodes. Assumes nothing.
 use mathlib.Core.Path.{_≡_, refl, sym, ap, ap₂, _∙_, subst}
-use mathlib.Core.Bool.{true, false}
-use mathlib.Core.List.{List, [], _++_}
+use mathlib.Core.Bool.{Bool, true, false, _&&_, cond}
+use mathlib.Core.List.{List, [], _∷_, _++_}
 use Prim.Native.Nat.{ℕ, _-_, _≤_, _<_}
 use native.Mathlib.Omega.{arith}
+use borrow.Author.Tests.{lt-ltb}
 use lib.ListN.{length, take, drop, getD}
 use lib.Ieee.{Float, nan, inf, fin, le, eq}
 use lib.Ieee.Scale.{finite}
@@ -15,7 +16,7 @@ use Rattle.answer.proofs.Orders as orders
 use Rattle.answer.proofs.Answers.{then-good}
 use Rattle.binary64.proofs.Order as order
 use Rattle.layout.specs.Shape.{countsOf, size, total}
-use Rattle.layout.specs.Layout.{axesOf, table, tabulate}
+use Rattle.layout.specs.Layout.{axesOf, table, tabulate, Inside}
 use Rattle.layout.specs.declared.Shape.{Shape}
 use Rattle.layout.proofs.Walks.{length-axes}
 use Rattle.checks.specs.Nodes.{node}
@@ -24,6 +25,7 @@ use Rattle.axis.specs.Locations.{axisLocation, uniformLocation}
 use Rattle.axis.specs.Picks.{nearestRule, stepRule}
 use Rattle.axis.proofs.cells.Axes.{climbs}
 use Rattle.rust.specs.Located.{rustLinear}
+use Rattle.rust.specs.declared.AxisLocation.{AxisLocation}
 use Rattle.rust.specs.Strategies.{linearText, linearUniformText, nearestText, stepText}
 use Rattle.blend.proofs.Bits.{rust-linear}
 use Rattle.ninterp.specs.Tables.{indices}
@@ -38,17 +40,32 @@ use Rattle.writer.specs.Made.{imageLength, imageOf}
 use Rattle.writer.specs.Write.{writeFault, writeAnswer, plain}
 use Rattle.writer.proofs.Laws.{write-accepts}
 use Rattle.writer.proofs.Trip.{answer-back, nodes-returned, values-returned}
-use Rattle.laws.specs.Promises.{Floats, Table, axes, counts, axis, stored, Accepted, Within, InRange, Directed, Uniform, linear, linearUniform, nearest, step, rustOf, write, load, OnNodes}
+use Rattle.laws.specs.Promises.{Floats, Table, axes, counts, axis, stored, named, element, Accepted, Within, InRange, Directed, Uniform, linear, linearUniform, nearest, step, rustOf, write, load, OnNodes}
 use Rattle.laws.proofs.Premises.{counted, passes, readings-pass, uniform-passes}
 
 -- ---- the Rust's bits
-module _ (t : Table) (ps : Floats) (g : Accepted t) (r : InRange t ps) where
-  abbrev over : Float
-  over = rustLinear (locations axisLocation (axesOf (counts t) (t .nodes .list)) (ps .list)) (stored t)
+-- an index list of the table names its element
+inside-named : (is ns : List ℕ) → Inside is ns → named is ns ≡ true
+inside-named [] [] w = refl
+inside-named [] (n ∷ ns) w = absurd w
+inside-named (i ∷ is) [] w = absurd w
+inside-named (i ∷ is) (n ∷ ns) w = ap₂ _&&_ (lt-ltb i n (w .0)) (inside-named is ns (w .1))
 
-  text-is : over ≡ rustOf linearText t ps
+element-stored : (t : Table) (is : List ℕ) → Inside is (counts t) → element t is ≡ stored t is
+unfolding element
+element-stored t is w = ap (λ (b : Bool). cond b (stored t is) nan) (inside-named is (counts t) w)
+
+module _ (t : Table) (ps : Floats) (g : Accepted t) (r : InRange t ps) where
+  abbrev over : (List Float → Float → AxisLocation) → Float
+  over rule = rustLinear (locations rule (axesOf (counts t) (t .nodes .list)) (ps .list)) (stored t)
+
+  -- what the text gives, over the locations of a rule
+  over-text : (rule : List Float → Float → AxisLocation) (text : Float) → text ≡ interpolated rule (counts t) (t .nodes .list) (t .values .list) (ps .list) → over rule ≡ text
   unfolding interpolated
-  text-is = rust-linear (locations axisLocation (axesOf (counts t) (t .nodes .list)) (ps .list)) (stored t) ∙ sym (linear-text (t .shape) (t .nodes .list) (t .values .list) (ps .list) (passes t g) (readings-pass t ps r))
+  over-text rule text e = rust-linear (locations rule (axesOf (counts t) (t .nodes .list)) (ps .list)) (stored t) ∙ sym e
+
+  text-is : over axisLocation ≡ rustOf linearText t ps
+  text-is = over-text axisLocation (rustOf linearText t ps) (linear-text (t .shape) (t .nodes .list) (t .values .list) (ps .list) (passes t g) (readings-pass t ps r) (element t) (element-stored t))
 
   pub linear-bits : (linear t ps ≡ answered (rustOf linearText t ps)) × (finite (rustOf linearText t ps) ≡ true)
   linear-bits = (
@@ -56,12 +73,8 @@ module _ (t : Table) (ps : Floats) (g : Accepted t) (r : InRange t ps) where
     sym (ap finite text-is) ∙ linear-always (t .shape) (t .nodes .list) (t .values .list) (ps .list) (passes t g) (readings-pass t ps r) (t .nodes .held) (t .values .held),
   )
 
-  abbrev over-uniform : Float
-  over-uniform = rustLinear (locations uniformLocation (axesOf (counts t) (t .nodes .list)) (ps .list)) (stored t)
-
-  uniform-text-is : over-uniform ≡ rustOf linearUniformText t ps
-  unfolding interpolated
-  uniform-text-is = rust-linear (locations uniformLocation (axesOf (counts t) (t .nodes .list)) (ps .list)) (stored t) ∙ sym (linear-uniform-text (t .shape) (t .nodes .list) (t .values .list) (ps .list) (passes t g) (readings-pass t ps r))
+  uniform-text-is : over uniformLocation ≡ rustOf linearUniformText t ps
+  uniform-text-is = over-text uniformLocation (rustOf linearUniformText t ps) (linear-uniform-text (t .shape) (t .nodes .list) (t .values .list) (ps .list) (passes t g) (readings-pass t ps r) (element t) (element-stored t))
 
   pub uniform-bits : Uniform t → (finite (rustOf linearUniformText t ps) ≡ true → linearUniform t ps ≡ answered (rustOf linearUniformText t ps)) × (finite (rustOf linearUniformText t ps) ≡ false → linearUniform t ps ≡ refused (refusal 12 0 0))
   uniform-bits u = (
@@ -72,12 +85,12 @@ module _ (t : Table) (ps : Floats) (g : Accepted t) (r : InRange t ps) where
   pub nearest-bits : nearest t ps ≡ answered (rustOf nearestText t ps)
   nearest-bits =
       nearest-demand (t .shape) (t .nodes .list) (t .values .list) (ps .list) (passes t g) (readings-pass t ps r)
-      ∙ ap answered (sym (nearest-text (t .shape) (t .nodes .list) (t .values .list) (ps .list) (passes t g) (readings-pass t ps r)))
+      ∙ ap answered (sym (nearest-text (t .shape) (t .nodes .list) (t .values .list) (ps .list) (passes t g) (readings-pass t ps r) (element t) (element-stored t)))
 
   pub step-bits : (ds : List ℕ) → Directed t ds → step ds t ps ≡ answered (rustOf (stepText ds) t ps)
   step-bits ds d =
       step-demand (t .shape) (t .nodes .list) (t .values .list) (ps .list) (passes t g) (readings-pass t ps r) ds (d .lent) (d .two)
-      ∙ ap answered (sym (step-text (t .shape) (t .nodes .list) (t .values .list) (ps .list) (passes t g) (readings-pass t ps r) ds))
+      ∙ ap answered (sym (step-text (t .shape) (t .nodes .list) (t .values .list) (ps .list) (passes t g) (readings-pass t ps r) (element t) (element-stored t) ds))
 
 -- ---- an image written, and the first bytes of the output loaded
 pub image-back : (t : Table) (out : List ℕ) (ns vs : List Float) → Accepted t → imageLength (t .shape) ≤ length out → total (counts t) ≤ length ns → size (counts t) ≤ length vs

@@ -2,10 +2,10 @@
 -- `demand-3` (laws/proofs/Promises.antt) inhabit the three records at the end, so that no statement of them can be left out.
 use mathlib.Core.Path.{_≡_}
 use mathlib.Core.Logic.{_⊎_}
-use mathlib.Core.Bool.{true, false}
-use mathlib.Core.List.{List, _++_}
+use mathlib.Core.Bool.{Bool, true, false, _&&_, cond}
+use mathlib.Core.List.{List, [], _∷_, _++_}
 use Prim.Native.Nat.{ℕ, suc, _+_, _-_, _≤_, _<_}
-use lib.Dec.{T}
+use lib.Dec.{T, ltb}
 use lib.ListN.{length, take, drop, getD}
 use lib.Ieee.{Float, nan, binary64, lt, le, eq, fits}
 use lib.Ieee.Scale.{finite}
@@ -60,6 +60,16 @@ axis t a = axisOf (t .shape) (t .nodes .list) a
 
 abbrev pub stored : Table → List ℕ → Float
 stored t is = table (counts t) (t .values .list) is
+
+-- whether an index list names a value of the table; and the element there, as the Rust has it: where there is none, a NaN
+abbrev pub named : List ℕ → List ℕ → Bool
+named [] [] = true
+named [] (n ∷ ns) = false
+named (i ∷ is) [] = false
+named (i ∷ is) (n ∷ ns) = ltb i n && named is ns
+
+unfoldable pub element : Table → List ℕ → Float
+element t is = cond (named is (counts t)) (stored t is) nan
 
 -- an accepted table: "1 to 4 axes, 2 to 64 nodes each, at most 4,096 values", lent as long as the shape says; on each axis finite nodes that rise by finite
 -- steps (`Axis`, checks/specs/Passed.antt); finite values
@@ -161,9 +171,9 @@ EveryPrimitive P =
 abbrev pub Tells : Answer → Type 0
 Tells a = ((a .number ≡ 0 → ⊥) → a .value ≡ plusZero) × (a .number ≡ 0 → (a .axis ≡ 0) × (a .place ≡ 0))
 
--- the Rust's strategies, lent the same table: its values' shape and elements, its grid, and the point
+-- the Rust's strategies, lent the same table: its values' shape and elements, its grid, and the point; what a text reads outside the table would be a NaN
 abbrev pub rustOf : (List ℕ → (List ℕ → Float) → List (List Float) → List Float → Float) → Table → Floats → Float
-rustOf text t ps = text (counts t) (stored t) (axesOf (counts t) (t .nodes .list)) (ps .list)
+rustOf text t ps = text (counts t) (element t) (axesOf (counts t) (t .nodes .list)) (ps .list)
 
 -- a table on which LinearUniform refuses 12
 pub record Overflows : Type 0 where

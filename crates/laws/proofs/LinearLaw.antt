@@ -34,23 +34,12 @@ use Rattle.laws.specs.Lowered.{lowered}
 use Rattle.slices.specs.LinearSlices.{alongFirst, linearValues, linearRest, linearSliceFault, linearUniformSliceFault}
 use Rattle.slices.proofs.Alongs.{length-along}
 use Rattle.axis.proofs.Located.{location-fits}
-use Rattle.ninterp.proofs.Located.{locations-within}
+use Rattle.ninterp.proofs.Located.{locations-within, linear-same}
 use Rattle.slices.proofs.Sliced.{linear-fronted, linear-first, linear-ready, uniform-linear, point-taken, point-range}
 use Rattle.laws.proofs.Lowered as low
 use Rattle.ninterp.proofs.Demands.{Accepted}
 use Rattle.laws.proofs.Left as over
 use Rattle.laws.proofs.Left.{Cut, core, front-accepted, lookup-asked, uniform-asked}
-
--- ---- the rule looks at the table's own index lists alone
-sliced-same : (p : AxisLocation) (c : ℕ) (cs : List ℕ) (g h : List ℕ → Float) → upperOf p < c → ((is : List ℕ) → Inside is (c ∷ cs) → g is ≡ h is) → (is : List ℕ) → Inside is cs → sliced p g is ≡ sliced p h is
-sliced-same (Exact node) c cs g h l e is w = e (node ∷ is) (l, w)
-sliced-same (Between lower frac) c cs g h l e is w = ap₂ (λ (x y : Float). blended x y frac) (e (lower ∷ is) (omega (arith, l), w)) (e ((lower + 1) ∷ is) (l, w))
-
-pub linear-same : (ps : List AxisLocation) (cs : List ℕ) (g h : List ℕ → Float) → Within ps cs → ((is : List ℕ) → Inside is cs → g is ≡ h is) → linear ps g ≡ linear ps h
-linear-same [] [] g h w e = e [] tt
-linear-same [] (c ∷ cs) g h w e = absurd w
-linear-same (p ∷ ps) [] g h w e = absurd w
-linear-same (p ∷ ps) (c ∷ cs) g h w e = linear-same ps cs (sliced p g) (sliced p h) (w .1) (sliced-same p c cs g h (w .0) e)
 
 -- ---- a slice's values, as a table, are the table along its first axis
 pub along-law : (l : AxisLocation) (cs is : List ℕ) (values : List Float) → Inside is (without 0 cs) → table (without 0 cs) (alongFirst l cs values) is ≡ sliced l (table cs values) is

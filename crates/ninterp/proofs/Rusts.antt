@@ -1,9 +1,9 @@
 -- The Rust's text of the four strategies, from the readings on, is the paper's rules, on an accepted table and readings in range, whatever its values have
 -- outside the table: none of them is read there. Assumes nothing.
-use mathlib.Core.Path.{_≡_, sym, ap, ap₂, _∙_}
+use mathlib.Core.Path.{_≡_, sym, ap, _∙_}
 use mathlib.Core.Bool.{Bool, false, true}
-use mathlib.Core.List.{List, [], _∷_}
-use Prim.Native.Nat.{ℕ, _+_, _≤_, _<_}
+use mathlib.Core.List.{List}
+use Prim.Native.Nat.{ℕ, _≤_, _<_}
 use native.Mathlib.Omega.{arith}
 use lib.ListN.{length, getD}
 use lib.Ieee.{Float, nan}
@@ -17,7 +17,6 @@ use Rattle.rust.specs.Strategies.{zipped, linearText, linearUniformText, neares
 use Rattle.rust.specs.Located.{rustLinear}
 use Rattle.rust.specs.declared.AxisLocation.{AxisLocation}
 use Rattle.rust.proofs.Linears.{Fitting, uniformAt, linear-located, linear-uniform-located, zipped-tabulate, fitting}
-use Rattle.rust.specs.declared.AxisLocation.the-variants.{Exact, Between}
 use Rattle.checks.specs.Passed.{Axis, Grid}
 use Rattle.checks.proofs.table.Grids.{length-axis, grid-of}
 use Rattle.axis.specs.Locations.{axisLocation, uniformLocation, locationBy}
@@ -25,25 +24,14 @@ use Rattle.axis.specs.Picks.{nearestRule, stepRule}
 use Rattle.axis.proofs.Texts.{axis-text, step-index-text, nearest-index-text, uniform-axis-text}
 use Rattle.axis.proofs.Located.{location-fits}
 use Rattle.axis.proofs.picks.Picks.{nearest-fits, step-fits}
-use Rattle.blend.specs.Blend.{linear, blended}
 use Rattle.blend.proofs.Bits.{rust-linear}
 use Rattle.ninterp.specs.Tables.{indices, picked}
 use Rattle.ninterp.specs.Linears.{locations, interpolated}
 use Rattle.ninterp.specs.Locations.{Within}
-use Rattle.ninterp.proofs.Located.{locations-within}
+use Rattle.ninterp.proofs.Located.{locations-within, linear-same}
 use Rattle.ninterp.proofs.Picks.{list-inside}
 use Rattle.ninterp.proofs.Demands as demands
 use Rattle.ninterp.proofs.Demands.{Accepted, InRange}
-
--- the two linears read no value outside the table
-linear-same : (ls : List AxisLocation) (cs : List ℕ) (g h : List ℕ → Float) → Within ls cs → ((is : List ℕ) → Inside is cs → g is ≡ h is) → linear ls g ≡ linear ls h
-linear-same [] [] g h w e = e [] tt
-linear-same [] (c ∷ cs) g h w e = absurd w
-linear-same (l ∷ ls) [] g h w e = absurd w
-linear-same (Exact node ∷ ls) (c ∷ cs) g h w e = linear-same ls cs (λ is. g (node ∷ is)) (λ is. h (node ∷ is)) (w .1) (λ is v. e (node ∷ is) (w .0, v))
-linear-same (Between lower frac ∷ ls) (c ∷ cs) g h w e =
-    linear-same ls cs (λ is. blended (g (lower ∷ is)) (g ((lower + 1) ∷ is)) frac) (λ is. blended (h (lower ∷ is)) (h ((lower + 1) ∷ is)) frac) (w .1)
-    (λ is v. ap₂ (λ (a b : Float). blended a b frac) (e (lower ∷ is) (omega (arith, w .0), v)) (e ((lower + 1) ∷ is) (w .0, v)))
 
 module _ (s : Shape) (nodes values readings : List Float) (t : Accepted s nodes values) (r : InRange s nodes readings)
     (g : List ℕ → Float) (same : (is : List ℕ) → Inside is (countsOf s) → g is ≡ table (countsOf s) values is) where

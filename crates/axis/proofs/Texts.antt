@@ -262,7 +262,7 @@ unfolding validateUniformGridEpsilon
 epsilon-text dim xs ax = validate-text dim xs (defaultTolerance xs) ∙ ap (λ (t : Float). uniformRow (validateUniformGrid xs dim t)) (sym (tolerance-text xs ax))
 
 -- `Ok(())` exactly where the axis passes row 8, and an error at the place that the row answers
-row-passed : (v : Validated) → good (uniformRow v) ≡ true → v ≡ ok
+pub row-passed : (v : Validated) → good (uniformRow v) ≡ true → v ≡ ok
 row-passed ok h = refl
 row-passed (nonUniform dim index) h = clash (good (refusal 8 dim index)) h (bad-refused 7 dim index)
 

@@ -26,7 +26,7 @@ use Rattle.ninterp.specs.Records.{recordSize, recordFault, recordAnswer}
 use Rattle.slices.specs.Slices.{nearestSlice, stepSlice, sliceAnswer}
 use Rattle.slices.specs.LinearSlices.{linearRest, linearSlice, linearUniformSlice, linearSliceFault, linearUniformSliceFault}
 use Rattle.slices.specs.Ready.{Ready}
-use Rattle.slices.proofs.Sliced.{Fronted, nearest-fronted, nearest-ready, step-fronted, step-ready, linear-fronted, linear-ready, linear-first, uniform-linear, point-taken, point-range}
+use Rattle.slices.proofs.Sliced.{Fronted, nearest-fronted, nearest-ready, step-fronted, step-ready, step-lent, step-directions, linear-fronted, linear-ready, linear-first, uniform-linear, point-taken, point-range}
 use Rattle.slices.proofs.Refusals.{slice-quiet, no-shape}
 use Rattle.image.specs.Load.{loadFault, loadAnswer}
 use Rattle.image.specs.Image.{nodesIn, valuesIn}
@@ -37,8 +37,10 @@ use Rattle.writer.specs.Write.{writeFault, writeAnswer}
 use Rattle.writer.proofs.Laws.{write-means}
 use Rattle.writer.proofs.Trip.{loaded-frame}
 use Rattle.ninterp.proofs.Demands as passed
-use Rattle.laws.specs.Promises.{Floats, Table, axes, counts, axis, Accepted, Within, InRange, Directed, Uniform, Tells, load, write}
+use Rattle.laws.specs.Promises.{Floats, Table, axes, counts, axis, Accepted, Within, InRange, Directed, Uniform, Sliceable, load, write}
+use Rattle.laws.specs.Primitives.{Tells}
 use Rattle.laws.proofs.Left.{front-accepted}
+use Rattle.laws.proofs.Primitives.{refused-bad}
 use Rattle.laws.proofs.Premises.{then-number, accepted, in-range, within, uniform, directed}
 
 -- ---- the lookups
@@ -84,39 +86,62 @@ record-judged t rec h =
     (accepted t (record { frame = orders.first-passed _ _ h; axes = orders.first-passed _ _ h2; stored = orders.second-passed _ _ h2 }), length-passed 2 (recordSize (t .shape)) (length rec) (orders.first-passed _ _ h1))
 
 -- ---- the slices
-module _ (t : Table) (k : ℕ) (p : Float) (room : ℕ) where
-  abbrev Sliced : Type 0
-  Sliced = Accepted t × ((1 < axes t) × ((k < axes t) × Within t k p))
+module _ (t : Table) (k : ℕ) (p : Float) (out : List Float) where
+  abbrev room : ℕ
+  room = length out
 
-  sliced : Fronted (t .shape) (t .nodes .list) (t .values .list) → Ready (t .shape) (t .nodes .list) (t .values .list) k → good (pointFault (t .shape) (t .nodes .list) k p room) ≡ true → Sliced
+  sliced : Fronted (t .shape) (t .nodes .list) (t .values .list) → Ready (t .shape) (t .nodes .list) (t .values .list) k → good (pointFault (t .shape) (t .nodes .list) k p room) ≡ true → Sliceable t k p out
   sliced f r point =
       let g : Accepted t = accepted t (front-accepted f) in
-      (g, (r .many, (r .within, within t k p (g .rising k (r .within)) k (point-taken (t .shape) (t .nodes .list) k p room point .finite-point) (point-range (t .shape) (t .nodes .list) k p room point))))
+      record {
+        accepted = g;
+        many = r .many;
+        there = r .within;
+        inside = within t k p (g .rising k (r .within)) k (point-taken (t .shape) (t .nodes .list) k p room point .finite-point) (point-range (t .shape) (t .nodes .list) k p room point);
+        room = point-taken (t .shape) (t .nodes .list) k p room point .enough;
+      }
 
-  pub nearest-judged : good (nearestSliceFault (t .shape) (t .nodes .list) (t .values .list) k p room) ≡ true → Sliced
+  pub nearest-judged : good (nearestSliceFault (t .shape) (t .nodes .list) (t .values .list) k p room) ≡ true → Sliceable t k p out
   unfolding nearestSliceFault
   nearest-judged h =
       let front : good (nearestFront (t .shape) (t .nodes .list) (t .values .list) k) ≡ true = orders.first-passed _ _ h in
       sliced (nearest-fronted (t .shape) (t .nodes .list) (t .values .list) k front) (nearest-ready (t .shape) (t .nodes .list) (t .values .list) k front) (orders.second-passed _ _ h)
 
-  pub step-slice-judged : (ds : List ℕ) → good (stepSliceFault (t .shape) (t .nodes .list) (t .values .list) ds k p room) ≡ true → Sliced
+  pub step-slice-judged : (ds : List ℕ) → good (stepSliceFault (t .shape) (t .nodes .list) (t .values .list) ds k p room) ≡ true → Sliceable t k p out
   unfolding stepSliceFault
   step-slice-judged ds h =
       let front : good (stepFront (t .shape) (t .nodes .list) (t .values .list) ds k) ≡ true = orders.first-passed _ _ h in
       sliced (step-fronted (t .shape) (t .nodes .list) (t .values .list) k ds front) (step-ready (t .shape) (t .nodes .list) (t .values .list) k ds front) (orders.second-passed _ _ h)
 
-  first-judged : good (linearFront (t .shape) (t .nodes .list) (t .values .list) k) ≡ true → good (pointFault (t .shape) (t .nodes .list) k p room) ≡ true → Sliced
+  first-judged : good (linearFront (t .shape) (t .nodes .list) (t .values .list) k) ≡ true → good (pointFault (t .shape) (t .nodes .list) k p room) ≡ true → Sliceable t k p out
   first-judged front point =
       sliced (linear-fronted (t .shape) (t .nodes .list) (t .values .list) k front)
       (subst (λ (a : ℕ). Ready (t .shape) (t .nodes .list) (t .values .list) a) (sym (linear-first (t .shape) (t .nodes .list) (t .values .list) k front)) (linear-ready (t .shape) (t .nodes .list) (t .values .list) k front)) point
 
-  pub linear-slice-judged : good (linearSliceFault (t .shape) (t .nodes .list) (t .values .list) k p room) ≡ true → Sliced
+  pub linear-slice-judged : good (linearSliceFault (t .shape) (t .nodes .list) (t .values .list) k p room) ≡ true → Sliceable t k p out
   unfolding linearSliceFault linearRest
   linear-slice-judged h = first-judged (orders.first-passed _ _ h) (orders.first-passed _ _ (orders.second-passed _ _ h))
 
-  pub uniform-slice-judged : good (linearUniformSliceFault (t .shape) (t .nodes .list) (t .values .list) k p room) ≡ true → Sliced
+  pub uniform-slice-judged : good (linearUniformSliceFault (t .shape) (t .nodes .list) (t .values .list) k p room) ≡ true → Sliceable t k p out
   unfolding linearUniformSliceFault linearRest
   uniform-slice-judged h = first-judged (uniform-linear (t .shape) (t .nodes .list) (t .values .list) k (orders.first-passed _ _ h)) (orders.first-passed _ _ (orders.second-passed _ _ h))
+
+  pub linear-slice-first : good (linearSliceFault (t .shape) (t .nodes .list) (t .values .list) k p (length out)) ≡ true → k ≡ 0
+  unfolding linearSliceFault
+  linear-slice-first h = linear-first (t .shape) (t .nodes .list) (t .values .list) k (orders.first-passed _ _ h)
+
+  pub uniform-slice-first : good (linearUniformSliceFault (t .shape) (t .nodes .list) (t .values .list) k p (length out)) ≡ true → (k ≡ 0) × Uniform t
+  unfolding linearUniformSliceFault linearUniformFront
+  uniform-slice-first h =
+      let front = orders.first-passed _ _ h in
+      (linear-first (t .shape) (t .nodes .list) (t .values .list) k (orders.first-passed _ _ front), uniform t (uniform-slice-judged h .accepted) (orders.second-passed _ _ front))
+
+  pub step-slice-directed : (ds : List ℕ) → good (stepSliceFault (t .shape) (t .nodes .list) (t .values .list) ds k p (length out)) ≡ true → Directed t ds
+  unfolding stepSliceFault
+  step-slice-directed ds h =
+      let front : good (stepFront (t .shape) (t .nodes .list) (t .values .list) ds k) ≡ true = orders.first-passed _ _ h in
+      let lent : length ds ≡ axes t = step-lent (t .shape) (t .nodes .list) (t .values .list) k ds front in
+      record { lent = lent; two = λ a l. step-directions (t .shape) (t .nodes .list) (t .values .list) k ds front a (omega (arith, lent, l)) }
 
 -- ---- what an answer tells
 pub tells : {a : Answer} → Told a → Tells a
@@ -127,17 +152,6 @@ tells {a} h = (h .empty, λ e. (ap (λ (x : Answer). x .axis) (h .clear e) ∙ n
 
     no-place : (v : Float) → answered v .place ≡ 0
     no-place v = unfold answered in refl
-
--- a refusal is its checks' own
-pub refused-bad : (f : Fault) → ((f then fine) .number ≡ 0 → ⊥) → good f ≡ false
-refused-bad f h = go (good f) refl
-  where
-    nought : (f then fine) ≡ fine → (f then fine) .number ≡ 0
-    nought e = unfold fine answered in ap (λ (x : Answer). x .number) e
-
-    go : (b : Bool) → good f ≡ b → b ≡ false
-    go true e = absurd (h (nought (then-good f fine e)))
-    go false e = refl
 
 -- ---- what an output holds
 pub slice-keeps : (f : Fault) (s : Shape) (k : ℕ) (xs out : List Float)

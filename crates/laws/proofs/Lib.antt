@@ -7,6 +7,7 @@ pub mod Makes
 pub mod LinearMakes
 pub mod Commutes
 pub mod Premises
+pub mod Primitives
 pub mod Judging
 pub mod Giving
 pub mod Slicing

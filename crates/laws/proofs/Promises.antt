@@ -12,14 +12,9 @@ use Rattle.answer.specs.Answer.{refused, answered, fine, _then_}
 use Rattle.answer.specs.declared.Fault.{Fault}
 use Rattle.answer.specs.declared.Answer.{Answer}
 use Rattle.answer.proofs.Orders as orders
-use Rattle.answer.proofs.Answers.{Quiet, then-good, then-bad}
-use Rattle.checks.specs.Passed.{Axis}
-use Rattle.checks.specs.Shapes.{axisFault}
-use Rattle.checks.specs.Numbers.{readingFault, rangeFault, resultFault, resultsFault}
-use Rattle.checks.proofs.nodes.Rows.{axis-of}
-use Rattle.checks.proofs.numbers.Rows.{reading-finite, result-fine, result-wild}
-use Rattle.utils.specs.Calls.{locateLowerIndex, exactIndex, locateAxis, locateStepIndex, indexAnswer, exactAnswer, axisAnswer, axisReadingFault, exactFault, locateFault, directedFault}
-use Rattle.utils.proofs.Refusals.{lower-index-quiet, exact-index-quiet, locate-axis-quiet, step-index-quiet}
+use Rattle.answer.proofs.Answers.{then-good, then-bad}
+use Rattle.checks.specs.Numbers.{rangeFault, resultFault, resultsFault}
+use Rattle.checks.proofs.numbers.Rows.{result-fine, result-wild}
 use Rattle.ninterp.specs.Tables.{nearestAnswer, stepAnswer}
 use Rattle.ninterp.specs.Linears.{linearAnswer, linearUniformAnswer}
 use Rattle.ninterp.specs.Records.{recordAnswer}
@@ -27,8 +22,9 @@ use Rattle.ninterp.proofs.Refusals.{nearest-told, step-told, linear-told, linea
 use Rattle.ninterp.proofs.UniformOverflow as wide
 use Rattle.slices.specs.Slices.{sliceAnswer, nearestSlice, nearestSliced, stepSlice, stepSliced}
 use Rattle.slices.specs.LinearSlices.{linearSlice, linearSliced, linearUniformSlice, linearUniformSliced}
-use Rattle.laws.specs.Promises.{Floats, Table, axis, Accepted, Sliceable, Tells, Overflows, Demand1, Demand2, Demand3}
+use Rattle.laws.specs.Promises.{Floats, Table, axis, Accepted, Sliceable, Overflows, Demand1, Demand2, Demand3}
 use Rattle.laws.proofs.Premises.{then-number, passes, accepted, in-range, uniform, uniform-passes, range-passes, directed-lent, directed-passes}
+use Rattle.laws.proofs.Primitives.{primitives}
 use Rattle.laws.proofs.Judging as judging
 use Rattle.laws.proofs.Giving as giving
 use Rattle.laws.proofs.Slicing as slicing
@@ -37,16 +33,8 @@ use Rattle.laws.proofs.Commuting as commuting
 use Rattle.laws.proofs.Makes.{nearest-slice-made, step-slice-made, linear-uniform-slice-made}
 use Rattle.laws.proofs.LinearMakes.{linear-slice-always}
 
--- ---- what a primitive judges
-primitive-judged : (nodes : List Float) (p : Float) → good (axisFault nodes) ≡ true → good (readingFault 0 p) ≡ true → Axis nodes × (finite p ≡ true)
-primitive-judged nodes p a r = (axis-of nodes a, reading-finite 0 p r)
-
-quiet-told : {a : Answer} → Quiet a → Tells a
-unfolding fine answered
-quiet-told q = (λ h. q .empty, λ h. (ap (λ (x : Answer). x .axis) (q .clear h), ap (λ (x : Answer). x .place) (q .clear h)))
-
 pub demand-1 : Demand1
-unfolding linearAnswer linearUniformAnswer nearestAnswer stepAnswer recordAnswer linearSlice linearSliced linearUniformSlice linearUniformSliced nearestSlice nearestSliced stepSlice stepSliced locateLowerIndex exactIndex locateAxis locateStepIndex indexAnswer exactAnswer axisAnswer axisReadingFault exactFault locateFault directedFault
+unfolding linearAnswer linearUniformAnswer nearestAnswer stepAnswer recordAnswer linearSlice linearSliced linearUniformSlice linearUniformSliced nearestSlice nearestSliced stepSlice stepSliced
 demand-1 = record {
   lookups-judge = (
     λ t ps h. judging.lookup-judged t ps (then-number _ _ h),
@@ -58,28 +46,22 @@ demand-1 = record {
   uniform-judged = λ t ps h. judging.uniform-judged t ps (then-number _ _ h) .1;
   directions-judged = λ t ps ds h. judging.step-judged t ps ds (then-number _ _ h) .1;
   slices-judge = (
-    λ t k p out h. judging.linear-slice-judged t k p (length out) (slice-good _ (t .shape) k h),
+    λ t k p out h. judging.linear-slice-judged t k p out (slice-good _ (t .shape) k h),
     (
-      λ t k p out h. judging.uniform-slice-judged t k p (length out) (slice-good _ (t .shape) k h),
+      λ t k p out h. judging.uniform-slice-judged t k p out (slice-good _ (t .shape) k h),
       (
-        λ t k p out h. judging.nearest-judged t k p (length out) (slice-good _ (t .shape) k h),
-        λ ds t k p out h. judging.step-slice-judged t k p (length out) ds (slice-good _ (t .shape) k h),
+        λ t k p out h. judging.nearest-judged t k p out (slice-good _ (t .shape) k h),
+        λ ds t k p out h. judging.step-slice-judged t k p out ds (slice-good _ (t .shape) k h),
       ),
     ),
   );
+  linear-slices-first = λ t k p out h. judging.linear-slice-first t k p out (slice-good _ (t .shape) k h);
+  uniform-slices-judged = λ t k p out h. judging.uniform-slice-first t k p out (slice-good _ (t .shape) k h);
+  step-slices-judged = λ t k p out ds h. judging.step-slice-directed t k p out ds (slice-good _ (t .shape) k h);
   load-judges = judging.load-judged;
   write-judges = judging.write-judged;
   record-judges = λ t rec h. judging.record-judged t rec (then-number _ _ h);
-  primitives-judge = (
-    λ nodes p h. let g = then-number _ fine h in primitive-judged nodes p (orders.first-passed _ _ g) (orders.second-passed _ _ g),
-    (
-      λ lower nodes p h. let g = then-number _ fine h in primitive-judged nodes p (orders.first-passed _ _ g) (orders.second-passed _ _ (orders.second-passed _ _ g)),
-      (
-        λ nodes p h. let g = orders.first-passed _ _ (then-number _ fine h) in primitive-judged nodes p (orders.first-passed _ _ g) (orders.second-passed _ _ g),
-        λ direction nodes p h. let g = then-number _ fine h in primitive-judged nodes p (orders.first-passed _ _ g) (orders.second-passed _ _ (orders.second-passed _ _ g)),
-      ),
-    ),
-  );
+  primitives-give = primitives;
   lookups-tell = (
     λ t ps. judging.tells (linear-told (t .shape) (t .nodes .list) (t .values .list) (ps .list)),
     (
@@ -91,10 +73,6 @@ demand-1 = record {
     ),
   );
   record-tells = λ t rec. judging.tells (record-told (t .shape) (t .nodes .list) (t .values .list) rec);
-  primitives-tell = (
-    λ nodes p. quiet-told (lower-index-quiet nodes p),
-    (λ lower nodes p. quiet-told (exact-index-quiet nodes p lower), (λ nodes p. quiet-told (locate-axis-quiet nodes p), λ direction nodes p. quiet-told (step-index-quiet nodes p direction))),
-  );
   slices-keep = (
     λ t k p out. judging.slice-keeps _ (t .shape) k _ out,
     (λ t k p out. judging.slice-keeps _ (t .shape) k _ out, (λ t k p out. judging.slice-keeps _ (t .shape) k _ out, λ ds t k p out. judging.slice-keeps _ (t .shape) k _ out)),

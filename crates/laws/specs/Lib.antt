@@ -1,2 +1,3 @@
 pub mod Lowered
+pub mod Primitives
 pub mod Promises

@@ -10,7 +10,7 @@ use lib.ListN.{length, take, drop, getD}
 use lib.Ieee.{Float, nan, binary64, lt, le, eq, fits}
 use lib.Ieee.Scale.{finite}
 use Rattle.answer.specs.Faults.{refusal, filledInto}
-use Rattle.answer.specs.Answer.{plusZero, refused, answered, fine}
+use Rattle.answer.specs.Answer.{refused, answered, fine}
 use Rattle.answer.specs.declared.Answer.{Answer}
 use Rattle.layout.specs.Shape.{countsOf, size, total, noShape}
 use Rattle.layout.specs.Layout.{axesOf, axisOf, table, tabulate, insert, without, nodesWithout}
@@ -22,7 +22,6 @@ use Rattle.rust.specs.Strategies.{linearText, linearUniformText, nearestText, s
 use Rattle.ninterp.specs.Tables.{nearestAnswer, stepAnswer}
 use Rattle.ninterp.specs.Linears.{linearAnswer, linearUniformAnswer}
 use Rattle.ninterp.specs.Records.{recordSize, recordAnswer}
-use Rattle.utils.specs.Calls.{locateLowerIndex, exactIndex, locateAxis, locateStepIndex}
 use Rattle.slices.specs.Slices.{nearestSlice, nearestSliced, stepSlice, stepSliced}
 use Rattle.slices.specs.LinearSlices.{linearSlice, linearSliced, linearUniformSlice, linearUniformSliced}
 use Rattle.slices.specs.declared.SliceAnswer.{SliceAnswer}
@@ -33,6 +32,7 @@ use Rattle.writer.specs.Made.{imageLength, imageOf}
 use Rattle.writer.specs.Write.{writeFault, writeAnswer, plain}
 use Rattle.writer.specs.declared.WriteAnswer.{WriteAnswer}
 use Rattle.laws.specs.Lowered.{lowered}
+use Rattle.laws.specs.Primitives.{Tells, Primitives}
 
 -- ==== What a call is lent
 
@@ -159,17 +159,7 @@ write t out = (
 abbrev pub record-of : Table → List ℕ → Answer
 record-of t rec = recordAnswer (t .shape) (t .nodes .list) (t .values .list) rec
 
--- the primitives on one axis that take a reading; the others take no axis or no reading (utils/specs/Calls.antt)
-abbrev pub EveryPrimitive : ((List Float → Float → Answer) → Type 0) → Type 0
-EveryPrimitive P =
-    P (λ nodes p. locateLowerIndex nodes p .answer) × (((lower : ℕ) → P (λ nodes p. exactIndex nodes lower p .answer))
-    × (P (λ nodes p. locateAxis nodes p .answer) × ((direction : ℕ) → P (λ nodes p. locateStepIndex direction nodes p .answer))))
-
 -- ==== What is said of any of them
-
--- "A refusal gives its number, axis and place, with value +0.0"; "Success is 0, 0, 0"
-abbrev pub Tells : Answer → Type 0
-Tells a = ((a .number ≡ 0 → ⊥) → a .value ≡ plusZero) × (a .number ≡ 0 → (a .axis ≡ 0) × (a .place ≡ 0))
 
 -- the Rust's strategies, lent the same table: its values' shape and elements, its grid, and the point; what a text reads outside the table would be a NaN
 abbrev pub rustOf : (List ℕ → (List ℕ → Float) → List (List Float) → List Float → Float) → Table → Floats → Float
@@ -225,18 +215,20 @@ pub record Demand1 : Type 0 where
   pub lookups-judge : EveryLookup (λ lookup. (t : Table) (ps : Floats) → lookup t ps .number ≡ 0 → Accepted t × InRange t ps)
   pub uniform-judged : (t : Table) (ps : Floats) → linearUniform t ps .number ≡ 0 → Uniform t
   pub directions-judged : (t : Table) (ps : Floats) (ds : List ℕ) → step ds t ps .number ≡ 0 → Directed t ds
-  pub slices-judge : EverySlice (λ slice. (t : Table) (k : ℕ) (p : Float) (out : List Float) → slice t k p out .0 .answer .number ≡ 0
-      → Accepted t × ((1 < axes t) × ((k < axes t) × Within t k p)))
+  pub slices-judge : EverySlice (λ slice. (t : Table) (k : ℕ) (p : Float) (out : List Float) → slice t k p out .0 .answer .number ≡ 0 → Sliceable t k p out)
+  pub linear-slices-first : (t : Table) (k : ℕ) (p : Float) (out : List Float) → sliceLinear t k p out .0 .answer .number ≡ 0 → k ≡ 0
+  pub uniform-slices-judged : (t : Table) (k : ℕ) (p : Float) (out : List Float) → sliceLinearUniform t k p out .0 .answer .number ≡ 0 → (k ≡ 0) × Uniform t
+  pub step-slices-judged : (t : Table) (k : ℕ) (p : Float) (out : List Float) (ds : List ℕ) → sliceStep ds t k p out .0 .answer .number ≡ 0 → Directed t ds
   -- .. a table that is lent from the fronts of the loader's outputs is an accepted one
   pub load-judges : (img : List ℕ) (ns vs : List Float) (t : Table) → load img ns vs .0 .answer .number ≡ 0 → t .shape ≡ load img ns vs .0 .shape
       → t .nodes .list ≡ take (total (counts t)) (load img ns vs .1 .0) → t .values .list ≡ take (size (counts t)) (load img ns vs .1 .1) → Accepted t
   pub write-judges : (t : Table) (out : List ℕ) → write t out .0 .answer .number ≡ 0 → Accepted t
   pub record-judges : (t : Table) (rec : List ℕ) → record-of t rec .number ≡ 0 → Accepted t × (length rec ≡ recordSize (t .shape))
-  pub primitives-judge : EveryPrimitive (λ call. (nodes : List Float) (p : Float) → call nodes p .number ≡ 0 → Axis nodes × (finite p ≡ true))
+  -- .. and the seven primitives (laws/specs/Primitives.antt), of which the Rust's text is said too
+  pub primitives-give : Primitives
   -- "A refusal gives its number, axis and place, with value +0.0"
   pub lookups-tell : EveryLookup (λ lookup. (t : Table) (ps : Floats) → Tells (lookup t ps))
   pub record-tells : (t : Table) (rec : List ℕ) → Tells (record-of t rec)
-  pub primitives-tell : EveryPrimitive (λ call. (nodes : List Float) (p : Float) → Tells (call nodes p))
   -- "and every lent buffer stays as it was"
   pub slices-keep : EverySlice (λ slice. (t : Table) (k : ℕ) (p : Float) (out : List Float) → Tells (slice t k p out .0 .answer)
       × ((slice t k p out .0 .answer .number ≡ 0 → ⊥) → (slice t k p out .0 .shape ≡ noShape) × (slice t k p out .1 ≡ out)))

@@ -1,0 +1,68 @@
+-- THE PAGE OF PROMISES, of the seven primitives on one axis: which input each accepts, that it then gives what the Rust's text gives, and what a refusal
+-- holds. Nothing but statements; `primitives` (laws/proofs/Primitives.antt) inhabits the record.
+use mathlib.Core.Path.{_≡_}
+use mathlib.Core.Bool.{true, false}
+use mathlib.Core.List.{List}
+use Prim.Native.Nat.{ℕ, _+_, _≤_, _<_}
+use lib.ListN.{length}
+use lib.Ieee.{Float, lt}
+use lib.Ieee.Scale.{finite}
+use Rattle.answer.specs.Faults.{refusal}
+use Rattle.answer.specs.Answer.{plusZero, refused, fine}
+use Rattle.answer.specs.declared.Answer.{Answer}
+use Rattle.checks.specs.Passed.{Axis}
+use Rattle.rust.specs.Utils as rust
+use Rattle.rust.specs.Utils.{ok, nonUniform}
+use Rattle.rust.specs.declared.MaybeIndex.the-variants.{None}
+use Rattle.rust.specs.declared.AxisLocation.the-variants.{Exact}
+use Rattle.utils.specs.Calls.{locationFraction, locateLowerIndex, exactIndex, locateAxis, locateStepIndex, locateLowerIndexUniform, validateUniformGrid, validateUniformGridEpsilon}
+use Rattle.utils.specs.declared.Tolerance.the-variants.{Default}
+
+-- "A refusal gives its number, axis and place, with value +0.0"; "Success is 0, 0, 0"
+abbrev pub Tells : Answer → Type 0
+Tells a = ((a .number ≡ 0 → ⊥) → a .value ≡ plusZero) × (a .number ≡ 0 → (a .axis ≡ 0) × (a .place ≡ 0))
+
+-- a call that accepts exactly the inputs of which `Good` holds
+pub record Judges (Good : Type 0) (answer : Answer) : Type 0 where
+  pub accepts : Good → answer ≡ fine
+  pub only : answer .number ≡ 0 → Good
+  pub tells : Tells answer
+
+-- .. and gives x there; on a refusal "any index, fraction or shape it would give is zero"
+pub record Gives {A : Type 0} (Good : Type 0) (answer : Answer) (given x zeros : A) : Type 0 where
+  pub judges : Judges Good answer
+  pub gives : Good → given ≡ x
+  pub empty : (answer .number ≡ 0 → ⊥) → given ≡ zeros
+
+-- what each asks of its axis and reading; of a lent step; of a lent tolerance
+abbrev pub Readable : List Float → Float → Type 0
+Readable nodes p = Axis nodes × (finite p ≡ true)
+
+abbrev pub Stepped : Float → Type 0
+Stepped step = (finite step ≡ true) × (lt plusZero step ≡ true)
+
+abbrev pub Tolerant : Float → Type 0
+Tolerant tolerance = (finite tolerance ≡ true) × (lt tolerance plusZero ≡ false)
+
+pub record Primitives : Type 0 where
+  pub lower-index : (nodes : List Float) (p : Float)
+      → Gives (Readable nodes p) (locateLowerIndex nodes p .answer) (locateLowerIndex nodes p .index) (rust.locateLowerIndex nodes p) 0
+  pub exact-index : (nodes : List Float) (lower : ℕ) (p : Float)
+      → Gives (Readable nodes p × (lower + 1 < length nodes)) (exactIndex nodes lower p .answer) (exactIndex nodes lower p .index) (rust.exactIndex nodes lower p) None
+  pub axis-location : (nodes : List Float) (p : Float)
+      → Gives (Readable nodes p × (finite (locationFraction (rust.locateAxis nodes p)) ≡ true)) (locateAxis nodes p .answer) (locateAxis nodes p .location) (rust.locateAxis nodes p) (Exact 0)
+  pub axis-overflows : (nodes : List Float) (p : Float)
+      → Readable nodes p → finite (locationFraction (rust.locateAxis nodes p)) ≡ false → locateAxis nodes p .answer ≡ refused (refusal 12 0 0)
+  pub step-index : (direction : ℕ) (nodes : List Float) (p : Float)
+      → Gives (Readable nodes p × (direction < 2)) (locateStepIndex direction nodes p .answer) (locateStepIndex direction nodes p .index) (rust.locateStepIndex direction nodes p) 0
+  pub uniform-index : (first step : Float) (n : ℕ) (p : Float)
+      → Gives (((2 ≤ n) × (n ≤ 64)) × ((finite first ≡ true) × (Stepped step × (finite p ≡ true)))) (locateLowerIndexUniform first step n p .answer)
+      (locateLowerIndexUniform first step n p .index) (rust.locateLowerIndexUniform first step n p) 0
+  -- the two checks give a verdict alone: accepted where the Rust's says `Ok(())`, and 8 at the interval that it names
+  pub lent-check : (nodes : List Float) (tolerance : Float)
+      → Judges ((Axis nodes × Tolerant tolerance) × (rust.validateUniformGrid nodes 0 tolerance ≡ ok)) (validateUniformGrid nodes tolerance)
+  pub lent-check-names : (nodes : List Float) (tolerance : Float) (i : ℕ)
+      → Axis nodes → Tolerant tolerance → rust.validateUniformGrid nodes 0 tolerance ≡ nonUniform 0 i → validateUniformGrid nodes tolerance ≡ refused (refusal 8 0 i)
+  pub default-check : (nodes : List Float) → Judges (Axis nodes × (rust.validateUniformGridEpsilon nodes 0 ≡ ok)) (validateUniformGridEpsilon nodes Default)
+  pub default-check-names : (nodes : List Float) (i : ℕ)
+      → Axis nodes → rust.validateUniformGridEpsilon nodes 0 ≡ nonUniform 0 i → validateUniformGridEpsilon nodes Default ≡ refused (refusal 8 0 i)

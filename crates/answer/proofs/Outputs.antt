@@ -11,9 +11,12 @@ pub refused-keeps : {A : Type 0} (a : Fault) (xs out : List A) → good a ≡ fa
 unfolding filledInto given
 refused-keeps a xs out h = ap (λ (t : Bool). cond t (xs ++ drop (length xs) out) out) h
 
-pub given-front : {A : Type 0} (a : Fault) (xs out : List A) → good a ≡ true → take (length xs) (filledInto a xs out) ≡ xs
+pub filled-good : {A : Type 0} (a : Fault) (xs out : List A) → good a ≡ true → filledInto a xs out ≡ xs ++ drop (length xs) out
 unfolding filledInto given
-given-front a xs out h = ap (λ (t : Bool). take (length xs) (cond t (xs ++ drop (length xs) out) out)) h ∙ take-at xs (drop (length xs) out) (length xs) refl
+filled-good a xs out h = ap (λ (t : Bool). cond t (xs ++ drop (length xs) out) out) h
+
+pub given-front : {A : Type 0} (a : Fault) (xs out : List A) → good a ≡ true → take (length xs) (filledInto a xs out) ≡ xs
+given-front a xs out h = ap (take (length xs)) (filled-good a xs out h) ∙ take-at xs (drop (length xs) out) (length xs) refl
 
 pub beyond-kept : {A : Type 0} (a : Fault) (xs out : List A) → drop (length xs) (filledInto a xs out) ≡ drop (length xs) out
 unfolding filledInto given

@@ -27,7 +27,8 @@ use Rattle.axis.specs.Picks.{nearestRule, stepRule}
 use Rattle.slices.specs.Slices.{shapeWithout, sliceAnswer, ruleSlice, nearestSlice, nearestSliced, stepSlice, stepSliced}
 use Rattle.slices.specs.declared.SliceAnswer.{SliceAnswer}
 use Rattle.ninterp.proofs.Demands.{Accepted}
-use Rattle.laws.specs.Promises.{Table, axes, counts, After, Commute, sliceNearest, sliceStep}
+use Rattle.laws.specs.Calls.{Table, axes, counts, sliceNearest, sliceStep}
+use Rattle.laws.specs.Promises.{After, Commute}
 use Rattle.laws.proofs.SliceLaw as law
 use Rattle.laws.proofs.SliceLaw.{Made}
 use Rattle.laws.proofs.Commutes as two

@@ -2,7 +2,7 @@
 use mathlib.Core.Path.{_≡_, refl, sym, ap, ap₂, _∙_, subst}
 use mathlib.Core.Bool.{Bool, true, false, _&&_, cond}
 use mathlib.Core.List.{List, [], _∷_, _++_}
-use Prim.Native.Nat.{ℕ, _-_, _≤_, _<_}
+use Prim.Native.Nat.{ℕ, _+_, _-_, _*_, _≤_, _<_}
 use native.Mathlib.Omega.{arith}
 use borrow.Author.Tests.{lt-ltb}
 use lib.ListN.{length, take, drop, getD}
@@ -21,6 +21,7 @@ use Rattle.layout.specs.declared.Shape.{Shape}
 use Rattle.layout.proofs.Walks.{length-axes}
 use Rattle.checks.specs.Nodes.{node}
 use Rattle.checks.specs.Passed.{Axis}
+use Rattle.checks.proofs.table.Grids.{frame-shape}
 use Rattle.axis.specs.Locations.{axisLocation, uniformLocation}
 use Rattle.axis.specs.Picks.{nearestRule, stepRule}
 use Rattle.axis.proofs.cells.Axes.{climbs}
@@ -36,72 +37,67 @@ use Rattle.ninterp.proofs.LinearFinite.{held-axis, linear-always, linear-given}
 use Rattle.ninterp.proofs.Rusts.{linear-text, linear-uniform-text, nearest-text, step-text}
 use Rattle.image.specs.Load.{loadAnswer}
 use Rattle.image.specs.declared.LoadAnswer.{LoadAnswer}
-use Rattle.writer.specs.Made.{imageLength, imageOf}
+use Rattle.writer.specs.Made.{valuesAt, imageLength}
 use Rattle.writer.specs.Write.{writeFault, writeAnswer, plain}
+use Rattle.writer.proofs.Headers.{count-in}
 use Rattle.writer.proofs.Laws.{write-accepts}
 use Rattle.writer.proofs.Trip.{answer-back, nodes-returned, values-returned}
-use Rattle.laws.specs.Promises.{Floats, Table, axes, counts, axis, stored, named, element, Accepted, Within, InRange, Directed, Uniform, linear, linearUniform, nearest, step, rustOf, write, load, OnNodes}
+use Rattle.laws.specs.Calls.{Floats, Table, axes, counts, axis, stored, linear, linearUniform, nearest, step, write, load}
+use Rattle.laws.specs.Promises.{Accepted, Within, InRange, Directed, Uniform, Elements, rustOf, Returns, OnNodes}
 use Rattle.laws.proofs.Premises.{counted, passes, readings-pass, uniform-passes}
 
 -- ---- the Rust's bits
--- an index list of the table names its element
-inside-named : (is ns : List ℕ) → Inside is ns → named is ns ≡ true
-inside-named [] [] w = refl
-inside-named [] (n ∷ ns) w = absurd w
-inside-named (i ∷ is) [] w = absurd w
-inside-named (i ∷ is) (n ∷ ns) w = ap₂ _&&_ (lt-ltb i n (w .0)) (inside-named is ns (w .1))
-
-element-stored : (t : Table) (is : List ℕ) → Inside is (counts t) → element t is ≡ stored t is
-unfolding element
-element-stored t is w = ap (λ (b : Bool). cond b (stored t is) nan) (inside-named is (counts t) w)
-
-module _ (t : Table) (ps : Floats) (g : Accepted t) (r : InRange t ps) where
+module _ (t : Table) (ps : Floats) (e : List ℕ → Float) (g : Accepted t) (r : InRange t ps) (same : Elements t e) where
   abbrev over : (List Float → Float → AxisLocation) → Float
   over rule = rustLinear (locations rule (axesOf (counts t) (t .nodes .list)) (ps .list)) (stored t)
 
   -- what the text gives, over the locations of a rule
   over-text : (rule : List Float → Float → AxisLocation) (text : Float) → text ≡ interpolated rule (counts t) (t .nodes .list) (t .values .list) (ps .list) → over rule ≡ text
   unfolding interpolated
-  over-text rule text e = rust-linear (locations rule (axesOf (counts t) (t .nodes .list)) (ps .list)) (stored t) ∙ sym e
+  over-text rule text q = rust-linear (locations rule (axesOf (counts t) (t .nodes .list)) (ps .list)) (stored t) ∙ sym q
 
-  text-is : over axisLocation ≡ rustOf linearText t ps
-  text-is = over-text axisLocation (rustOf linearText t ps) (linear-text (t .shape) (t .nodes .list) (t .values .list) (ps .list) (passes t g) (readings-pass t ps r) (element t) (element-stored t))
+  text-is : over axisLocation ≡ rustOf linearText t e ps
+  text-is = over-text axisLocation (rustOf linearText t e ps) (linear-text (t .shape) (t .nodes .list) (t .values .list) (ps .list) (passes t g) (readings-pass t ps r) e (same .same))
 
-  pub linear-bits : (linear t ps ≡ answered (rustOf linearText t ps)) × (finite (rustOf linearText t ps) ≡ true)
+  pub linear-bits : (linear t ps ≡ answered (rustOf linearText t e ps)) × (finite (rustOf linearText t e ps) ≡ true)
   linear-bits = (
     linear-given (t .shape) (t .nodes .list) (t .values .list) (ps .list) (passes t g) (readings-pass t ps r) (t .nodes .held) (t .values .held) ∙ ap answered text-is,
     sym (ap finite text-is) ∙ linear-always (t .shape) (t .nodes .list) (t .values .list) (ps .list) (passes t g) (readings-pass t ps r) (t .nodes .held) (t .values .held),
   )
 
-  uniform-text-is : over uniformLocation ≡ rustOf linearUniformText t ps
-  uniform-text-is = over-text uniformLocation (rustOf linearUniformText t ps) (linear-uniform-text (t .shape) (t .nodes .list) (t .values .list) (ps .list) (passes t g) (readings-pass t ps r) (element t) (element-stored t))
+  uniform-text-is : over uniformLocation ≡ rustOf linearUniformText t e ps
+  uniform-text-is = over-text uniformLocation (rustOf linearUniformText t e ps) (linear-uniform-text (t .shape) (t .nodes .list) (t .values .list) (ps .list) (passes t g) (readings-pass t ps r) e (same .same))
 
-  pub uniform-bits : Uniform t → (finite (rustOf linearUniformText t ps) ≡ true → linearUniform t ps ≡ answered (rustOf linearUniformText t ps)) × (finite (rustOf linearUniformText t ps) ≡ false → linearUniform t ps ≡ refused (refusal 12 0 0))
+  pub uniform-bits : Uniform t → (finite (rustOf linearUniformText t e ps) ≡ true → linearUniform t ps ≡ answered (rustOf linearUniformText t e ps)) × (finite (rustOf linearUniformText t e ps) ≡ false → linearUniform t ps ≡ refused (refusal 12 0 0))
   uniform-bits u = (
     λ f. linear-uniform-answers (t .shape) (t .nodes .list) (t .values .list) (ps .list) (passes t g) (readings-pass t ps r) (uniform-passes t g u) (ap finite uniform-text-is ∙ f) ∙ ap answered uniform-text-is,
     λ f. linear-uniform-refuses (t .shape) (t .nodes .list) (t .values .list) (ps .list) (passes t g) (readings-pass t ps r) (uniform-passes t g u) (ap finite uniform-text-is ∙ f),
   )
 
-  pub nearest-bits : nearest t ps ≡ answered (rustOf nearestText t ps)
+  pub nearest-bits : nearest t ps ≡ answered (rustOf nearestText t e ps)
   nearest-bits =
       nearest-demand (t .shape) (t .nodes .list) (t .values .list) (ps .list) (passes t g) (readings-pass t ps r)
-      ∙ ap answered (sym (nearest-text (t .shape) (t .nodes .list) (t .values .list) (ps .list) (passes t g) (readings-pass t ps r) (element t) (element-stored t)))
+      ∙ ap answered (sym (nearest-text (t .shape) (t .nodes .list) (t .values .list) (ps .list) (passes t g) (readings-pass t ps r) e (same .same)))
 
-  pub step-bits : (ds : List ℕ) → Directed t ds → step ds t ps ≡ answered (rustOf (stepText ds) t ps)
+  pub step-bits : (ds : List ℕ) → Directed t ds → step ds t ps ≡ answered (rustOf (stepText ds) t e ps)
   step-bits ds d =
       step-demand (t .shape) (t .nodes .list) (t .values .list) (ps .list) (passes t g) (readings-pass t ps r) ds (d .lent) (d .two)
-      ∙ ap answered (sym (step-text (t .shape) (t .nodes .list) (t .values .list) (ps .list) (passes t g) (readings-pass t ps r) (element t) (element-stored t) ds))
+      ∙ ap answered (sym (step-text (t .shape) (t .nodes .list) (t .values .list) (ps .list) (passes t g) (readings-pass t ps r) e (same .same) ds))
 
 -- ---- an image written, and the first bytes of the output loaded
-pub image-back : (t : Table) (out : List ℕ) (ns vs : List Float) → Accepted t → imageLength (t .shape) ≤ length out → total (counts t) ≤ length ns → size (counts t) ≤ length vs
-    → (write t out .0 ≡ record { answer = fine; length = imageLength (t .shape) })
-    × (load (take (write t out .0 .length) (write t out .1)) ns vs
-    ≡ (record { answer = fine; shape = plain (t .shape) }, (t .nodes .list ++ drop (length (t .nodes .list)) ns, t .values .list ++ drop (length (t .values .list)) vs)))
-unfolding writeAnswer
+pub image-back : (t : Table) (out : List ℕ) (ns vs : List Float)
+    → Accepted t → 40 + 8 * total (counts t) + 8 * size (counts t) ≤ length out → total (counts t) ≤ length ns → size (counts t) ≤ length vs
+    → (write t out .0 ≡ record { answer = fine; length = 40 + 8 * total (counts t) + 8 * size (counts t) }) × Returns t ns vs (load (take (write t out .0 .length) (write t out .1)) ns vs)
+unfolding writeAnswer imageLength valuesAt
 image-back t out ns vs a room n v = (
   ap₂ (λ (x : Answer) (l : ℕ). record { answer = x; length = l }) (then-good fault fine g) (orders.given-good fault (imageLength (t .shape)) 0 g),
-  ap₂ (λ (x : LoadAnswer) (y : List Float × List Float). (x, y)) (answer-back s (t .four) nodes values (t .nodes .held) (t .values .held) out g ns vs ln lv)
-      (ap₂ (λ (x y : List Float). (x, y)) (nodes-returned s (t .four) nodes values (t .nodes .held) (t .values .held) out g ns vs ln lv) (values-returned s (t .four) nodes values (t .nodes .held) (t .values .held) out g ns vs ln lv)),
+  record {
+    answer = ap (λ (x : LoadAnswer). x .answer) loaded;
+    axes-back = ap (λ (x : LoadAnswer). x .shape .axes) loaded ∙ plain-axes;
+    counts-back = ap (λ (x : LoadAnswer). countsOf (x .shape)) loaded ∙ count-in s (frame-shape s nodes values (passes t a .frame)) (t .four);
+    nodes-back = nodes-returned s (t .four) nodes values (t .nodes .held) (t .values .held) out g ns vs ln lv;
+    values-back = values-returned s (t .four) nodes values (t .nodes .held) (t .values .held) out g ns vs ln lv;
+  },
 )
   where
     s : Shape
@@ -124,6 +120,12 @@ image-back t out ns vs a room n v = (
 
     lv : length (t .values .list) ≤ length vs
     lv = omega (arith, a .values-lent, v)
+
+    loaded : loadAnswer (take (write t out .0 .length) (write t out .1)) (length ns) (length vs) ≡ record { answer = fine; shape = plain (t .shape) }
+    loaded = answer-back s (t .four) nodes values (t .nodes .held) (t .values .held) out g ns vs ln lv
+
+    plain-axes : plain (t .shape) .axes ≡ axes t
+    plain-axes = unfold plain in refl
 
 -- ---- readings that are nodes
 eq-finite : (x p : Float) → finite x ≡ true → eq x p ≡ true → finite p ≡ true

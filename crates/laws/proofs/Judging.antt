@@ -4,7 +4,7 @@ use mathlib.Core.Bool.{Bool, true, false}
 use mathlib.Core.List.{List}
 use Prim.Native.Nat.{ℕ, _≤_, _<_}
 use native.Mathlib.Omega.{arith}
-use lib.ListN.{length, take}
+use lib.ListN.{length, take, drop, length-append, length-drop}
 use lib.Seq.{length-take-le}
 use lib.Ieee.{Float}
 use Rattle.answer.specs.Faults.{good, given, filledInto}
@@ -12,35 +12,41 @@ use Rattle.answer.specs.Answer.{plusZero, answered, fine, _then_}
 use Rattle.answer.specs.declared.Fault.{Fault}
 use Rattle.answer.specs.declared.Answer.{Answer}
 use Rattle.answer.proofs.Orders as orders
-use Rattle.answer.proofs.Answers.{Told, fine-told, then-told, then-good}
-use Rattle.answer.proofs.Outputs.{refused-keeps, given-front}
+use Rattle.answer.proofs.Answers.{Told, quiet, then-good}
+use Rattle.answer.proofs.Outputs.{refused-keeps, filled-good, given-front, beyond-kept}
 use Rattle.layout.specs.Shape.{countsOf, size, total, noShape}
+use Rattle.layout.specs.Layout.{without}
 use Rattle.layout.specs.declared.Shape.{Shape}
 use Rattle.checks.specs.Numbers.{axesUniformFault, rangeFault}
-use Rattle.checks.proofs.lent.Rows.{length-passed}
+use Rattle.checks.proofs.lent.Rows.{length-passed, room-passed}
 use Rattle.checks.proofs.table.Grids.{frame-nodes, frame-values}
 use Rattle.orders.specs.Orders.{lookupFault, stepFault, linearUniformFault, nearestSliceFault, stepSliceFault, nearestFront, stepFront, linearFront, linearUniformFront, pointFault}
-use Rattle.ninterp.specs.Tables.{nearestAnswer, stepAnswer}
-use Rattle.ninterp.specs.Linears.{linearAnswer, linearUniformAnswer}
+use Rattle.axis.specs.Locations.{axisLocation, uniformLocation}
+use Rattle.axis.specs.Picks.{nearestRule, stepRule}
+use Rattle.rust.specs.declared.AxisLocation.{AxisLocation}
 use Rattle.ninterp.specs.Records.{recordSize, recordFault, recordAnswer}
-use Rattle.slices.specs.Slices.{nearestSlice, stepSlice, sliceAnswer}
-use Rattle.slices.specs.LinearSlices.{linearRest, linearSlice, linearUniformSlice, linearSliceFault, linearUniformSliceFault}
+use Rattle.slices.specs.Slices.{ruleSlice, sliceAnswer}
+use Rattle.slices.specs.LinearSlices.{alongFirst, linearValues, linearRest, linearSliceFault, linearUniformSliceFault}
 use Rattle.slices.specs.Ready.{Ready}
 use Rattle.slices.proofs.Sliced.{Fronted, nearest-fronted, nearest-ready, step-fronted, step-ready, step-lent, step-directions, linear-fronted, linear-ready, linear-first, uniform-linear, point-taken, point-range}
-use Rattle.slices.proofs.Refusals.{slice-quiet, no-shape}
-use Rattle.image.specs.Load.{loadFault, loadAnswer}
+use Rattle.slices.proofs.Refusals.{no-shape}
+use Rattle.slices.proofs.Alongs.{length-along}
+use Rattle.image.specs.Load.{roomsFault, loadFault, loadAnswer}
 use Rattle.image.specs.Image.{nodesIn, valuesIn}
 use Rattle.image.specs.Fields.{shapeOf}
 use Rattle.image.proofs.Laws.{load-means}
 use Rattle.writer.specs.Made.{imageLength, imageOf}
 use Rattle.writer.specs.Write.{writeFault, writeAnswer}
+use Rattle.writer.proofs.Images.{length-image}
 use Rattle.writer.proofs.Laws.{write-means}
 use Rattle.writer.proofs.Trip.{loaded-frame}
 use Rattle.ninterp.proofs.Demands as passed
-use Rattle.laws.specs.Promises.{Floats, Table, axes, counts, axis, Accepted, Within, InRange, Directed, Uniform, Sliceable, load, write}
+use Rattle.laws.specs.Calls.{Floats, Table, axes, counts, axis, load, write}
+use Rattle.laws.specs.Promises.{Accepted, Within, InRange, Directed, Uniform, Plain, Keeps, Sliceable, Loaded}
 use Rattle.laws.specs.Primitives.{Tells}
-use Rattle.laws.proofs.Left.{front-accepted}
-use Rattle.laws.proofs.Primitives.{refused-bad}
+use Rattle.laws.proofs.Left.{Cut, front-accepted}
+use Rattle.laws.proofs.SliceLaw as law
+use Rattle.laws.proofs.Primitives.{quiet-told, refused-bad}
 use Rattle.laws.proofs.Premises.{then-number, accepted, in-range, within, uniform, directed}
 
 -- ---- the lookups
@@ -154,65 +160,138 @@ tells {a} h = (h .empty, λ e. (ap (λ (x : Answer). x .axis) (h .clear e) ∙ n
     no-place v = unfold answered in refl
 
 -- ---- what an output holds
-pub slice-keeps : (f : Fault) (s : Shape) (k : ℕ) (xs out : List Float)
-    → Tells (sliceAnswer f s k .answer) × ((sliceAnswer f s k .answer .number ≡ 0 → ⊥) → (sliceAnswer f s k .shape ≡ noShape) × (filledInto f xs out ≡ out))
-slice-keeps f s k xs out = (tells told, λ h. (no-shape f s k (bad h), refused-keeps f xs out (bad h)))
+-- of a call that fills n places of it, where there is room for them
+keeps : {A : Type 0} (f : Fault) (xs out : List A) (n : ℕ) → (good f ≡ true → (length xs ≡ n) × (n ≤ length out)) → Keeps (f then fine) n out (filledInto f xs out)
+keeps f xs out n fits = record { untouched = λ h. refused-keeps f xs out (refused-bad f h); long = length-filled (good f) refl; rest = beyond (good f) refl }
+  where
+    length-filled : (b : Bool) → good f ≡ b → length (filledInto f xs out) ≡ length out
+    length-filled true e =
+        let r = fits e in
+        ap length (filled-good f xs out e) ∙ length-append xs (drop (length xs) out) ∙ omega (arith, length-drop (length xs) out, r .0, r .1)
+    length-filled false e = ap length (refused-keeps f xs out e)
+
+    beyond : (b : Bool) → good f ≡ b → drop n (filledInto f xs out) ≡ drop n out
+    beyond true e = subst (λ (k : ℕ). drop k (filledInto f xs out) ≡ drop k out) (fits e .0) (beyond-kept f xs out)
+    beyond false e = ap (drop n) (refused-keeps f xs out e)
+
+plain : (f : Fault) → Plain (f then fine)
+plain f = (quiet-told (quiet f), λ h. then-good f fine (then-number f fine h))
+
+pub slice-keeps : (f : Fault) (s : Shape) (k : ℕ) (xs out : List Float) (n : ℕ) → (good f ≡ true → (length xs ≡ n) × (n ≤ length out))
+    → Plain (sliceAnswer f s k .answer) × (((sliceAnswer f s k .answer .number ≡ 0 → ⊥) → sliceAnswer f s k .shape ≡ noShape) × Keeps (sliceAnswer f s k .answer) n out (filledInto f xs out))
+slice-keeps f s k xs out n fits =
+    (subst Plain (sym is) (plain f), (λ h. no-shape f s k (refused-bad f (λ e. h (ap (λ (x : Answer). x .number) is ∙ e))), subst (λ (a : Answer). Keeps a n out (filledInto f xs out)) (sym is) (keeps f xs out n fits)))
   where
     is : sliceAnswer f s k .answer ≡ (f then fine)
     is = unfold sliceAnswer in refl
 
-    told : Told (sliceAnswer f s k .answer)
-    told = subst Told (sym is) (then-told f fine fine-told)
+module _ (t : Table) (k : ℕ) (p : Float) (out : List Float) where
+  -- a slice that is made has as many values as the other axes, and room for them
+  cut-fits : {xs : List Float} → Cut (t .shape) (t .nodes .list) (t .values .list) k p xs → Sliceable t k p out → (length xs ≡ size (without k (counts t))) × (size (without k (counts t)) ≤ length out)
+  cut-fits cut s = (cut .long, s .room)
 
-    bad : (sliceAnswer f s k .answer .number ≡ 0 → ⊥) → good f ≡ false
-    bad h = refused-bad f (λ e. h (ap (λ (x : Answer). x .number) is ∙ e))
+  pub nearest-fits : good (nearestSliceFault (t .shape) (t .nodes .list) (t .values .list) k p (length out)) ≡ true
+      → (length (ruleSlice nearestRule (t .shape) (t .nodes .list) (t .values .list) k p) ≡ size (without k (counts t))) × (size (without k (counts t)) ≤ length out)
+  unfolding ruleSlice
+  nearest-fits g = cut-fits (law.cut (law.nearest-made (t .shape) (t .nodes .list) (t .values .list) k p (length out) g)) (nearest-judged t k p out g)
+
+  pub step-fits : (ds : List ℕ) → good (stepSliceFault (t .shape) (t .nodes .list) (t .values .list) ds k p (length out)) ≡ true
+      → (length (ruleSlice (stepRule ds) (t .shape) (t .nodes .list) (t .values .list) k p) ≡ size (without k (counts t))) × (size (without k (counts t)) ≤ length out)
+  unfolding ruleSlice
+  step-fits ds g = cut-fits (law.cut (law.step-made (t .shape) (t .nodes .list) (t .values .list) ds k p (length out) g)) (step-slice-judged t k p out ds g)
+
+  -- the two linears, on the first axis
+  first-fits : (l : AxisLocation) → k ≡ 0 → Sliceable t k p out → (length (alongFirst l (counts t) (t .values .list)) ≡ size (without k (counts t))) × (size (without k (counts t)) ≤ length out)
+  first-fits l z s = (length-along l (counts t) (t .values .list) ∙ ap (λ (a : ℕ). size (without a (counts t))) (sym z), s .room)
+
+  pub linear-fits : good (linearSliceFault (t .shape) (t .nodes .list) (t .values .list) k p (length out)) ≡ true
+      → (length (linearValues axisLocation (t .shape) (t .nodes .list) (t .values .list) p) ≡ size (without k (counts t))) × (size (without k (counts t)) ≤ length out)
+  unfolding linearValues
+  linear-fits g = first-fits (axisLocation (axis t 0) p) (linear-slice-first t k p out g) (linear-slice-judged t k p out g)
+
+  pub uniform-fits : good (linearUniformSliceFault (t .shape) (t .nodes .list) (t .values .list) k p (length out)) ≡ true
+      → (length (linearValues uniformLocation (t .shape) (t .nodes .list) (t .values .list) p) ≡ size (without k (counts t))) × (size (without k (counts t)) ≤ length out)
+  unfolding linearValues
+  uniform-fits g = first-fits (uniformLocation (axis t 0) p) (uniform-slice-first t k p out g .0) (uniform-slice-judged t k p out g)
 
 module _ (img : List ℕ) (ns vs : List Float) where
   abbrev fault : Fault
   fault = loadFault img (length ns) (length vs)
 
-  pub load-keeps : Tells (load img ns vs .0 .answer)
-      × ((load img ns vs .0 .answer .number ≡ 0 → ⊥) → (load img ns vs .0 .shape ≡ noShape) × ((load img ns vs .1 .0 ≡ ns) × (load img ns vs .1 .1 ≡ vs)))
+  -- what was loaded: the shape, and as many nodes and values, with room for them
+  module _ (g : good fault ≡ true) where
+    shape-given : given fault (shapeOf img) noShape ≡ shapeOf img
+    shape-given = orders.given-good fault (shapeOf img) noShape g
+
+    whole : passed.Accepted (shapeOf img) (nodesIn img) (valuesIn img)
+    whole = record { frame = loaded-frame img (length ns) (length vs) g; axes = load-means img (length ns) (length vs) g .axes; stored = load-means img (length ns) (length vs) g .stored }
+
+    node-count : length (nodesIn img) ≡ total (countsOf (given fault (shapeOf img) noShape))
+    node-count = frame-nodes (shapeOf img) (nodesIn img) (valuesIn img) (whole .frame) ∙ ap (λ (s : Shape). total (countsOf s)) (sym shape-given)
+
+    value-count : length (valuesIn img) ≡ size (countsOf (given fault (shapeOf img) noShape))
+    value-count = frame-values (shapeOf img) (nodesIn img) (valuesIn img) (whole .frame) ∙ ap (λ (s : Shape). size (countsOf s)) (sym shape-given)
+
+    node-room : total (countsOf (given fault (shapeOf img) noShape)) ≤ length ns
+    unfolding roomsFault
+    node-room = subst (λ (s : Shape). total (countsOf s) ≤ length ns) (sym shape-given) (room-passed 0 (total (countsOf (shapeOf img))) (length ns) (orders.first-passed _ _ (load-means img (length ns) (length vs) g .rooms)))
+
+    value-room : size (countsOf (given fault (shapeOf img) noShape)) ≤ length vs
+    unfolding roomsFault
+    value-room = subst (λ (s : Shape). size (countsOf s) ≤ length vs) (sym shape-given) (room-passed 1 (size (countsOf (shapeOf img))) (length vs) (orders.second-passed _ _ (load-means img (length ns) (length vs) g .rooms)))
+
+  pub load-keeps : Plain (load img ns vs .0 .answer)
+      × (((load img ns vs .0 .answer .number ≡ 0 → ⊥) → load img ns vs .0 .shape ≡ noShape)
+      × (Keeps (load img ns vs .0 .answer) (total (countsOf (load img ns vs .0 .shape))) ns (load img ns vs .1 .0)
+      × Keeps (load img ns vs .0 .answer) (size (countsOf (load img ns vs .0 .shape))) vs (load img ns vs .1 .1)))
   unfolding loadAnswer
   load-keeps = (
-    tells (then-told fault fine fine-told),
-    λ h. (orders.given-bad fault (shapeOf img) noShape (refused-bad fault h), (refused-keeps fault (nodesIn img) ns (refused-bad fault h), refused-keeps fault (valuesIn img) vs (refused-bad fault h))),
+    plain fault,
+    (
+      λ h. orders.given-bad fault (shapeOf img) noShape (refused-bad fault h),
+      (keeps fault (nodesIn img) ns _ (λ g. (node-count g, node-room g)), keeps fault (valuesIn img) vs _ (λ g. (value-count g, value-room g))),
+    ),
   )
 
   -- the table that stands at the fronts of the outputs
-  pub load-judged : (t : Table) → load img ns vs .0 .answer .number ≡ 0 → t .shape ≡ load img ns vs .0 .shape → t .nodes .list ≡ take (total (counts t)) (load img ns vs .1 .0)
-      → t .values .list ≡ take (size (counts t)) (load img ns vs .1 .1) → Accepted t
+  pub load-judged : (t : Table) → load img ns vs .0 .answer .number ≡ 0 → Loaded (load img ns vs) t → Accepted t
   unfolding loadAnswer
-  load-judged t h e n v = accepted t (subst (λ (s : Shape). passed.Accepted s (t .nodes .list) (t .values .list)) (sym shape) (subst (λ (xs : List Float). passed.Accepted (shapeOf img) xs (t .values .list)) (sym nodes) (subst (λ (xs : List Float). passed.Accepted (shapeOf img) (nodesIn img) xs) (sym values) whole)))
+  load-judged t h l = accepted t (subst (λ (s : Shape). passed.Accepted s (t .nodes .list) (t .values .list)) (sym shape) (subst (λ (xs : List Float). passed.Accepted (shapeOf img) xs (t .values .list)) (sym nodes) (subst (λ (xs : List Float). passed.Accepted (shapeOf img) (nodesIn img) xs) (sym values) (whole g))))
     where
       g : good fault ≡ true
       g = then-number fault fine h
 
       shape : t .shape ≡ shapeOf img
-      shape = e ∙ orders.given-good fault (shapeOf img) noShape g
-
-      whole : passed.Accepted (shapeOf img) (nodesIn img) (valuesIn img)
-      whole = record { frame = loaded-frame img (length ns) (length vs) g; axes = load-means img (length ns) (length vs) g .axes; stored = load-means img (length ns) (length vs) g .stored }
+      shape = l .shape ∙ shape-given g
 
       nodes : t .nodes .list ≡ nodesIn img
-      nodes = n ∙ ap (λ (m : ℕ). take m (filledInto fault (nodesIn img) ns)) (ap (λ (s : Shape). total (countsOf s)) shape ∙ sym (frame-nodes (shapeOf img) (nodesIn img) (valuesIn img) (whole .frame))) ∙ given-front fault (nodesIn img) ns g
+      nodes = l .nodes ∙ ap (λ (m : ℕ). take m (filledInto fault (nodesIn img) ns)) (ap (λ (s : Shape). total (countsOf s)) (l .shape) ∙ sym (node-count g)) ∙ given-front fault (nodesIn img) ns g
 
       values : t .values .list ≡ valuesIn img
-      values = v ∙ ap (λ (m : ℕ). take m (filledInto fault (valuesIn img) vs)) (ap (λ (s : Shape). size (countsOf s)) shape ∙ sym (frame-values (shapeOf img) (nodesIn img) (valuesIn img) (whole .frame))) ∙ given-front fault (valuesIn img) vs g
+      values = l .values ∙ ap (λ (m : ℕ). take m (filledInto fault (valuesIn img) vs)) (ap (λ (s : Shape). size (countsOf s)) (l .shape) ∙ sym (value-count g)) ∙ given-front fault (valuesIn img) vs g
 
 module _ (t : Table) (out : List ℕ) where
   abbrev writing : Fault
   writing = writeFault (t .shape) (t .nodes .list) (t .values .list) (length out)
 
-  pub write-keeps : Tells (write t out .0 .answer) × ((write t out .0 .answer .number ≡ 0 → ⊥) → (write t out .0 .length ≡ 0) × (write t out .1 ≡ out))
-  unfolding writeAnswer
-  write-keeps = (
-    tells (then-told writing fine fine-told),
-    λ h. (orders.given-bad writing (imageLength (t .shape)) 0 (refused-bad writing h), refused-keeps writing (imageOf (t .shape) (t .nodes .list) (t .values .list)) out (refused-bad writing h)),
-  )
+  -- the image that was written, with room for it
+  written-fits : good writing ≡ true
+      → (length (imageOf (t .shape) (t .nodes .list) (t .values .list)) ≡ given writing (imageLength (t .shape)) 0) × (given writing (imageLength (t .shape)) 0 ≤ length out)
+  written-fits g =
+      let w = write-means (t .shape) (t .nodes .list) (t .values .list) (length out) g in
+      let is : given writing (imageLength (t .shape)) 0 ≡ imageLength (t .shape) = orders.given-good writing (imageLength (t .shape)) 0 g in (
+        length-image (t .shape) (t .nodes .list) (t .values .list) (frame-nodes (t .shape) (t .nodes .list) (t .values .list) (w .frame)) (frame-values (t .shape) (t .nodes .list) (t .values .list) (w .frame)) ∙ sym is,
+        omega (arith, is, w .roomy),
+      )
 
-  pub write-judged : write t out .0 .answer .number ≡ 0 → Accepted t
+  pub write-keeps : Plain (write t out .0 .answer)
+      × (((write t out .0 .answer .number ≡ 0 → ⊥) → write t out .0 .length ≡ 0) × Keeps (write t out .0 .answer) (write t out .0 .length) out (write t out .1))
+  unfolding writeAnswer
+  write-keeps = (plain writing, (λ h. orders.given-bad writing (imageLength (t .shape)) 0 (refused-bad writing h), keeps writing (imageOf (t .shape) (t .nodes .list) (t .values .list)) out _ written-fits))
+
+  pub write-judged : write t out .0 .answer .number ≡ 0 → Accepted t × (write t out .0 .length ≤ length out)
   unfolding writeAnswer
   write-judged h =
-      let w = write-means (t .shape) (t .nodes .list) (t .values .list) (length out) (then-number writing fine h) in
-      accepted t (record { frame = w .frame; axes = w .axes; stored = w .stored })
+      let g = then-number writing fine h in
+      let w = write-means (t .shape) (t .nodes .list) (t .values .list) (length out) g in
+      (accepted t (record { frame = w .frame; axes = w .axes; stored = w .stored }), written-fits g .1)

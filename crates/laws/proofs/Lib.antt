@@ -11,5 +11,7 @@ pub mod Primitives
 pub mod Judging
 pub mod Giving
 pub mod Slicing
+pub mod Leaving
+pub mod Square
 pub mod Commuting
 pub mod Promises

@@ -37,7 +37,7 @@ first-inside [] is i some l w = absurd (omega arith)
 first-inside (c ∷ cs) is i some l w = (l, w)
 
 -- 12 passes a list of finite results
-results-good : (xs : List Float) → ((i : ℕ) → i < length xs → finite (getD xs i nan) ≡ true) → good (resultsFault xs) ≡ true
+pub results-good : (xs : List Float) → ((i : ℕ) → i < length xs → finite (getD xs i nan) ≡ true) → good (resultsFault xs) ≡ true
 unfolding resultsFault
 results-good xs h =
     ap good (orders.none-good (λ i. resultFault i (getD xs i nan)) 0 (length xs)

@@ -34,7 +34,8 @@ use Rattle.rust.specs.Utils.{Validated, ok, nonUniform}
 use Rattle.rust.specs.Strategies.{validateLinearUniform}
 use Rattle.axis.proofs.Texts.{uniformRow, validate-axes-text}
 use Rattle.ninterp.proofs.Demands as passed
-use Rattle.laws.specs.Promises.{Floats, Table, axes, counts, axis, Accepted, Within, InRange, Directed, Uniform}
+use Rattle.laws.specs.Calls.{Floats, Table, axes, counts, axis}
+use Rattle.laws.specs.Promises.{Accepted, Within, InRange, Directed, Uniform}
 use Rattle.laws.proofs.Accepts.{accepts}
 
 -- an answer that tells 0 passed its checks

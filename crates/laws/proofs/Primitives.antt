@@ -1,5 +1,5 @@
 -- The page of promises of the seven primitives (laws/specs/Primitives.antt), by the theorems there are. Assumes nothing.
-use mathlib.Core.Path.{_≡_, refl, sym, ap, ap₂, _∙_}
+use mathlib.Core.Path.{_≡_, refl, sym, ap, ap₂, _∙_, subst}
 use mathlib.Core.Bool.{Bool, true, false, not, _||_}
 use mathlib.Core.List.{List}
 use Prim.Native.Nat.{ℕ, _+_, _-_, _≤_, _<_}
@@ -33,6 +33,8 @@ use Rattle.axis.specs.Exact.{exactNode}
 use Rattle.axis.specs.Locations.{axisLocation}
 use Rattle.axis.specs.Steps.{stepIndex}
 use Rattle.axis.specs.Uniform.{uniformIndex}
+use Rattle.axis.proofs.Located.{uniform-index-fits}
+use Rattle.axis.proofs.cells.Cells.{cell-inside}
 use Rattle.axis.proofs.Texts.{uniformRow, lower-text, exact-text, axis-text, step-index-text, uniform-index-text, validate-text, epsilon-text, row-passed}
 use Rattle.utils.specs.Calls.{locationFraction, indexAnswer, exactAnswer, axisAnswer, axisReadingFault, lowerFault, exactFault, locateFault, directedFault, uniformReadFault, spacingFault, toleranceOf, locateLowerIndex, exactIndex, locateAxis, locateStepIndex, locateLowerIndexUniform, validateUniformGrid, validateUniformGridEpsilon}
 use Rattle.utils.specs.declared.Tolerance.{Tolerance}
@@ -241,16 +243,23 @@ module _ (nodes : List Float) where
   unfolding validateUniformGridEpsilon spacingFault toleranceOf
   default-check-names i a e = names nodes noFault (defaultFault 0 nodes) (rust.validateUniformGridEpsilon nodes 0) Unit (λ u. orders.good-no-fault) (λ h. tt) (epsilon-text 0 nodes) i a tt e
 
+lent-epsilon : (nodes : List Float) (tolerance : Float) → validateUniformGridEpsilon nodes (Lent tolerance) ≡ validateUniformGrid nodes tolerance
+unfolding validateUniformGrid
+lent-epsilon nodes tolerance = refl
+
 pub primitives : Primitives
 primitives = record {
   lower-index = lower-index;
+  lower-fits = λ nodes p r. subst (λ (i : ℕ). i + 1 < length nodes) (sym (lower-text nodes p (r .0) (r .1))) (cell-inside nodes p (r .0 .enough));
   exact-index = λ nodes lower p. exact-index nodes p lower;
   axis-location = axis-location;
   axis-overflows = overflows;
   step-index = λ direction nodes p. step-index nodes p direction;
   uniform-index = uniform-index;
+  uniform-fits = λ first step n p h. subst (λ (i : ℕ). i + 1 < n) (sym (uniform-index-text first step n p)) (uniform-index-fits first step n p h);
   lent-check = lent-check;
   lent-check-names = lent-check-names;
+  lent-epsilon = lent-epsilon;
   default-check = default-check;
   default-check-names = default-check-names;
 }

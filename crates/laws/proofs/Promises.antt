@@ -3,7 +3,7 @@ use mathlib.Core.Path.{_≡_, refl, sym, ap, _∙_, subst}
 use mathlib.Core.Logic.{_⊎_, inl, inr}
 use mathlib.Core.Bool.{Bool, true, false}
 use mathlib.Core.List.{List, [], _∷_}
-use Prim.Native.Nat.{ℕ, zero, suc}
+use Prim.Native.Nat.{ℕ, zero, suc, _+_, _*_}
 use lib.ListN.{length, getD}
 use lib.Ieee.{Float, nan}
 use lib.Ieee.Scale.{finite}
@@ -13,28 +13,35 @@ use Rattle.answer.specs.declared.Fault.{Fault}
 use Rattle.answer.specs.declared.Answer.{Answer}
 use Rattle.answer.proofs.Orders as orders
 use Rattle.answer.proofs.Answers.{then-good, then-bad}
-use Rattle.checks.specs.Numbers.{rangeFault, resultFault, resultsFault}
-use Rattle.checks.proofs.numbers.Rows.{result-fine, result-wild}
+use Rattle.checks.specs.Numbers.{rangeFault}
+use Rattle.checks.proofs.lent.Rows.{length-same}
 use Rattle.ninterp.specs.Tables.{nearestAnswer, stepAnswer}
 use Rattle.ninterp.specs.Linears.{linearAnswer, linearUniformAnswer}
-use Rattle.ninterp.specs.Records.{recordAnswer}
+use Rattle.bytes.specs.Words.{floatAt}
+use Rattle.layout.specs.Layout.{tabulate}
+use Rattle.ninterp.specs.Records.{kindAnswer, recordSize, recordReadings, recordFault, recordAnswer}
 use Rattle.ninterp.proofs.Refusals.{nearest-told, step-told, linear-told, linear-uniform-told, record-told}
 use Rattle.ninterp.proofs.UniformOverflow as wide
 use Rattle.slices.specs.Slices.{sliceAnswer, nearestSlice, nearestSliced, stepSlice, stepSliced}
+use Rattle.image.specs.Load.{loadAnswer}
+use Rattle.writer.specs.Write.{writeAnswer}
 use Rattle.slices.specs.LinearSlices.{linearSlice, linearSliced, linearUniformSlice, linearUniformSliced}
-use Rattle.laws.specs.Promises.{Floats, Table, axis, Accepted, Sliceable, Overflows, Demand1, Demand2, Demand3}
+use Rattle.laws.specs.Calls.{Floats, Table, axes, axis, on, record-of}
+use Rattle.laws.specs.Promises.{Accepted, Sliceable, Overflows, Demand1, Demand2, Demand3}
 use Rattle.laws.proofs.Premises.{then-number, passes, accepted, in-range, uniform, uniform-passes, range-passes, directed-lent, directed-passes}
 use Rattle.laws.proofs.Primitives.{primitives}
 use Rattle.laws.proofs.Judging as judging
 use Rattle.laws.proofs.Giving as giving
 use Rattle.laws.proofs.Slicing as slicing
+use Rattle.laws.proofs.Leaving as leaving
 use Rattle.laws.proofs.Slicing.{slice-good}
 use Rattle.laws.proofs.Commuting as commuting
-use Rattle.laws.proofs.Makes.{nearest-slice-made, step-slice-made, linear-uniform-slice-made}
+use Rattle.laws.proofs.Square as square
+use Rattle.laws.proofs.Makes.{nearest-slice-made, step-slice-made}
 use Rattle.laws.proofs.LinearMakes.{linear-slice-always}
 
 pub demand-1 : Demand1
-unfolding linearAnswer linearUniformAnswer nearestAnswer stepAnswer recordAnswer linearSlice linearSliced linearUniformSlice linearUniformSliced nearestSlice nearestSliced stepSlice stepSliced
+unfolding linearAnswer linearUniformAnswer nearestAnswer stepAnswer recordAnswer sliceAnswer linearSlice linearSliced linearUniformSlice linearUniformSliced nearestSlice nearestSliced stepSlice stepSliced loadAnswer writeAnswer
 demand-1 = record {
   lookups-judge = (
     λ t ps h. judging.lookup-judged t ps (then-number _ _ h),
@@ -73,9 +80,16 @@ demand-1 = record {
     ),
   );
   record-tells = λ t rec. judging.tells (record-told (t .shape) (t .nodes .list) (t .values .list) rec);
+  lookups-refuse = λ t ps. ((λ h. then-bad _ _ h, λ h. then-bad _ _ h), (λ h. then-bad _ _ h, λ ds h. then-bad _ _ h));
+  slices-refuse = λ t k p out. ((λ h. then-bad _ fine h, λ h. then-bad _ fine h), (λ h. then-bad _ fine h, λ ds h. then-bad _ fine h));
+  load-refuses = λ img ns vs h. then-bad _ fine h;
+  write-refuses = λ t out h. then-bad _ fine h;
   slices-keep = (
-    λ t k p out. judging.slice-keeps _ (t .shape) k _ out,
-    (λ t k p out. judging.slice-keeps _ (t .shape) k _ out, (λ t k p out. judging.slice-keeps _ (t .shape) k _ out, λ ds t k p out. judging.slice-keeps _ (t .shape) k _ out)),
+    λ t k p out. judging.slice-keeps _ (t .shape) k _ out _ (judging.linear-fits t k p out),
+    (
+      λ t k p out. judging.slice-keeps _ (t .shape) k _ out _ (judging.uniform-fits t k p out),
+      (λ t k p out. judging.slice-keeps _ (t .shape) k _ out _ (judging.nearest-fits t k p out), λ ds t k p out. judging.slice-keeps _ (t .shape) k _ out _ (judging.step-fits t k p out ds)),
+    ),
   );
   load-keeps = judging.load-keeps;
   write-keeps = judging.write-keeps;
@@ -101,43 +115,23 @@ overflows = record {
     good-table : Accepted big
     good-table = accepted big wide.wide-accepted
 
+-- a record of the right length on an accepted table is answered by its kind
+record-gives : (t : Table) (rec : List ℕ) → Accepted t → length rec ≡ recordSize (t .shape) → record-of t rec ≡ on t (kindAnswer (getD rec 0 0)) (tabulate (axes t) (λ a. floatAt rec (1 + 8 * a)))
+unfolding recordAnswer recordFault recordReadings
+record-gives t rec g e =
+    then-good (recordFault (t .shape) (t .nodes .list) (t .values .list) rec) _
+    (orders.both-passed _ _ (passes t g .frame) (orders.both-passed _ _ (orders.passed-no-fault _ (length-same 2 (recordSize (t .shape)) (length rec) e)) (orders.both-passed _ _ (passes t g .axes) (passes t g .stored))))
+
 pub demand-2 : Demand2
 demand-2 = record {
   linear-gives = giving.linear-bits;
   nearest-gives = giving.nearest-bits;
-  step-gives = λ t ps ds g r d. giving.step-bits t ps g r ds d;
-  linear-uniform-gives = λ t ps g u r. giving.uniform-bits t ps g r u;
+  step-gives = λ t ps e ds g r s d. giving.step-bits t ps e g r s ds d;
+  linear-uniform-gives = λ t ps e g u r s. giving.uniform-bits t ps e g r s u;
   linear-uniform-overflows = overflows;
+  record-gives = record-gives;
   image-returns = giving.image-back;
 }
-
--- 12 is all that results can be refused with
-result-twelve : (place : ℕ) (x : Float) → good (resultFault place x) ≡ false → resultFault place x .number ≡ 12
-unfolding resultFault refusal
-result-twelve place x h = go (finite x) refl
-  where
-    go : (b : Bool) → finite x ≡ b → resultFault place x .number ≡ 12
-    go true e = orders.clash (good (resultFault place x)) (orders.passed-no-fault (resultFault place x) (result-fine place x e)) h
-    go false e = ap (λ (f : Fault). f .number) (sym (result-wild place x e))
-
-first-twelve : (f : ℕ → Fault) → ((j : ℕ) → good (f j) ≡ false → f j .number ≡ 12) → (i k : ℕ) → good (firstOf f i k) ≡ false → firstOf f i k .number ≡ 12
-unfolding firstOf
-first-twelve f each i zero h = orders.clash (good noFault) orders.good-no-fault h
-first-twelve f each i (suc k) h = go (good (f i)) refl (first-twelve f each (suc i) k)
-  where
-    go : (b : Bool) → good (f i) ≡ b → (good (firstOf f (suc i) k) ≡ false → firstOf f (suc i) k .number ≡ 12) → (f i or firstOf f (suc i) k) .number ≡ 12
-    go true e next =
-        ap (λ (x : Fault). x .number) (orders.or-good (f i) (firstOf f (suc i) k) e)
-        ∙ next (sym (ap good (orders.or-good (f i) (firstOf f (suc i) k) e)) ∙ h)
-    go false e next = ap (λ (x : Fault). x .number) (orders.or-bad (f i) (firstOf f (suc i) k) e) ∙ each i e
-
-results-number : (xs : List Float) → ((resultsFault xs then fine) .number ≡ 0) ⊎ ((resultsFault xs then fine) .number ≡ 12)
-unfolding resultsFault fine answered refused
-results-number xs = go (good (resultsFault xs)) refl
-  where
-    go : (b : Bool) → good (resultsFault xs) ≡ b → ((resultsFault xs then fine) .number ≡ 0) ⊎ ((resultsFault xs then fine) .number ≡ 12)
-    go true e = inl (ap (λ (a : Answer). a .number) (then-good (resultsFault xs) fine e))
-    go false e = inr (ap (λ (a : Answer). a .number) (then-bad (resultsFault xs) fine e) ∙ first-twelve (λ i. resultFault i (getD xs i nan)) (λ j. result-twelve j (getD xs j nan)) 0 (length xs) e)
 
 -- a reading of the page passes 11
 inside : (t : Table) (k : ℕ) (p : Float) (out : List Float) → Sliceable t k p out → good (rangeFault k (axis t k) p) ≡ true
@@ -149,10 +143,13 @@ demand-3 = record {
   linear-slices = λ t p out s.
       then-good _ fine
       (linear-slice-always (t .shape) (t .nodes .list) (t .values .list) (passes t (s .accepted)) (s .many) p (length out) (s .inside .finite-reading) (t .nodes .held) (t .values .held) (inside t 0 p out s) (s .room));
-  linear-uniform-slices = λ t p out s u.
-      subst (λ (f : Fault). ((f then fine) .number ≡ 0) ⊎ ((f then fine) .number ≡ 12))
-      (sym (linear-uniform-slice-made (t .shape) (t .nodes .list) (t .values .list) (passes t (s .accepted)) (s .many) p (length out) (s .inside .finite-reading) (inside t 0 p out s) (s .room) (uniform-passes t (s .accepted) u)))
-      (results-number _);
+  linear-uniform-slices = leaving.uniform-slice-made;
+  linear-uniform-slice-overflows = λ t p out i s u. leaving.uniform-slice-overflows t p out s u i;
+  slices-leave = (leaving.linear-leaves, (leaving.linear-uniform-leaves, (leaving.nearest-leaves, λ ds t k p out. leaving.step-leaves t k p out ds)));
+  linear-values = leaving.linear-values;
+  linear-uniform-values = leaving.linear-uniform-values;
+  nearest-values = leaving.nearest-values;
+  step-values = leaving.step-values;
   nearest-slices = λ t k p out s.
       then-good _ fine
       (nearest-slice-made (t .shape) (t .nodes .list) (t .values .list) (passes t (s .accepted)) (s .many) p (length out) (s .inside .finite-reading) k (s .there) (inside t k p out s) (s .room));
@@ -165,6 +162,7 @@ demand-3 = record {
   step-answers = slicing.step-answers;
   nearest-commute = commuting.nearest-commute;
   step-commute = commuting.step-commute;
+  two-axes = square.two-axes;
   linear-stored = λ t ps at g o. giving.stored-bits t ps at g o .0;
   nearest-stored = λ t ps at g o. giving.stored-bits t ps at g o .1 .0;
   step-stored = λ t ps at ds g o d. giving.stored-bits t ps at g o .1 .1 ds d;

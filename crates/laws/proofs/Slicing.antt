@@ -23,7 +23,8 @@ use Rattle.slices.specs.LinearSlices.{linearValues, linearSliceFault, linearUni
 use Rattle.slices.specs.declared.SliceAnswer.{SliceAnswer}
 use Rattle.slices.proofs.Refusals.{made-shape}
 use Rattle.laws.specs.Lowered.{lowered}
-use Rattle.laws.specs.Promises.{Floats, Table, counts, After, Answers, linear, linearUniform, nearest, step, sliceLinear, sliceLinearUniform, sliceNearest, sliceStep}
+use Rattle.laws.specs.Calls.{Floats, Table, counts, linear, linearUniform, nearest, step, sliceLinear, sliceLinearUniform, sliceNearest, sliceStep}
+use Rattle.laws.specs.Promises.{After, Answers}
 use Rattle.laws.proofs.Left as over
 use Rattle.laws.proofs.Left.{Cut}
 use Rattle.laws.proofs.SliceLaw as law

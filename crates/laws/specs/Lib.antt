@@ -1,3 +1,4 @@
 pub mod Lowered
 pub mod Primitives
+pub mod Calls
 pub mod Promises

@@ -16,7 +16,7 @@ use Rattle.rust.specs.Utils.{ok, nonUniform}
 use Rattle.rust.specs.declared.MaybeIndex.the-variants.{None}
 use Rattle.rust.specs.declared.AxisLocation.the-variants.{Exact}
 use Rattle.utils.specs.Calls.{locationFraction, locateLowerIndex, exactIndex, locateAxis, locateStepIndex, locateLowerIndexUniform, validateUniformGrid, validateUniformGridEpsilon}
-use Rattle.utils.specs.declared.Tolerance.the-variants.{Default}
+use Rattle.utils.specs.declared.Tolerance.the-variants.{Lent, Default}
 
 -- "A refusal gives its number, axis and place, with value +0.0"; "Success is 0, 0, 0"
 abbrev pub Tells : Answer → Type 0
@@ -47,6 +47,8 @@ Tolerant tolerance = (finite tolerance ≡ true) × (lt tolerance plusZero ≡ f
 pub record Primitives : Type 0 where
   pub lower-index : (nodes : List Float) (p : Float)
       → Gives (Readable nodes p) (locateLowerIndex nodes p .answer) (locateLowerIndex nodes p .index) (rust.locateLowerIndex nodes p) 0
+  -- (the text's index and the node above it lie on the axis: it reads none that is not there)
+  pub lower-fits : (nodes : List Float) (p : Float) → Readable nodes p → rust.locateLowerIndex nodes p + 1 < length nodes
   pub exact-index : (nodes : List Float) (lower : ℕ) (p : Float)
       → Gives (Readable nodes p × (lower + 1 < length nodes)) (exactIndex nodes lower p .answer) (exactIndex nodes lower p .index) (rust.exactIndex nodes lower p) None
   pub axis-location : (nodes : List Float) (p : Float)
@@ -58,11 +60,13 @@ pub record Primitives : Type 0 where
   pub uniform-index : (first step : Float) (n : ℕ) (p : Float)
       → Gives (((2 ≤ n) × (n ≤ 64)) × ((finite first ≡ true) × (Stepped step × (finite p ≡ true)))) (locateLowerIndexUniform first step n p .answer)
       (locateLowerIndexUniform first step n p .index) (rust.locateLowerIndexUniform first step n p) 0
+  pub uniform-fits : (first step : Float) (n : ℕ) (p : Float) → 2 ≤ n → rust.locateLowerIndexUniform first step n p + 1 < n
   -- the two checks give a verdict alone: accepted where the Rust's says `Ok(())`, and 8 at the interval that it names
   pub lent-check : (nodes : List Float) (tolerance : Float)
       → Judges ((Axis nodes × Tolerant tolerance) × (rust.validateUniformGrid nodes 0 tolerance ≡ ok)) (validateUniformGrid nodes tolerance)
   pub lent-check-names : (nodes : List Float) (tolerance : Float) (i : ℕ)
       → Axis nodes → Tolerant tolerance → rust.validateUniformGrid nodes 0 tolerance ≡ nonUniform 0 i → validateUniformGrid nodes tolerance ≡ refused (refusal 8 0 i)
+  pub lent-epsilon : (nodes : List Float) (tolerance : Float) → validateUniformGridEpsilon nodes (Lent tolerance) ≡ validateUniformGrid nodes tolerance
   pub default-check : (nodes : List Float) → Judges (Axis nodes × (rust.validateUniformGridEpsilon nodes 0 ≡ ok)) (validateUniformGridEpsilon nodes Default)
   pub default-check-names : (nodes : List Float) (i : ℕ)
       → Axis nodes → rust.validateUniformGridEpsilon nodes 0 ≡ nonUniform 0 i → validateUniformGridEpsilon nodes Default ≡ refused (refusal 8 0 i)

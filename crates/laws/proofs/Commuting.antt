@@ -5,14 +5,13 @@ use mathlib.Core.List.{List}
 use Prim.Native.Nat.{ℕ, suc, _-_, _≤_, _<_}
 use native.Mathlib.Omega.{arith}
 use borrow.Author.Tests.{lt-ltb, le-leb}
-use lib.Dec.{leb, ltb}
+use lib.Dec.{leb}
 use lib.ListN.{length}
 use lib.Ieee.{Float}
 use lib.Ieee.Scale.{finite}
 use Rattle.answer.specs.Faults.{good, refusal, when, _or_, given, filledInto}
 use Rattle.answer.specs.Answer.{refused, fine, _then_}
 use Rattle.answer.specs.declared.Fault.{Fault}
-use Rattle.answer.specs.declared.Answer.{Answer}
 use Rattle.answer.proofs.Orders as orders
 use Rattle.answer.proofs.Answers.{then-bad}
 use Rattle.layout.specs.Shape.{countsOf, size, noShape}

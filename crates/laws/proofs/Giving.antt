@@ -1,12 +1,11 @@
 -- Demand 2 of the page of promises: the Rust's bits, the image's return; and stored bits at nodes. Assumes nothing.
-use mathlib.Core.Path.{_≡_, refl, sym, ap, ap₂, _∙_, subst}
-use mathlib.Core.Bool.{Bool, true, false, _&&_, cond}
-use mathlib.Core.List.{List, [], _∷_, _++_}
+use mathlib.Core.Path.{_≡_, refl, sym, ap, ap₂, _∙_}
+use mathlib.Core.Bool.{true, false}
+use mathlib.Core.List.{List}
 use Prim.Native.Nat.{ℕ, _+_, _-_, _*_, _≤_, _<_}
 use native.Mathlib.Omega.{arith}
-use borrow.Author.Tests.{lt-ltb}
-use lib.ListN.{length, take, drop, getD}
-use lib.Ieee.{Float, nan, inf, fin, le, eq}
+use lib.ListN.{length, take, getD}
+use lib.Ieee.{Float, nan, inf, fin, eq}
 use lib.Ieee.Scale.{finite}
 use Rattle.answer.specs.Faults.{good, refusal}
 use Rattle.answer.specs.Answer.{refused, answered, fine}
@@ -16,14 +15,13 @@ use Rattle.answer.proofs.Orders as orders
 use Rattle.answer.proofs.Answers.{then-good}
 use Rattle.binary64.proofs.Order as order
 use Rattle.layout.specs.Shape.{countsOf, size, total}
-use Rattle.layout.specs.Layout.{axesOf, table, tabulate, Inside}
+use Rattle.layout.specs.Layout.{axesOf, tabulate}
 use Rattle.layout.specs.declared.Shape.{Shape}
 use Rattle.layout.proofs.Walks.{length-axes}
 use Rattle.checks.specs.Nodes.{node}
 use Rattle.checks.specs.Passed.{Axis}
 use Rattle.checks.proofs.table.Grids.{frame-shape}
 use Rattle.axis.specs.Locations.{axisLocation, uniformLocation}
-use Rattle.axis.specs.Picks.{nearestRule, stepRule}
 use Rattle.axis.proofs.cells.Axes.{climbs}
 use Rattle.rust.specs.Located.{rustLinear}
 use Rattle.rust.specs.declared.AxisLocation.{AxisLocation}

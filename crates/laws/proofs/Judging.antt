@@ -2,13 +2,12 @@
 use mathlib.Core.Path.{_≡_, refl, sym, ap, _∙_, subst}
 use mathlib.Core.Bool.{Bool, true, false}
 use mathlib.Core.List.{List}
-use Prim.Native.Nat.{ℕ, _≤_, _<_}
+use Prim.Native.Nat.{ℕ, _≤_}
 use native.Mathlib.Omega.{arith}
 use lib.ListN.{length, take, drop, length-append, length-drop}
-use lib.Seq.{length-take-le}
 use lib.Ieee.{Float}
 use Rattle.answer.specs.Faults.{good, given, filledInto}
-use Rattle.answer.specs.Answer.{plusZero, answered, fine, _then_}
+use Rattle.answer.specs.Answer.{answered, fine, _then_}
 use Rattle.answer.specs.declared.Fault.{Fault}
 use Rattle.answer.specs.declared.Answer.{Answer}
 use Rattle.answer.proofs.Orders as orders
@@ -17,14 +16,13 @@ use Rattle.answer.proofs.Outputs.{refused-keeps, filled-good, given-front, beyo
 use Rattle.layout.specs.Shape.{countsOf, size, total, noShape}
 use Rattle.layout.specs.Layout.{without}
 use Rattle.layout.specs.declared.Shape.{Shape}
-use Rattle.checks.specs.Numbers.{axesUniformFault, rangeFault}
 use Rattle.checks.proofs.lent.Rows.{length-passed, room-passed}
 use Rattle.checks.proofs.table.Grids.{frame-nodes, frame-values}
 use Rattle.orders.specs.Orders.{lookupFault, stepFault, linearUniformFault, nearestSliceFault, stepSliceFault, nearestFront, stepFront, linearFront, linearUniformFront, pointFault}
 use Rattle.axis.specs.Locations.{axisLocation, uniformLocation}
 use Rattle.axis.specs.Picks.{nearestRule, stepRule}
 use Rattle.rust.specs.declared.AxisLocation.{AxisLocation}
-use Rattle.ninterp.specs.Records.{recordSize, recordFault, recordAnswer}
+use Rattle.ninterp.specs.Records.{recordSize, recordFault}
 use Rattle.slices.specs.Slices.{ruleSlice, sliceAnswer}
 use Rattle.slices.specs.LinearSlices.{alongFirst, linearValues, linearRest, linearSliceFault, linearUniformSliceFault}
 use Rattle.slices.specs.Ready.{Ready}
@@ -42,7 +40,7 @@ use Rattle.writer.proofs.Laws.{write-means}
 use Rattle.writer.proofs.Trip.{loaded-frame}
 use Rattle.ninterp.proofs.Demands as passed
 use Rattle.laws.specs.Calls.{Floats, Table, axes, counts, axis, load, write}
-use Rattle.laws.specs.Promises.{Accepted, Within, InRange, Directed, Uniform, Plain, Keeps, Sliceable, Loaded}
+use Rattle.laws.specs.Promises.{Accepted, InRange, Directed, Uniform, Plain, Keeps, Sliceable, Loaded}
 use Rattle.laws.specs.Primitives.{Tells}
 use Rattle.laws.proofs.Left.{Cut, front-accepted}
 use Rattle.laws.proofs.SliceLaw as law

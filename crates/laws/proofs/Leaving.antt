@@ -1,7 +1,7 @@
 -- Demand 3 of the page of promises: what a slice leaves is an accepted table, with the values that its rule gives along the axis alone; where a slice by
 -- LinearUniform is refused 12. Assumes nothing.
 use mathlib.Core.Path.{_≡_, refl, sym, ap, _∙_, subst}
-use mathlib.Core.Bool.{Bool, true, false}
+use mathlib.Core.Bool.{true, false}
 use mathlib.Core.List.{List, [], _∷_}
 use Prim.Native.Nat.{ℕ, zero, suc, _+_, _-_, _≤_, _<_}
 use native.Mathlib.Omega.{arith}
@@ -11,14 +11,14 @@ use lib.Ieee.{Float, nan, binary64, mul, sub, fits}
 use lib.Ieee.Scale.{finite}
 use lib.Ieee.Fits.{nan-fits, add-fits}
 use Rattle.answer.specs.Faults.{refusal, good, filledInto, firstOf}
-use Rattle.answer.specs.Answer.{refused, fine, _then_}
+use Rattle.answer.specs.Answer.{refused, fine}
 use Rattle.answer.specs.declared.Fault.{Fault}
 use Rattle.answer.proofs.Orders as orders
 use Rattle.answer.proofs.Answers.{then-good, then-bad}
 use Rattle.answer.proofs.Outputs.{given-front}
 use Rattle.binary64.proofs.Held.{Held, held-take, held-drop}
 use Rattle.layout.specs.Shape.{countsOf, size}
-use Rattle.layout.specs.Layout.{place, table, tabulate, indicesAt, Inside, insert, without, sliceValues, nodesWithout, axisOf}
+use Rattle.layout.specs.Layout.{place, table, tabulate, indicesAt, Inside, insert, without, sliceValues, nodesWithout}
 use Rattle.layout.specs.declared.Shape.{Shape}
 use Rattle.layout.proofs.Layouts.{getD-tabulate}
 use Rattle.layout.proofs.Removals.{slice-law}

@@ -2,7 +2,7 @@
 use mathlib.Core.Path.{_≡_, refl, sym, ap, ap₂, _∙_, subst}
 use mathlib.Core.Bool.{Bool, true, false, not}
 use mathlib.Core.List.{List, []}
-use Prim.Native.Nat.{ℕ, suc, _+_, _-_, _*_, _≤_, _<_, min}
+use Prim.Native.Nat.{ℕ, suc, _-_, _*_, _≤_, _<_, min}
 use native.Mathlib.Nat.{mul-le-mul-right, mul-le-mul-left, one-mul}
 use native.Mathlib.Omega.{arith}
 use borrow.Author.Tests.{eq-eqb, ne-eqb, eqb-true, eqb-false, ltb-true, ltb-false}
@@ -11,23 +11,19 @@ use lib.ListN.{length, take, drop, getD, length-take}
 use lib.Seq.{getD-take, ext-getD}
 use lib.Ieee.{Float, nan, lt}
 use lib.Ieee.Scale.{finite}
-use Rattle.answer.specs.Faults.{refusal, noFault, good, when, _or_, firstOf}
+use Rattle.answer.specs.Faults.{refusal, good, when, _or_, firstOf}
 use Rattle.answer.specs.Answer.{_then_}
 use Rattle.answer.specs.declared.Fault.{Fault}
 use Rattle.answer.specs.declared.Answer.{Answer}
 use Rattle.answer.proofs.Orders as orders
 use Rattle.checks.specs.Nodes.{node}
 use Rattle.checks.specs.Passed.{Axis}
-use Rattle.checks.specs.Numbers.{nodesFault, countFault, countsFault, lengthFault, readingFault, axesFault, rangesFault, valuesFault, readingsFault, rangeFault, directionsFault, axesUniformFault}
-use Rattle.checks.proofs.counts.Rows.{axes-right, count-fine}
-use Rattle.checks.proofs.lent.Rows.{length-same, length-passed}
-use Rattle.checks.proofs.nodes.Rows.{nodes-fine}
+use Rattle.checks.specs.Numbers.{lengthFault, readingFault, rangesFault, valuesFault, readingsFault, rangeFault, directionsFault, axesUniformFault}
+use Rattle.checks.proofs.lent.Rows.{length-passed}
 use Rattle.checks.proofs.numbers.Rows.{reading-fine}
 use Rattle.layout.specs.Shape.{countsOf, size, total}
 use Rattle.layout.specs.Layout.{axesOf, tabulate, insert, without, nodesWithout, axisOf}
-use Rattle.checks.specs.Shapes.{shapeFault, frameFault}
 use Rattle.layout.specs.declared.Shape.{Shape}
-use Rattle.checks.proofs.shapes.Frames.{product-fine}
 use Rattle.layout.proofs.Layouts.{length-tabulate, getD-tabulate}
 use Rattle.layout.proofs.Removals.{size-split, size-without, length-without, getD-without, getD-without-below, axes-without, total-without, length-insert, getD-insert, getD-insert-below, getD-insert-above}
 use Rattle.checks.proofs.table.Grids.{length-axis}

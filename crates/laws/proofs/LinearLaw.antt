@@ -23,9 +23,8 @@ use Rattle.checks.proofs.values.Rows.{value-good}
 use Rattle.layout.proofs.Layouts.{getD-tabulate, place-below}
 use Rattle.layout.proofs.Removals.{indices-back, tabulate-insert, length-without, getD-insert-above}
 use Rattle.orders.specs.Orders.{linearFront, linearUniformFront, pointFault}
-use Rattle.blend.specs.Blend.{blended, sliced, linear, computed}
+use Rattle.blend.specs.Blend.{sliced, linear, computed}
 use Rattle.rust.specs.declared.AxisLocation.{AxisLocation}
-use Rattle.rust.specs.declared.AxisLocation.the-variants.{Exact, Between}
 use Rattle.axis.specs.Locations.{axisLocation, uniformLocation, upperOf}
 use Rattle.ninterp.specs.Linears.{locations, interpolated, linearAnswer, linearUniformAnswer}
 use Rattle.ninterp.specs.Locations.{Within}

@@ -1,14 +1,14 @@
 -- The premises of the page of promises are what the rows of the table of numbers pass, both ways. Assumes nothing.
-use mathlib.Core.Path.{_≡_, refl, sym, ap, _∙_, subst}
+use mathlib.Core.Path.{_≡_, refl, sym, ap, _∙_}
 use mathlib.Core.Bool.{Bool, true, false}
 use mathlib.Core.List.{List, []}
-use Prim.Native.Nat.{ℕ, _+_, _-_, _≤_, _<_}
+use Prim.Native.Nat.{ℕ, _-_, _≤_, _<_}
 use native.Mathlib.Omega.{arith}
 use borrow.Author.Tests.{eq-eqb, ltb-false}
-use lib.Dec.{eqb, ltb}
+use lib.Dec.{ltb}
 use lib.ListN.{length, getD}
 use lib.Seq.{length-take-le}
-use lib.Ieee.{Float, nan, lt, le}
+use lib.Ieee.{Float, nan, lt}
 use lib.Ieee.Scale.{finite}
 use Rattle.answer.specs.Faults.{good, refusal, firstOf}
 use Rattle.answer.specs.Answer.{refused, _then_}
@@ -27,7 +27,6 @@ use Rattle.checks.proofs.ranges.Rows.{range-inside}
 use Rattle.checks.proofs.values.Rows.{value-good, values-finite}
 use Rattle.checks.proofs.shapes.Frames.{shape-some, shape-four}
 use Rattle.checks.proofs.table.Grids.{frame-shape, frame-axes, frame-values, grid-of}
-use Rattle.layout.specs.Shape.{countsOf}
 use Rattle.layout.specs.Layout.{axesOf}
 use Rattle.layout.proofs.Walks.{length-axes}
 use Rattle.rust.specs.Utils.{Validated, ok, nonUniform}

@@ -37,7 +37,6 @@ use Rattle.axis.proofs.Located.{uniform-index-fits}
 use Rattle.axis.proofs.cells.Cells.{cell-inside}
 use Rattle.axis.proofs.Texts.{uniformRow, lower-text, exact-text, axis-text, step-index-text, uniform-index-text, validate-text, epsilon-text, row-passed}
 use Rattle.utils.specs.Calls.{locationFraction, indexAnswer, exactAnswer, axisAnswer, axisReadingFault, lowerFault, exactFault, locateFault, directedFault, uniformReadFault, spacingFault, toleranceOf, locateLowerIndex, exactIndex, locateAxis, locateStepIndex, locateLowerIndexUniform, validateUniformGrid, validateUniformGridEpsilon}
-use Rattle.utils.specs.declared.Tolerance.{Tolerance}
 use Rattle.utils.specs.declared.Tolerance.the-variants.{Lent, Default}
 use Rattle.laws.specs.Primitives.{Tells, Judges, Gives, Readable, Stepped, Tolerant, Primitives}
 use Rattle.laws.proofs.Premises.{then-number}

@@ -1,16 +1,12 @@
 -- The page of promises (laws/specs/Promises.antt), statement by statement, by the theorems there are. Assumes nothing.
-use mathlib.Core.Path.{_≡_, refl, sym, ap, _∙_, subst}
-use mathlib.Core.Logic.{_⊎_, inl, inr}
-use mathlib.Core.Bool.{Bool, true, false}
+use mathlib.Core.Path.{_≡_, refl}
+use mathlib.Core.Bool.{true}
 use mathlib.Core.List.{List, [], _∷_}
-use Prim.Native.Nat.{ℕ, zero, suc, _+_, _*_}
+use Prim.Native.Nat.{ℕ, _+_, _*_}
 use lib.ListN.{length, getD}
-use lib.Ieee.{Float, nan}
-use lib.Ieee.Scale.{finite}
-use Rattle.answer.specs.Faults.{good, refusal, noFault, _or_, firstOf}
-use Rattle.answer.specs.Answer.{refused, answered, fine, _then_}
-use Rattle.answer.specs.declared.Fault.{Fault}
-use Rattle.answer.specs.declared.Answer.{Answer}
+use lib.Ieee.{Float}
+use Rattle.answer.specs.Faults.{good}
+use Rattle.answer.specs.Answer.{fine}
 use Rattle.answer.proofs.Orders as orders
 use Rattle.answer.proofs.Answers.{then-good, then-bad}
 use Rattle.checks.specs.Numbers.{rangeFault}
@@ -28,7 +24,7 @@ use Rattle.writer.specs.Write.{writeAnswer}
 use Rattle.slices.specs.LinearSlices.{linearSlice, linearSliced, linearUniformSlice, linearUniformSliced}
 use Rattle.laws.specs.Calls.{Floats, Table, axes, axis, on, record-of}
 use Rattle.laws.specs.Promises.{Accepted, Sliceable, Overflows, Demand1, Demand2, Demand3}
-use Rattle.laws.proofs.Premises.{then-number, passes, accepted, in-range, uniform, uniform-passes, range-passes, directed-lent, directed-passes}
+use Rattle.laws.proofs.Premises.{then-number, passes, accepted, in-range, uniform, range-passes, directed-lent, directed-passes}
 use Rattle.laws.proofs.Primitives.{primitives}
 use Rattle.laws.proofs.Judging as judging
 use Rattle.laws.proofs.Giving as giving

@@ -1,5 +1,5 @@
 -- Demand 3 of the page of promises, its first part: a slice, then a lookup in what it left. Assumes nothing.
-use mathlib.Core.Path.{_≡_, refl, sym, ap, _∙_, subst}
+use mathlib.Core.Path.{_≡_, sym, ap, _∙_, subst}
 use mathlib.Core.Bool.{true}
 use mathlib.Core.List.{List}
 use Prim.Native.Nat.{ℕ}
@@ -8,19 +8,15 @@ use lib.Ieee.{Float}
 use Rattle.answer.specs.Faults.{good, filledInto}
 use Rattle.answer.specs.Answer.{fine}
 use Rattle.answer.specs.declared.Fault.{Fault}
-use Rattle.answer.specs.declared.Answer.{Answer}
 use Rattle.answer.proofs.Outputs.{given-front}
 use Rattle.layout.specs.Shape.{countsOf, size}
 use Rattle.layout.specs.Layout.{insert, without, nodesWithout}
 use Rattle.layout.specs.declared.Shape.{Shape}
 use Rattle.orders.specs.Orders.{nearestSliceFault, stepSliceFault}
-use Rattle.axis.specs.Locations.{axisLocation, uniformLocation}
-use Rattle.axis.specs.Picks.{nearestRule, stepRule}
 use Rattle.ninterp.specs.Tables.{nearestAnswer, stepAnswer}
 use Rattle.ninterp.specs.Linears.{linearAnswer, linearUniformAnswer}
 use Rattle.slices.specs.Slices.{shapeWithout, sliceAnswer, ruleSlice, nearestSlice, nearestSliced, stepSlice, stepSliced}
-use Rattle.slices.specs.LinearSlices.{linearValues, linearSliceFault, linearUniformSliceFault, linearSlice, linearSliced, linearUniformSlice, linearUniformSliced}
-use Rattle.slices.specs.declared.SliceAnswer.{SliceAnswer}
+use Rattle.slices.specs.LinearSlices.{linearSliceFault, linearUniformSliceFault, linearSlice, linearSliced, linearUniformSlice, linearUniformSliced}
 use Rattle.slices.proofs.Refusals.{made-shape}
 use Rattle.laws.specs.Lowered.{lowered}
 use Rattle.laws.specs.Calls.{Floats, Table, counts, linear, linearUniform, nearest, step, sliceLinear, sliceLinearUniform, sliceNearest, sliceStep}

@@ -1,5 +1,6 @@
 -- The laws of what is put into a buffer, and of writers one after another.
 use mathlib.Core.Path.{_≡_, refl, sym, ap, _∙_}
+use mathlib.Core.Bool.{true, false}
 use mathlib.Core.List.{List, [], _∷_, _++_, append-assoc}
 use Prim.Native.Nat.{ℕ, suc, _+_, _≤_, _<_}
 use native.Mathlib.Nat.{add-zero, add-assoc}
@@ -7,7 +8,9 @@ use native.Mathlib.Numerals.{add-one}
 use native.Mathlib.Omega.{arith}
 use lib.ListN.{length, take, drop, getD, set, length-append, length-take, length-drop, take-append-drop}
 use lib.Seq.{take-suc, set-split, take-set-le, take-at, drop-at, length-take-le, drop-append-add, drop-drop}
-use Rattle.lines.specs.Put.{put, Wrote}
+use borrow.Author.Tests.{le-leb}
+use lib.Dec.{leb}
+use Rattle.lines.specs.Put.{put, Wrote, roomFor, allInto}
 
 pub put-none : (d : List ℕ) (at : ℕ) → put d at [] ≡ d
 unfolding put
@@ -82,3 +85,18 @@ copy-step {d} {at} src i {e} {b} h l w g =
     let m : length e ≡ length d = wrote-length w (omega (arith, n)) in
     let k : at + i + 1 ≡ at + (i + 1) = omega arith in
     rw (add-one i, take-suc src i 0 h, ← g, ← add-one i, ← k) (then w (omega arith) (wrote-one e (at + i) b (omega arith)))
+
+-- ---- bytes put where they all have room
+
+module _ (xs d : List ℕ) (at : ℕ) where
+  pub all-left : leb (at + length xs) (length d) ≡ false → d ≡ allInto xs d at
+  unfolding allInto roomFor
+  all-left h = rw h
+
+  pub all-put : leb (at + length xs) (length d) ≡ true → {e : List ℕ} → e ≡ put d at xs → e ≡ allInto xs d at
+  unfolding allInto roomFor
+  all-put h q = rw h q
+
+  -- for a caller that saw to the room
+  pub all-there : at + length xs ≤ length d → allInto xs d at ≡ put d at xs
+  all-there h = sym (all-put (le-leb (at + length xs) (length d) h) refl)

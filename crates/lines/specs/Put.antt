@@ -28,3 +28,7 @@ lineInto a d at = cond (roomFor longest d at) (put d at (lineOf a)) d
 -- the place past that line, or the place itself where nothing was written
 unfoldable pub lineEnd : Answer → List ℕ → ℕ → ℕ
 lineEnd a d at = cond (roomFor longest d at) (at + length (lineOf a)) at
+
+-- xs at a place where all of it has room; where it has none, the buffer as it was
+unfoldable pub allInto : List ℕ → List ℕ → ℕ → List ℕ
+allInto xs d at = cond (roomFor (length xs) d at) (put d at xs) d

@@ -5,7 +5,7 @@ ghost use lib.ListN.{length};
 ghost use lib.Dec.{leb};
 ghost use Rattle.lines.specs.Digit.{decimal};
 ghost use Rattle.lines.specs.Line.{okLine, noLine, longest};
-ghost use Rattle.lines.specs.Put.{Wrote, lineInto, lineEnd};
+ghost use Rattle.lines.specs.Put.{Wrote, lineInto, lineEnd, allInto};
 
 pub(crate) mod text;
 
@@ -56,4 +56,14 @@ pub fn put_line(a: Answer, out: &mut [u8], at: usize) -> usize
     } else {
         put_no(a.number as u64, a.axis as u64, a.place as u64, out, at)
     }
+}
+
+// Puts bytes at a place where they all have room, else none of them.
+pub fn put_all(src: &[u8], out: &mut [u8], at: usize)
+    ensures { λ _. ⌜ now (out .exit) ≡ allInto (now (src .entry)) (now (out .entry)) at ⌝ }
+{
+    if !within(at, src.len(), out.len()) {
+        return;
+    }
+    text::put_bytes(src, out, at);
 }

@@ -1,3 +1,4 @@
 pub mod Input
+pub mod Parts
 pub mod Run
 pub mod Turns

@@ -1,0 +1,4 @@
+pub mod Places
+pub mod Walks
+pub mod Gives
+pub mod Inputs

@@ -1,0 +1,33 @@
+-- What the parts of `run` give and leave: for the contracts of private functions, and no part of what is promised.
+use mathlib.Core.Path.{_≡_}
+use mathlib.Core.Bool.{cond}
+use mathlib.Core.List.{List, []}
+use Prim.Native.Nat.{ℕ, _≤_}
+use lib.Dec.{eqb}
+use lib.ListN.{length}
+use Rattle.answer.specs.Faults.{refusal}
+use Rattle.answer.specs.Answer.{refused}
+use Rattle.answer.specs.declared.Answer.{Answer}
+use Rattle.lines.specs.Line.{lineOf}
+use Rattle.lines.specs.Put.{put, allInto}
+use Rattle.lines.specs.Stream.{Rule, linesOf}
+use Rattle.program.specs.Input.{nothingMore}
+use Rattle.program.specs.Run.{mostRecords}
+
+-- xs was put at a place of the output d, where all of it has room, which left it as e; r is the length of xs, put or not
+pub record Placed (xs d : List ℕ) (at : ℕ) (e : List ℕ) (r : ℕ) : Type 0 where
+  pub long : r ≡ length xs
+  pub bytes : e ≡ allInto xs d at
+
+-- the output d was left as e, with xs at its front where all of it has room; r is the length of xs
+pub record Fronted (xs d e : List ℕ) (r : ℕ) : Type 0 where
+  pub long : r ≡ length xs
+  pub bytes : length xs ≤ length d → e ≡ put d 0 xs
+
+-- what is said at the end of the records, where so many bytes are left and so many records may still come
+unfoldable pub endOf : ℕ → ℕ → List ℕ
+endOf rest left = cond (nothingMore rest left) [] (lineOf (refused (refusal 3 0 2)))
+
+-- the text of a load's answer, and of the records that follow
+unfoldable pub textOf : Answer → Rule → List ℕ → List ℕ
+textOf a p records = cond (eqb (a .number) 0) (linesOf p mostRecords records) (lineOf a)

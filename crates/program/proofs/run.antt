@@ -2,3 +2,5 @@ pub mod Places
 pub mod Walks
 pub mod Gives
 pub mod Inputs
+pub mod Unique
+pub mod Examples

@@ -37,13 +37,13 @@ use Rattle.program.specs.Run.{runOf}
 use Rattle.program.proofs.turns.Laws.{run-loaded}
 
 -- kind 0 at 0.5, kind 2 at 1.0, kind 0 at 3.0
-abbrev three : List ℕ
+abbrev pub three : List ℕ
 three = 0 ∷ 0 ∷ 0 ∷ 0 ∷ 0 ∷ 0 ∷ 0 ∷ 224 ∷ 63 ∷ 2 ∷ 0 ∷ 0 ∷ 0 ∷ 0 ∷ 0 ∷ 0 ∷ 240 ∷ 63 ∷ 0 ∷ 0 ∷ 0 ∷ 0 ∷ 0 ∷ 0 ∷ 0 ∷ 8 ∷ 64 ∷ []
 
 abbrev rule : Rule
 rule = recordRule (shapeOf img) (nodesIn img) (valuesIn img)
 
-abbrev printed : List ℕ
+abbrev pub printed : List ℕ
 printed = 111 ∷ 107 ∷ 32 ∷ 52 ∷ 48 ∷ 50 ∷ 57 ∷ 48 ∷ 48 ∷ 48 ∷ 48 ∷ 48 ∷ 48 ∷ 48 ∷ 48 ∷ 48 ∷ 48 ∷ 48 ∷ 48 ∷ 10 ∷ 111 ∷ 107 ∷ 32 ∷ 52 ∷ 48 ∷ 51 ∷ 52 ∷ 48 ∷ 48 ∷ 48 ∷ 48 ∷ 48 ∷ 48 ∷ 48 ∷ 48 ∷ 48 ∷ 48 ∷ 48 ∷ 48 ∷ 10 ∷ 110 ∷ 111 ∷ 32 ∷ 49 ∷ 49 ∷ 32 ∷ 48 ∷ 32 ∷ 49 ∷ 10 ∷ []
 
 loads : good (loadFault img 256 4096) ≡ true

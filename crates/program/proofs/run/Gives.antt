@@ -1,5 +1,5 @@
 -- A text put into an output where it has room, and else refused. Assumes nothing.
-use mathlib.Core.Path.{_≡_, refl, sym, ap, ap₂, _∙_}
+use mathlib.Core.Path.{_≡_, refl, ap, ap₂, _∙_}
 use mathlib.Core.List.{List, [], _∷_, _++_}
 use Prim.Native.Nat.{ℕ, _+_, _≤_}
 use native.Mathlib.Nat.{zero-add}
@@ -20,7 +20,6 @@ use Rattle.lines.specs.Put.{put}
 use Rattle.lines.specs.Stream.{Rule, linesOf}
 use Rattle.program.specs.Parts.{Fronted, textOf}
 use Rattle.program.specs.Run.{mostRecords, textFault, textAnswer, Texted}
-use Rattle.program.specs.declared.run.RunAnswer.{RunAnswer}
 
 module _ (a : Answer) (p : Rule) (records : List ℕ) {d e : List ℕ} {r : ℕ} where
   pub line-fronted : (a .number ≡ 0 → ⊥) → Fronted (lineOf a) d e r → Fronted (textOf a p records) d e r

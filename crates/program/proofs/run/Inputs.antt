@@ -3,7 +3,7 @@ use mathlib.Core.Path.{_≡_, refl, sym, ap, ap₂, _∙_, subst}
 use mathlib.Core.Bool.{Bool, true, false, cond}
 use mathlib.Core.Logic.{_⊎_, inl, inr}
 use mathlib.Core.List.{List}
-use Prim.Native.Nat.{ℕ, _-_, _≤_, _<_, min}
+use Prim.Native.Nat.{ℕ, _-_, _<_, min}
 use native.Mathlib.Nat.{eq-or-lt-of-le}
 use native.Mathlib.Omega.{arith}
 use lib.Ieee.{Float}
@@ -85,9 +85,6 @@ module _ {img : List ℕ} {ns vs ns′ vs′ : List Float} {r : LoadAnswer} (l :
 -- ---- what is not there of an image is not looked at
 
 module _ (input : List ℕ) (size : ℕ) (e : size ≡ min (imageSize input) (length input)) where
-  pub size-there : size ≤ length input
-  size-there = omega (arith, e)
-
   image : take size input ≡ imageIn input
   image = ap (λ (k : ℕ). take k input) e ∙ take-there (imageSize input) input
 

@@ -4,7 +4,6 @@ use mathlib.Core.Bool.{Bool, true, false, _||_, cond}
 use mathlib.Core.Logic.{_⊎_}
 use mathlib.Core.List.{List, [], _++_}
 use Prim.Native.Nat.{ℕ, _+_, _≤_, _<_}
-use native.Mathlib.Nat.{add-zero}
 use native.Mathlib.Omega.{arith}
 use borrow.Author.Tests.{eqb-true, eqb-false}
 use lib.Dec.{eqb}
@@ -75,9 +74,9 @@ end-wrote rest left {d} {e} {r} room = go (nothingMore rest left)
     go false p q = line-wrote (refused (refusal 3 0 2)) d 0 (omega (arith, room)) p q
 
 -- it is what is printed of the rest, where no record may come or the rest is no whole one
-pub end-told : (p : Rule) → p .cut ≡ lineOf (refused (refusal 3 0 2)) → (left : ℕ) (rest : List ℕ) → (left ≡ 0) ⊎ (length rest < p .size) → linesOf p left rest ≡ endOf (length rest) left
+pub end-said : (p : Rule) → p .cut ≡ lineOf (refused (refusal 3 0 2)) → (left : ℕ) (rest : List ℕ) → (left ≡ 0) ⊎ (length rest < p .size) → linesOf p left rest ≡ endOf (length rest) left
 unfolding endOf nothingMore
-end-told p cut left rest s = go (eqb left 0) (eqb-true left 0) (eqb-false left 0) (eqb (length rest) 0) (eqb-true (length rest) 0) (eqb-false (length rest) 0)
+end-said p cut left rest s = go (eqb left 0) (eqb-true left 0) (eqb-false left 0) (eqb (length rest) 0) (eqb-true (length rest) 0) (eqb-false (length rest) 0)
   where
     go : (a : Bool) → (a ≡ true → left ≡ 0) → (a ≡ false → left ≡ 0 → ⊥) → (b : Bool) → (b ≡ true → length rest ≡ 0) → (b ≡ false → length rest ≡ 0 → ⊥) → linesOf p left rest ≡ cond (a || b) [] (lineOf (refused (refusal 3 0 2)))
     go true y n b y′ n′ = sym (cut-off p left rest (y refl))

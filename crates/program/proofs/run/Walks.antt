@@ -1,5 +1,5 @@
 -- A walk over the records, a chunk at a time: what is still to be put is what is printed of the records left. Assumes nothing.
-use mathlib.Core.Path.{_≡_, refl, sym, ap, ap₂, _∙_}
+use mathlib.Core.Path.{_≡_, sym, ap, _∙_}
 use mathlib.Core.Logic.{_⊎_, inl, inr, ⊎-elim}
 use mathlib.Core.List.{List, [], _++_, append-nil}
 use Prim.Native.Nat.{ℕ, zero, suc, _+_, _-_, _*_, _≤_, _<_}
@@ -13,9 +13,9 @@ use Rattle.lines.specs.Stream.{Rule, linesFirst, linesOf, Block}
 use Rattle.lines.proofs.Blocks.{Answered, answered, lines-none}
 use Rattle.lines.proofs.Runs.{lines-of-add}
 use Rattle.program.specs.Parts.{Placed, Fronted, endOf}
-use Rattle.program.proofs.run.Places.{Putting, putting-start, putting-step, putting-end, end-told}
+use Rattle.program.proofs.run.Places.{Putting, putting-start, putting-step, putting-end, end-said}
 
--- the records from `at` on are left, of which `left` may still be answered; `total` bytes are printed, and no record has more than a chunk
+-- the records from `at` on are left, of which `left` may still be answered; `total` bytes are put, no more than a chunk for each record answered
 pub record Walking (p : Rule) (limit : ℕ) (records d c e : List ℕ) (at left total : ℕ) : Type 0 where
   pub within : at ≤ length records
   pub chunk : length c ≡ 4096
@@ -43,7 +43,7 @@ module _ {p : Rule} {limit : ℕ} {records d c e : List ℕ} {at left total : �
   rest-long : length (drop at records) ≡ length records - at
   rest-long = length-drop at records
 
-  pub rest-whole : take (length records - at) (drop at records) ≡ drop at records
+  rest-whole : take (length records - at) (drop at records) ≡ drop at records
   rest-whole = take-all (length records - at) (drop at records) (omega (arith, rest-long))
 
   module _ {b : List ℕ} {count written : ℕ} (k : Block p left (take (length records - at) (drop at records)) c b count written) (kept : length b ≡ length c)
@@ -84,4 +84,4 @@ module _ {p : Rule} {limit : ℕ} {records d c e : List ℕ} {at left total : �
       last = ⊎-elim inl (λ h. inr (omega (arith, h, rest-long))) s
 
       said : linesOf p left (drop at records) ≡ endOf (length records - at) left ++ []
-      said = end-told p cut left (drop at records) last ∙ ap (λ (n : ℕ). endOf n left) rest-long ∙ sym (append-nil (endOf (length records - at) left))
+      said = end-said p cut left (drop at records) last ∙ ap (λ (n : ℕ). endOf n left) rest-long ∙ sym (append-nil (endOf (length records - at) left))

@@ -43,7 +43,7 @@ three = 0 ∷ 0 ∷ 0 ∷ 0 ∷ 0 ∷ 0 ∷ 0 ∷ 224 ∷ 63 ∷ 2 ∷ 0 ∷ 0 �
 abbrev rule : Rule
 rule = recordRule (shapeOf img) (nodesIn img) (valuesIn img)
 
-abbrev pub printed : List ℕ
+abbrev printed : List ℕ
 printed = 111 ∷ 107 ∷ 32 ∷ 52 ∷ 48 ∷ 50 ∷ 57 ∷ 48 ∷ 48 ∷ 48 ∷ 48 ∷ 48 ∷ 48 ∷ 48 ∷ 48 ∷ 48 ∷ 48 ∷ 48 ∷ 48 ∷ 10 ∷ 111 ∷ 107 ∷ 32 ∷ 52 ∷ 48 ∷ 51 ∷ 52 ∷ 48 ∷ 48 ∷ 48 ∷ 48 ∷ 48 ∷ 48 ∷ 48 ∷ 48 ∷ 48 ∷ 48 ∷ 48 ∷ 48 ∷ 10 ∷ 110 ∷ 111 ∷ 32 ∷ 49 ∷ 49 ∷ 32 ∷ 48 ∷ 32 ∷ 49 ∷ 10 ∷ []
 
 loads : good (loadFault img 256 4096) ≡ true

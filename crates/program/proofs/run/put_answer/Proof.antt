@@ -1,6 +1,5 @@
 use mathlib.Core.Path.{sym}
 use lib.Seq.{length-take-le}
-use Prim.Native.Nat.{_-_}
 use native.Mathlib.Omega.{arith}
 use Rattle.lines.proofs.Shows.{line-wrote}
 use Rattle.program.proofs.run.Places.{placed}

@@ -1,12 +1,10 @@
 use mathlib.Core.Path.{sym}
-use Prim.Native.Nat.{_-_, _≤_}
+use Prim.Native.Nat.{_≤_}
 use native.Mathlib.Omega.{arith}
 use lib.ListN.{length}
 use lib.Seq.{length-take-le}
-use Rattle.lines.proofs.Blocks.{Answered, answered}
-use Rattle.ninterp.specs.Records.{recordRule}
+use Rattle.lines.proofs.Blocks.{answered}
 use Rattle.program.proofs.run.Places.{placed}
-use denote.Ref.{now}
 use borrow.Author.Needs.{needs}
 use Rattle.program.proofs.run.put_chunk.Statement.{statement}
 use Rattle.program.proofs.run.put_chunk.Tie as tie

@@ -11,6 +11,7 @@ pub struct Fault {
 }
 
 // What a technician sees: a fault's number, axis and place, or 0, 0, 0; and a value.
+#[repr(C)]
 pub struct Answer {
     pub number: u32,
     pub axis: usize,

@@ -24,6 +24,7 @@ pub const HEADER: usize = 40;
 pub const MOST_BYTES: usize = 36_864;
 
 // What loading answers, with the shape of what it wrote.
+#[repr(C)]
 pub struct LoadAnswer {
     pub answer: Answer,
     pub shape: Shape,

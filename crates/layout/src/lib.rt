@@ -5,6 +5,7 @@ ghost use Prim.Native.Nat.{min};
 ghost use Rattle.layout.specs.Shape.{noShape, Four};
 
 // A lent shape: how many axes, and the count of nodes of each. Counts past the axes are not looked at.
+#[repr(C)]
 pub struct Shape {
     pub axes: usize,
     pub counts: [usize; 4],

@@ -15,6 +15,7 @@ use layout::Shape;
 use orders::before_slice;
 
 // What a slice answers, with the shape of what it wrote.
+#[repr(C)]
 pub struct SliceAnswer {
     pub answer: Answer,
     pub shape: Shape,

@@ -19,6 +19,7 @@ use rust::MaybeIndex;
 mod front;
 
 // What a primitive answers that gives an index.
+#[repr(C)]
 pub struct IndexAnswer {
     pub answer: Answer,
     pub index: usize,

@@ -21,6 +21,7 @@ use layout::Shape;
 use orders::stages;
 
 // What writing answers, with the image's length.
+#[repr(C)]
 pub struct WriteAnswer {
     pub answer: Answer,
     pub length: usize,

@@ -61,12 +61,13 @@ fn spaces_fault(img: &[u8], nodes: &mut [f64], values: &mut [f64]) -> Fault
     stages::stored_fault(fields::shape_of(img), &nodes[..n], &values[..m])
 }
 
-// The same in spaces of its own, so that nothing lent is written.
+// The same in spaces of its own, so that nothing lent is written. They begin as ones: zeros would be laid by C's memset, which a board
+// need not have.
 pub(crate) fn contents_fault(img: &[u8]) -> Fault
     requires { ⌜ Judged (now img) ⌝ }
     ensures { λ r. ⌜ r ≡ contentsFault (now (img .entry)) ⌝ }
 {
-    let mut nodes = [0.0f64; 256];
-    let mut values = [0.0f64; 4096];
+    let mut nodes = [1.0f64; 256];
+    let mut values = [1.0f64; 4096];
     spaces_fault(img, &mut nodes, &mut values)
 }

@@ -4,5 +4,4 @@ pub mod Floats
 pub mod Loads
 pub mod Laws
 pub mod Refusals
-pub mod Unique
 pub mod Examples

@@ -2,4 +2,3 @@ pub mod Slices
 pub mod Sliced
 pub mod Alongs
 pub mod Refusals
-pub mod Unique

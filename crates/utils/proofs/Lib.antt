@@ -1,3 +1,2 @@
 pub mod Primitives
 pub mod Refusals
-pub mod Unique

@@ -7,5 +7,4 @@ pub mod Refusals
 pub mod Back
 pub mod Made
 pub mod Trip
-pub mod Unique
 pub mod Examples

@@ -1,0 +1,444 @@
+/* The bench cases P1 to P11, and every refusal that each call can give, through include/ngamsothul.h. */
+#include "calls.h"
+
+#include <float.h>
+
+static const double A[4] = {0, 1, 2, 4};
+static double held[4096], second[4096];
+static unsigned checked;
+
+/* ---- what is expected */
+static void refused(const char *why, const call *c, uint32_t number, size_t axis, size_t place)
+{
+    ng_answer a = both_sides(c).answer;
+    checked++;
+    if (a.number != number || a.axis != axis || a.place != place)
+        fail("%s, %s: %u, %zu, %zu in the place of %u, %zu, %zu", known[c->what].name, why, a.number, a.axis, a.place, number, axis, place);
+}
+
+static given passed(const char *why, const call *c)
+{
+    given g = both_sides(c);
+    checked++;
+    if (g.answer.number) fail("%s, %s: refused %u, %zu, %zu", known[c->what].name, why, g.answer.number, g.answer.axis, g.answer.place);
+    return g;
+}
+
+static void indexed(const char *why, const call *c, size_t index)
+{
+    given g = passed(why, c);
+    if (g.index != index) fail("%s, %s: the index %zu in the place of %zu", known[c->what].name, why, g.index, index);
+}
+
+static void located(const char *why, const call *c, uint32_t between, size_t index, double fraction)
+{
+    given g = passed(why, c);
+    if (g.flag != between || g.index != index || memcmp(&g.fraction, &fraction, 8))
+        fail("%s, %s: %u, %zu, %a", known[c->what].name, why, g.flag, g.index, g.fraction);
+}
+
+static void valued(const char *why, const call *c, double value)
+{
+    given g = passed(why, c);
+    if (memcmp(&g.answer.value, &value, 8))
+        fail("%s, %s: the value %a in the place of %a", known[c->what].name, why, g.answer.value, value);
+}
+
+static void same(const char *why, const void *is, const void *owed, size_t size)
+{
+    if (memcmp(is, owed, size)) fail("%s", why);
+}
+
+/* ---- calls that are made, to be changed in one place each */
+static call on_axis(enum what what, const double *grid, size_t n, double x)
+{
+    return (call){.what = what, .nodes = grid, .nodes_length = n, .x = x, .tolerance = 0};
+}
+
+static call uniform(double first, double step, size_t n, double x)
+{
+    return (call){.what = LOCATE_LOWER_INDEX_UNIFORM, .first = first, .step = step, .at = n, .x = x};
+}
+
+static call stepped(uint8_t direction, double x)
+{
+    call c = on_axis(LOCATE_STEP_INDEX, A, 4, x);
+    c.direction = direction;
+    return c;
+}
+
+/* Two axes, three nodes and two, of one step each. */
+static double nodes[5], values[6], point[2];
+static uint8_t directions[2];
+static uint8_t image[NG_MOST_BYTES];
+enum { IMAGE = 40 + 8 * 5 + 8 * 6 };
+
+static call table(enum what what)
+{
+    memcpy(nodes, (double[5]){0, 1, 2, 0, 1}, sizeof nodes);
+    memcpy(values, (double[6]){0, 1, 2, 3, 4, 5}, sizeof values);
+    memcpy(point, (double[2]){0.5, 0.25}, sizeof point);
+    memcpy(directions, (uint8_t[2]){0, 1}, sizeof directions);
+    call c = {
+        .what = what, .shape = {2, {3, 2, 77, 0}}, .nodes = nodes, .nodes_length = 5, .values = values, .values_length = 6,
+        .point = point, .point_length = 2, .directions = directions, .directions_length = 2, .at = 0, .x = 0.5,
+        .held = held, .room = 2};
+    if (what == WRITE) c.room = IMAGE;
+    if (what == LOAD) c.image = image, c.image_length = IMAGE, c.room = 5, c.second_held = second, c.second_room = 6;
+    if (what == LOAD) c.nodes = c.values = NULL, c.nodes_length = c.values_length = 0;
+    return c;
+}
+
+static int takes_point(enum what w) { return w >= LINEAR && w <= STEP; }
+static int cuts(enum what w) { return w >= SLICE_LINEAR && w <= SLICE_STEP; }
+static int linear(enum what w) { return w == LINEAR || w == LINEAR_UNIFORM || w == SLICE_LINEAR || w == SLICE_LINEAR_UNIFORM; }
+static int of_one_step(enum what w) { return w == LINEAR_UNIFORM || w == SLICE_LINEAR_UNIFORM; }
+static int directed(enum what w) { return w == STEP || w == SLICE_STEP; }
+
+/* ---- the bench cases */
+static void bench_axis(void)
+{
+    for (int i = 0; i < 4; i++) {
+        call c = on_axis(LOCATE_LOWER_INDEX, A, 4, (double[]){1, 4, -1, 9}[i]);
+        indexed("P1", &c, (size_t[]){0, 2, 0, 2}[i]);
+    }
+    call c = on_axis(LOCATE_AXIS, A, 4, 1);
+    located("P2", &c, 0, 1, 0.0);
+    c.x = 3;
+    located("P2", &c, 1, 2, 0.5);
+    c = on_axis(LOCATE_AXIS, (double[]){-1, 1}, 2, 1 - 0x1p-53);
+    located("P3", &c, 1, 0, 1.0);
+    c = on_axis(LOCATE_AXIS, (double[]){0, 0x1p1000}, 2, 0x1p-1074);
+    located("P4", &c, 1, 0, 0.0);
+
+    for (int i = 0; i < 3; i++) {
+        c = stepped(0, (double[]){1, 3, 4}[i]);
+        indexed("P7 Lower", &c, (size_t[]){1, 2, 3}[i]);
+        c = stepped(1, (double[]){0, 1, 3}[i]);
+        indexed("P7 Upper", &c, (size_t[]){0, 1, 3}[i]);
+        c = uniform(0, 1, 4, (double[]){1, 9, 0x1p70}[i]);
+        indexed("P8", &c, (size_t[]){1, 2, 0}[i]);
+    }
+    c = on_axis(VALIDATE_EPSILON, (double[]){0, 1, 2 + 0x1p-42}, 3, 0);
+    c.tolerance = NAN; /* not looked at */
+    passed("P10", &c);
+    c.nodes = (double[]){0, 1, 2 + 0x1p-41};
+    refused("P10", &c, 8, 0, 1);
+}
+
+static void bench_table(void)
+{
+    double four[4] = {10, 11, 12, 13}, three = 3, near_zero = -0x1p-60;
+    call c = {.what = NEAREST, .shape = {1, {4}}, .nodes = A, .nodes_length = 4, .values = four, .values_length = 4,
+        .point = &three, .point_length = 1};
+    valued("P5", &c, 13);
+    c.shape.counts[0] = c.nodes_length = c.values_length = 2;
+    c.nodes = (double[]){-1, 1}, c.point = &near_zero;
+    valued("P6", &c, 11);
+
+    double squares[4] = {0, 1, 0, 1}, corners[4] = {0, 1, 2, 3}, reading[2] = {0.5, 0.25}, cut[3] = {7, 7, 7};
+    c = (call){.what = LINEAR, .shape = {2, {2, 2}}, .nodes = squares, .nodes_length = 4, .values = corners, .values_length = 4,
+        .point = reading, .point_length = 2, .at = 0, .x = 0.5, .held = cut, .room = 3};
+    valued("P9", &c, 1.25);
+    c.what = SLICE_LINEAR;
+    given g = passed("P9, the slice", &c);
+    same("P9, the slice's values", now.held, (double[]){1, 2, 7}, 24);
+    same("P9, the slice's shape", &g.shape, &(ng_shape){1, {2}}, sizeof(ng_shape));
+}
+
+static void bench_refused(void)
+{
+    for (int w = LOCATE_LOWER_INDEX; w <= VALIDATE_EPSILON; w++) {
+        if (w == LOCATE_LOWER_INDEX_UNIFORM) continue;
+        call c = on_axis(w, (double[]){0, 0}, 2, 0);
+        refused("P11", &c, 5, 0, 1);
+        c.nodes = (double[]){-DBL_MAX, DBL_MAX};
+        refused("the largest numbers", &c, 6, 0, 1);
+        c.nodes_length = 1;
+        refused("one node", &c, 2, 0, 0);
+        double long_axis[65];
+        for (int i = 0; i < 65; i++) long_axis[i] = i;
+        c.nodes = long_axis, c.nodes_length = 65;
+        refused("65 nodes", &c, 2, 0, 0);
+        c.nodes_length = 64;
+        passed("64 nodes", &c);
+    }
+}
+
+/* ---- the primitives' refusals */
+static void primitives(void)
+{
+    double wild[3] = {NAN, INFINITY, -INFINITY};
+    for (int i = 0; i < 3; i++) {
+        for (int w = LOCATE_LOWER_INDEX; w <= EXACT_INDEX; w++) {
+            call c = on_axis(w, A, 4, wild[i]);
+            refused("a wild reading", &c, 10, 0, 0);
+        }
+        for (int w = LOCATE_LOWER_INDEX; w <= VALIDATE_EPSILON; w++) {
+            double bad[4] = {0, 1, wild[i], 4};
+            call c = on_axis(w, bad, 4, NAN);
+            if (w != LOCATE_LOWER_INDEX_UNIFORM) refused("a wild node", &c, 4, 0, 2);
+        }
+        call c = uniform(0, 1, 4, wild[i]);
+        refused("a wild reading", &c, 10, 0, 0);
+        c = uniform(wild[i], 1, 4, 0);
+        refused("a wild first node", &c, 4, 0, 0);
+        c = uniform(0, wild[i], 4, NAN);
+        refused("a wild step", &c, 8, 0, 0);
+        for (int w = VALIDATE; w <= VALIDATE_EPSILON; w++) {
+            c = on_axis(w, (double[]){0, 1, 2}, 3, 0);
+            c.lent = UINT32_MAX, c.tolerance = wild[i];
+            refused("a wild tolerance", &c, 8, 0, 0);
+        }
+    }
+    call c = uniform(0, 0, 4, 0);
+    refused("a step of 0", &c, 8, 0, 0);
+    c = uniform(0, 1, 1, 0);
+    refused("a count of 1", &c, 2, 0, 0);
+    c = uniform(0, 1, SIZE_MAX, 0);
+    refused("the largest count", &c, 2, 0, 0);
+    for (int d = 2; d < 256; d += 253) {
+        c = stepped((uint8_t)d, 1);
+        refused("no direction", &c, 9, 0, 0);
+    }
+    c = on_axis(EXACT_INDEX, A, 4, 1);
+    for (size_t lower = 0; lower < 3; lower++) {
+        c.at = lower;
+        located("the node 1", &c, lower < 2, lower < 2, 0.0);
+    }
+    c.at = 3;
+    refused("a lower index past the last cell", &c, 2, 0, 1);
+    c.at = SIZE_MAX;
+    refused("the largest lower index", &c, 2, 0, 1);
+    c = on_axis(LOCATE_AXIS, (double[]){0, 1e-300}, 2, 1e300);
+    refused("a fraction past all numbers", &c, 12, 0, 0);
+    for (int w = VALIDATE; w <= VALIDATE_EPSILON; w++) {
+        c = on_axis(w, A, 4, 0);
+        c.lent = 1, c.tolerance = -0x1p-1074;
+        refused("a tolerance below 0", &c, 8, 0, 0);
+        c.tolerance = 0;
+        refused("an axis of two steps", &c, 8, 0, 2);
+        c.tolerance = 1;
+        passed("the same with room", &c);
+    }
+    c.lent = 0;
+    refused("by the default", &c, 8, 0, 2);
+}
+
+/* ---- 1, 2, 3: the shape and the lengths, of the lookups, the slices and the writer */
+static void frames(enum what w)
+{
+    size_t many[3] = {0, 5, SIZE_MAX};
+    for (int i = 0; i < 3; i++) {
+        call c = table(w);
+        c.shape.axes = many[i];
+        refused("axes", &c, 1, 0, 0);
+    }
+    size_t odd[4] = {0, 1, 65, SIZE_MAX};
+    for (size_t a = 0; a < 2; a++)
+        for (int i = 0; i < 4; i++) {
+            call c = table(w);
+            c.shape.counts[a] = odd[i];
+            refused("a count", &c, 2, a, 0);
+        }
+    call c = table(w);
+    c.shape = (ng_shape){3, {64, 64, 2}};
+    refused("the product", &c, 2, 0, 0);
+    c = table(w), c.nodes_length = 4;
+    refused("nodes", &c, 3, 0, 0);
+    c = table(w), c.values_length = 5;
+    refused("values", &c, 3, 0, 1);
+    c = table(w), c.point_length = 1;
+    if (takes_point(w)) refused("a reading", &c, 3, 0, 2);
+    c = table(w), c.directions_length = 1;
+    if (directed(w)) refused("directions", &c, 3, 0, 3);
+    c = table(w), c.nulls = 1, c.nodes_length = c.values_length = c.point_length = c.directions_length = c.room = 0;
+    refused("nothing lent", &c, 3, 0, 0);
+}
+
+/* ---- 4 to 7: what the table holds */
+static void contents(enum what w)
+{
+    double wild[3] = {NAN, INFINITY, -INFINITY};
+    for (int i = 0; i < 3; i++) {
+        for (size_t k = 0; k < 5; k++) {
+            call c = table(w);
+            nodes[k] = wild[i];
+            refused("a wild node", &c, 4, k / 3, k % 3);
+        }
+        for (size_t k = 0; k < 6; k++) {
+            call c = table(w);
+            values[k] = wild[i];
+            refused("a wild value", &c, 7, 0, k);
+        }
+    }
+    call c = table(w);
+    nodes[2] = nodes[1];
+    refused("a node that does not rise", &c, 5, 0, 2);
+    c = table(w), nodes[4] = -0.0;
+    refused("minus zero after zero", &c, 5, 1, 1);
+    c = table(w), nodes[3] = -DBL_MAX, nodes[4] = DBL_MAX;
+    refused("nodes too far apart", &c, 6, 1, 1);
+}
+
+/* ---- 8 to 12, 15 and 16: the reading, and a slice's room and axis */
+static void readings(enum what w)
+{
+    call c = table(w);
+    nodes[2] = 2.5;
+    if (of_one_step(w)) refused("two steps", &c, 8, 0, 1);
+    c = table(w), directions[1] = 2;
+    if (directed(w)) refused("no direction", &c, 9, 1, 0);
+    double wild[3] = {NAN, INFINITY, -INFINITY};
+    for (int i = 0; i < 3; i++) {
+        c = table(w), c.x = point[0] = wild[i];
+        refused("a wild reading", &c, 10, 0, 0);
+    }
+    c = table(w), c.x = point[0] = -0x1p-1074;
+    refused("a reading below", &c, 11, 0, 0);
+    c = table(w), c.x = point[0] = 2 + 0x1p-51;
+    refused("a reading above", &c, 11, 0, 1);
+    c = table(w), point[1] = 1 + 0x1p-52;
+    if (takes_point(w)) refused("a reading above", &c, 11, 1, 1);
+    /* the last gap may be wider than the first, so that a fraction of LinearUniform lies above 1 */
+    c = table(w), c.x = point[0] = nodes[2] = 2 + 0x1p-42, point[1] = 1;
+    values[5] = DBL_MAX;
+    if (w == LINEAR_UNIFORM) refused("a result past all numbers", &c, 12, 0, 0);
+    else if (w == SLICE_LINEAR_UNIFORM) refused("a value past all numbers", &c, 12, 0, 1);
+    else passed("the largest number", &c);
+    if (!cuts(w)) return;
+
+    c = table(w), c.room = 1;
+    refused("room", &c, 15, 0, 1);
+    c.nulls = 1, c.room = 0;
+    refused("no room", &c, 15, 0, 1);
+    c = table(w), c.at = SIZE_MAX;
+    refused("no such axis", &c, 16, 0, 0);
+    c.at = 1;
+    if (linear(w)) refused("not axis 0", &c, 16, 0, 0);
+    c = table(w), c.shape = (ng_shape){1, {3}}, c.nodes_length = c.values_length = 3, c.directions_length = 1;
+    refused("a table of one axis", &c, 16, 0, 0);
+}
+
+/* ---- the image */
+static void written(void)
+{
+    call c = table(WRITE);
+    given g = passed("the writer", &c);
+    if (g.length != IMAGE) fail("the image has %zu bytes", g.length);
+    memcpy(image, now.held, IMAGE);
+    c.room = IMAGE - 1;
+    refused("room", &c, 15, 0, 2);
+    c.room = 0, c.nulls = 1;
+    refused("no room", &c, 15, 0, 2);
+
+    c = table(LOAD);
+    g = passed("the loader", &c);
+    table(WRITE);
+    same("the nodes come back", now.held, nodes, sizeof nodes);
+    same("the values come back", now.second_held, values, sizeof values);
+    same("the shape comes back", &g.shape, &(ng_shape){2, {3, 2}}, sizeof(ng_shape));
+    c.room = 4;
+    refused("room for nodes", &c, 15, 0, 0);
+    c.room = 5, c.second_room = 5;
+    refused("room for values", &c, 15, 0, 1);
+    c.room = c.second_room = 0, c.nulls = 1;
+    refused("no room", &c, 15, 0, 0);
+    c.image_length = 0;
+    refused("no image", &c, 13, 0, 0);
+}
+
+static void header_bytes(void)
+{
+    static const struct { size_t at; uint8_t byte; uint32_t number; size_t axis, place; } faults[] = {
+        {0, 0, 13, 0, 0}, {0, 2, 13, 0, 0}, {1, 0, 1, 0, 0}, {1, 5, 1, 0, 0}, {2, 1, 13, 0, 2}, {3, 1, 13, 0, 2},
+        {4, IMAGE - 1, 13, 0, 4}, {7, 1, 13, 0, 4}, {8, 1, 2, 0, 0}, {10, 65, 2, 1, 0}, {12, 1, 13, 0, 12}, {15, 1, 13, 0, 14},
+        {24, 1, 13, 0, 24}, {31, 1, 13, 0, 28}, {36, 1, 13, 0, 36}, {39, 1, 13, 0, 36}, {16, 41, 14, 0, 0}, {16, 32, 14, 0, 0},
+        {20, IMAGE - 8, 14, 1, 0}, {32, IMAGE - 40, 14, 2, 0}, {35, 255, 14, 2, 0}};
+    for (size_t i = 0; i < sizeof faults / sizeof *faults; i++) {
+        call c = table(LOAD);
+        uint8_t was = image[faults[i].at];
+        image[faults[i].at] = faults[i].byte;
+        refused("a byte of the header", &c, faults[i].number, faults[i].axis, faults[i].place);
+        image[faults[i].at] = was;
+    }
+    for (size_t n = 0; n < IMAGE; n++) {
+        call c = table(LOAD);
+        c.image_length = n;
+        refused("an image cut short", &c, 13, 0, n < 40 ? 0 : 4);
+    }
+}
+
+static void image_contents(void)
+{
+    double wild = NAN, low = 1, far[2] = {-DBL_MAX, DBL_MAX};
+    static const struct { size_t at; uint32_t number; size_t axis, place; } inside[] = {
+        {48, 4, 0, 1}, {80, 7, 0, 0}, {56, 5, 0, 2}, {64, 6, 1, 1}};
+    for (int i = 0; i < 4; i++) {
+        call c = table(LOAD);
+        uint8_t was[16];
+        memcpy(was, image + inside[i].at, 16);
+        if (i < 2) memcpy(image + inside[i].at, &wild, 8);
+        else memcpy(image + inside[i].at, i == 2 ? &low : far, i == 2 ? 8 : 16);
+        refused("what the image holds", &c, inside[i].number, inside[i].axis, inside[i].place);
+        memcpy(image + inside[i].at, was, 16);
+    }
+    call c = table(LOAD);
+    uint8_t product[8] = {64, 0, 64, 0, 2, 0, 0, 0}, was[8];
+    memcpy(was, image + 8, 8), memcpy(image + 8, product, 8), image[1] = 3;
+    refused("the product", &c, 2, 0, 0);
+    memcpy(image + 8, was, 8), image[1] = 2;
+    passed("the image again", &c);
+}
+
+/* ---- the largest tables, with every rule */
+static void largest(void)
+{
+    static double all_nodes[256], all_values[4096], reading[4];
+    static const uint8_t up[4] = {1, 1, 1, 1};
+    static const ng_shape shapes[] = {{2, {64, 64}}, {4, {8, 8, 8, 8}}, {3, {64, 32, 2}}, {1, {64}}};
+    for (int s = 0; s < 4; s++) {
+        size_t n = 0, m = 1;
+        for (size_t a = 0; a < shapes[s].axes; a++) {
+            for (size_t i = 0; i < shapes[s].counts[a]; i++) all_nodes[n + i] = (double)i;
+            n += shapes[s].counts[a], m *= shapes[s].counts[a], reading[a] = 0.5;
+        }
+        for (size_t i = 0; i < m; i++) all_values[i] = (double)i;
+        for (int w = LINEAR; w <= WRITE; w++) {
+            call c = {
+                .what = w, .shape = shapes[s], .nodes = all_nodes, .nodes_length = n, .values = all_values, .values_length = m,
+                .point = reading, .point_length = shapes[s].axes, .directions = up, .directions_length = shapes[s].axes, .x = 0.5,
+                .held = held, .room = 4096, .second_held = second, .second_room = 4096};
+            if (w == WRITE) c.held = image, c.room = NG_MOST_BYTES;
+            if (w == LOAD || (cuts(w) && s == 3)) continue;
+            passed("a large table", &c);
+        }
+        size_t length = result.length;
+        memcpy(image, now.held, length);
+        call c = {.what = LOAD, .image = image, .image_length = length, .held = held, .room = 4096,
+            .second_held = second, .second_room = 4096};
+        passed("its image", &c);
+        same("its nodes", now.held, all_nodes, n * 8);
+        same("its values", now.second_held, all_values, m * 8);
+    }
+}
+
+int main(void)
+{
+    begin();
+    for (int i = 0; i < 4096; i++) held[i] = 0x1p9 + i, second[i] = -0x1p9 - i;
+    bench_axis(), bench_table(), bench_refused();
+    primitives();
+    for (int w = LINEAR; w <= SLICE_STEP; w++) {
+        call c = table(w);
+        given g = passed("the table itself", &c);
+        if (cuts(w)) same("a slice's shape", &g.shape, &(ng_shape){1, {2}}, sizeof(ng_shape));
+        frames(w), contents(w), readings(w);
+    }
+    frames(WRITE), contents(WRITE);
+    written();
+    header_bytes(), image_contents();
+    largest();
+    finish("library", 0);
+    printf("library: %u cases, each with its buffers at the starts and at the ends of their pages\n", checked);
+}

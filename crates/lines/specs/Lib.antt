@@ -2,4 +2,4 @@ pub mod Digit
 pub mod Line
 pub mod Put
 pub mod Stream
-pub mod Feed
+pub mod Scaffolding

@@ -1,26 +1,42 @@
 // Records from standard input, block by block, to lines on standard output.
 ghost use mathlib.Core.Path.{_≡_};
-ghost use Prim.Native.Nat.{_≤_, _<_};
+ghost use mathlib.Core.Bool.{true};
+ghost use Prim.Native.Nat.{_≤_};
 ghost use lib.ListN.{length, take};
 ghost use Rattle.lines.specs.Line.{longest};
-ghost use Rattle.lines.specs.Feed.{Stepped, Reached, Ended};
-ghost use Rattle.program.specs.Run.{mostRecords};
-ghost use Rattle.ninterp.specs.Records.{recordRule, recordSize};
+ghost use Rattle.lines.specs.Stream.{linesOf};
+ghost use Rattle.program.specs.Run.{ruleOf};
+ghost use Rattle.lookup.specs.Whole.{TableOf, Whole};
+ghost use Rattle.lookup.specs.Scaffolding.{Room, Last, Stepped};
+use crate::print;
+use crate::print::Printed;
 use layout::Shape;
+use ninterp::records::block;
 use program::input;
 use program::stdin;
 use program::turns;
 
-// What is held of the buffer after a turn, how many records may still come, whether to go on, and whether the output failed.
+// What a turn leaves: how many bytes are held, how many records may still come, how many bytes were read and printed, whether to go on, and
+// whether the output stands.
 struct Next {
     held: usize,
     left: usize,
+    read: usize,
+    printed: usize,
     go: bool,
-    failed: bool,
+    ok: bool,
 }
 
-// Reads on after the bytes that are held, answers the whole records, and prints.
+// How many bytes of records were read and how many bytes were printed, and whether every write went well.
+pub struct Counts {
+    pub read: usize,
+    pub printed: usize,
+    pub ok: bool,
+}
+
+// Reads on after the bytes that are held, answers the whole records, prints their lines, and moves what is left to the front.
 fn step(
+    img: &[u8],
     shape: Shape,
     nodes: &[f64],
     values: &[f64],
@@ -30,87 +46,88 @@ fn step(
     held: usize,
     left: usize,
 ) -> Next
-    requires { ⌜ held ≤ length (now buf) ⌝ }
-    ensures { λ r. ⌜ Stepped (recordRule shape (now (nodes .entry)) (now (values .entry))) held left
-        (now (buf .entry)) (now (buf .exit)) (r .held) (r .left) ⌝ }
+    requires { ⌜ TableOf (now img) shape (now nodes) (now values) ⌝ }
+    requires { ⌜ Room (ruleOf (now img)) size held (now buf) (now out) ⌝ }
+    ensures { λ r. ⌜ Stepped (ruleOf (now (img .entry))) held left (now (buf .entry)) (now (buf .exit)) r ⌝ }
+    ensures { λ r. ⌜ (r .read ≤ length (now (buf .entry))) × (r .printed ≤ length (now (out .entry))) ⌝ }
 {
     let have = stdin::fill(buf, held);
+    let done = block::answer_block(shape, nodes, values, &buf[..have], left, out);
+    let count = done.count;
+    let written = done.written;
+    let printed = print::lines(img, &buf[..have], count, &out[..written]);
+    let used = count * size;
+    let rest = have - used;
+    turns::shift(buf, used, rest);
+    let more = left - count;
     let full = have == buf.len();
-    let turn = turns::take_turn(shape, nodes, values, buf, have, left, out);
-    let n = turn.written;
-    let rest = turn.held;
-    let ok = io::write_all(1, &out[..n]);
     Next {
         held: rest,
-        left: turn.left,
-        go: input::goes_on(ok, full, turn.left, rest >= size),
-        failed: !ok,
+        left: more,
+        read: have - held,
+        printed: printed.bytes,
+        go: input::goes_on(printed.ok, full, more, rest >= size),
+        ok: printed.ok,
     }
 }
 
-// Puts what is printed at the input's end.
-fn last(
+// Prints what is printed at the input's end, of the bytes that are left.
+fn end(img: &[u8], rest: &[u8], left: usize, out: &mut [u8]) -> Printed
+    requires { ⌜ (longest ≤ length (now out)) × Last (ruleOf (now img)) left (now rest) ⌝ }
+    ensures { λ r. ⌜ r .bytes ≡ length (linesOf (ruleOf (now (img .entry))) left (now (rest .entry))) ⌝ }
+    ensures { λ r. ⌜ r .bytes ≤ length (now (out .entry)) ⌝ }
+{
+    let n = input::finish(rest.len(), left, out);
+    print::end(img, rest, left, &out[..n])
+}
+
+// Answers records until the input ends, or 1,000,000 are answered, through a buffer and an output.
+fn answer_blocks(
+    img: &[u8],
     shape: Shape,
     nodes: &[f64],
     values: &[f64],
-    buf: &[u8],
+    buf: &mut [u8],
     out: &mut [u8],
-    held: usize,
-    left: usize,
-) -> usize
-    requires { ⌜ (held ≤ length (now buf)) × ((longest ≤ length (now out)) × (held < recordSize shape)) ⌝ }
-    requires { ⌜ Reached (recordRule shape (now nodes) (now values)) mostRecords left (take held (now buf)) ⌝ }
-    ensures { λ r. ⌜ Ended (recordRule shape (now (nodes .entry)) (now (values .entry))) mostRecords (take r (now (out .exit))) ⌝ }
-    ensures { λ r. ⌜ r ≤ length (now (out .exit)) ⌝ }
-{
-    input::finish(held, left, out)
-}
-
-// Prints what is printed at the input's end.
-fn end(
-    shape: Shape,
-    nodes: &[f64],
-    values: &[f64],
-    size: usize,
-    buf: &[u8],
-    out: &mut [u8],
-    held: usize,
-    left: usize,
-)
-    requires { ⌜ (size ≡ recordSize shape) × ((held ≤ length (now buf)) × (longest ≤ length (now out))) ⌝ }
-    requires { ⌜ Reached (recordRule shape (now nodes) (now values)) mostRecords left (take held (now buf)) ⌝ }
-{
-    if held < size {
-        let n = last(shape, nodes, values, buf, out, held, left);
-        io::write_all(1, &out[..n]);
-    }
-}
-
-// Answers records until the input ends, or 1,000,000 are answered.
-pub(crate) fn answer_all(shape: Shape, nodes: &[f64], values: &[f64])
-    requires { ⌜ shape .axes ≤ 4 ⌝ }
+) -> Counts
+    requires { ⌜ TableOf (now img) shape (now nodes) (now values) ⌝ }
+    requires { ⌜ (length (now buf) ≡ 32768) × (length (now out) ≡ 81920) ⌝ }
+    ensures { λ r. ⌜ Whole (now (img .entry)) (r .read) (r .printed) (r .ok) ⌝ }
 {
     let size = 1 + 8 * shape.axes;
-    // The lines of a full buffer have room: of 9-byte records it has 3,640, and no line of a record has more than 20 bytes.
-    let mut space = [0u8; 32768];
-    let mut lines = [0u8; 81920];
-    let buf: &mut [u8] = &mut space;
-    let out: &mut [u8] = &mut lines;
     let mut held: usize = 0;
     let mut left: usize = program::MOST_RECORDS;
+    let mut read: usize = 0;
+    let mut printed: usize = 0;
     let mut go = true;
-    let mut failed = false;
-    // More turns than there can be bytes, so that the loop is seen to end.
-    let mut turns = u64::MAX;
-    while turns > 0 && go {
-        let n = step(shape, nodes, values, size, buf, out, held, left);
+    let mut ok = true;
+    while go {
+        let n = step(img, shape, nodes, values, size, buf, out, held, left);
         held = n.held;
         left = n.left;
+        read += n.read;
+        printed += n.printed;
         go = n.go;
-        failed = n.failed;
-        turns -= 1;
+        ok = n.ok;
     }
-    if !failed {
-        end(shape, nodes, values, size, buf, out, held, left);
+    if !ok {
+        return Counts { read, printed, ok };
     }
+    let last = end(img, &buf[..held], left, out);
+    Counts {
+        read,
+        printed: printed + last.bytes,
+        ok: last.ok,
+    }
+}
+
+// Answers the records that follow an image.
+pub(crate) fn answer_all(img: &[u8], shape: Shape, nodes: &[f64], values: &[f64]) -> Counts
+    requires { ⌜ TableOf (now img) shape (now nodes) (now values) ⌝ }
+    ensures { λ r. ⌜ Whole (now (img .entry)) (r .read) (r .printed) (r .ok) ⌝ }
+{
+    // The lines of a full buffer have room: of 9-byte records it has 3,640, and no line of a record has more than 20 bytes.
+    let mut buf = [0u8; 32768];
+    let mut out = [0u8; 81920];
+    answer_blocks(img, shape, nodes, values, &mut buf, &mut out)
 }

@@ -1,32 +1,46 @@
 // Reads an image and then records from standard input, and prints a line for each record.
+
+// records from standard input, block by block
 mod feed;
+// the image that was read: loaded or refused
+mod loaded;
+// all that is printed
+mod print;
 
+ghost use mathlib.Core.Path.{_≡_};
 ghost use Prim.Native.Nat.{_≤_};
-use answer::Answer;
-use checks::shapes;
-use image::LoadAnswer;
-use layout::Shape;
+ghost use lib.ListN.{length, take};
+ghost use Rattle.program.specs.Input.{imageIn};
+ghost use Rattle.lookup.specs.Whole.{Whole};
 use program::stdin;
-use program::stdout;
 
-// Answers the records that follow, by the nodes and the values at the front of what the loader filled.
-fn answer_input(shape: Shape, nodes: &[f64], values: &[f64])
-    requires { ⌜ shape .axes ≤ 4 ⌝ }
+// How many bytes of the input were the image, how many were read after it, how many were printed, and whether every write went well.
+pub struct Totals {
+    pub image: usize,
+    pub read: usize,
+    pub printed: usize,
+    pub ok: bool,
+}
+
+// One whole run: the image, and what follows it.
+fn run(img: &mut [u8], nodes: &mut [f64], values: &mut [f64]) -> Totals
+    requires { ⌜ (length (now nodes) ≡ 256) × (length (now values) ≡ 4096) ⌝ }
+    ensures { λ r. ⌜ imageIn (take (r .image) (now (img .exit))) ≡ take (r .image) (now (img .exit)) ⌝ }
+    ensures { λ r. ⌜ Whole (take (r .image) (now (img .exit))) (r .read) (r .printed) (r .ok) ⌝ }
 {
-    let held = shapes::sizes(shape);
-    let n = layout::least(held.nodes, nodes.len());
-    let v = layout::least(held.values, values.len());
-    feed::answer_all(shape, &nodes[..n], &values[..v]);
+    let size = stdin::read_image(img);
+    let counts = loaded::answer_image(&img[..size], nodes, values);
+    Totals {
+        image: size,
+        read: counts.read,
+        printed: counts.printed,
+        ok: counts.ok,
+    }
 }
 
 fn main() {
+    let mut img = [0u8; image::MOST_BYTES];
     let mut nodes = [0.0f64; 256];
     let mut values = [0.0f64; 4096];
-    let loaded: LoadAnswer = stdin::read_table(&mut nodes, &mut values);
-    let answer: Answer = loaded.answer;
-    if answer.number != 0 {
-        stdout::print_line(answer);
-        return;
-    }
-    answer_input(loaded.shape, &nodes, &values);
+    run(&mut img, &mut nodes, &mut values);
 }

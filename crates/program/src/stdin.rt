@@ -2,10 +2,9 @@
 ghost use mathlib.Core.Path.{_≡_};
 ghost use Prim.Native.Nat.{_≤_};
 ghost use lib.ListN.{length, take};
-ghost use Rattle.lines.specs.Feed.{Filled};
+ghost use Rattle.lines.specs.Scaffolding.{Filled};
 ghost use Rattle.program.specs.Input.{imageIn};
 use crate::input;
-use image::LoadAnswer;
 
 // Reads the first 40 bytes, and answers how many there are.
 fn read_head(img: &mut [u8]) -> usize
@@ -24,11 +23,14 @@ fn read_rest(img: &mut [u8], size: usize) -> usize
     image::HEADER + more
 }
 
-// Reads 40 bytes, then up to the stated length, and answers how many there are: all of them are the image.
-fn read_image(img: &mut [u8]) -> usize
-    requires { ⌜ length (now img) ≡ 36864 ⌝ }
+// Reads 40 bytes, then up to the stated length, and answers how many there are: all of them are the image. Reads nothing into a
+// space that is too short for a longest image.
+pub fn read_image(img: &mut [u8]) -> usize
     ensures { λ r. ⌜ (r ≤ length (now (img .exit))) × (imageIn (take r (now (img .exit))) ≡ take r (now (img .exit))) ⌝ }
 {
+    if img.len() < image::MOST_BYTES {
+        return 0;
+    }
     let got = read_head(img);
     if got < image::HEADER {
         return got;
@@ -36,23 +38,6 @@ fn read_image(img: &mut [u8]) -> usize
     let head: &[u8] = img;
     let size = input::image_size(&head[0..image::HEADER]);
     read_rest(img, size)
-}
-
-// Reads the image into a space of so many bytes and loads it.
-fn load_image(img: &mut [u8], nodes: &mut [f64], values: &mut [f64]) -> LoadAnswer
-    requires { ⌜ length (now img) ≡ 36864 ⌝ }
-    ensures { λ r. ⌜ r .shape .axes ≤ 4 ⌝ }
-{
-    let size = read_image(img);
-    image::load(&img[..size], nodes, values)
-}
-
-// Reads the table image and loads it into two outputs.
-pub fn read_table(nodes: &mut [f64], values: &mut [f64]) -> LoadAnswer
-    ensures { λ r. ⌜ r .shape .axes ≤ 4 ⌝ }
-{
-    let mut img = [0u8; image::MOST_BYTES];
-    load_image(&mut img, nodes, values)
 }
 
 // Reads on after the bytes that are held at the front of a buffer, and answers how many bytes there are then.

@@ -24,7 +24,7 @@ fn used_bytes(shape: Shape, count: usize, have: usize) -> usize
 }
 
 // Moves the n bytes at a place to the front, where they are all there.
-fn shift(buf: &mut [u8], from: usize, n: usize)
+pub fn shift(buf: &mut [u8], from: usize, n: usize)
     ensures { λ _. ⌜ now (buf .exit) ≡ shifted (now (buf .entry)) from n ⌝ }
 {
     let len = buf.len();

@@ -1,7 +1,7 @@
 -- Where the image ends, and what is printed at the input's end. Assumes nothing.
 use mathlib.Core.Path.{_≡_, refl, sym, ap, ap₂, _∙_}
 use mathlib.Core.Bool.{Bool, true, false, _&&_, _||_, cond, and-false, or-true}
-use mathlib.Core.Logic.{inr}
+use mathlib.Core.Logic.{_⊎_, inl, inr}
 use mathlib.Core.List.{List, [], _++_}
 use Prim.Native.Nat.{ℕ, _+_, _≤_, _<_}
 use native.Mathlib.Omega.{arith}
@@ -11,10 +11,12 @@ use lib.ListN.{length, take, drop, length-append, length-drop, length-take}
 use lib.Seq.{length-take-le, take-all, take-append-le, drop-append-le}
 use Rattle.answer.specs.Faults.{refusal}
 use Rattle.answer.specs.Answer.{refused}
-use Rattle.lines.specs.Feed.{Filled}
+use Rattle.answer.proofs.Orders.{clash}
+use Rattle.lines.specs.Scaffolding.{Filled}
 use Rattle.lines.specs.Line.{lineOf, longest}
 use Rattle.lines.specs.Put.{Wrote, lineInto, lineEnd}
 use Rattle.lines.specs.Stream.{Rule, linesOf}
+use Rattle.lines.proofs.Feeds.{filled-count}
 use Rattle.lines.proofs.Puts.{wrote-take, wrote-length}
 use Rattle.lines.proofs.Runs.{cut-off, cut-none, cut-some}
 use Rattle.lines.proofs.Shows.{line-wrote, line-fits}
@@ -125,7 +127,7 @@ head-read img got h = read-short (take got img) (omega (arith, h, length-take go
 pub image-read : (img after : List ℕ) (size r : ℕ) → 40 ≤ length img → size ≡ imageSize (take 40 img) → Filled 40 img after r → r ≤ size → imageIn (take r after) ≡ take r after
 image-read img after size r l e f k =
     let h : length (take 40 img) ≡ 40 = length-take-le 40 img l in
-    let n : 40 + length (f .block) ≡ r = omega (arith, h, sym (ap length (f .bytes)) ∙ length-take-le r after (f .within), length-append (take 40 img) (f .block)) in
+    let n : 40 + length (f .block) ≡ r = filled-count l f in
     ap imageIn (f .bytes) ∙ read-whole (take 40 img) (f .block) h (omega (arith, n, k, e)) ∙ sym (f .bytes)
 
 -- ---- whether the program reads on
@@ -142,3 +144,24 @@ module _ (ok full : Bool) (left : ℕ) (whole : Bool) where
     pub more-to-come : (left ≡ 0 → ⊥) → (full || whole) ≡ goesOn ok full left whole
     unfolding goesOn
     more-to-come z = sym (ap₂ (λ (b c : Bool). cond b (cond c false (full || whole)) false) h (ne-eqb left 0 z))
+
+-- what it means that the program reads on, and that it does not though its output stands
+module _ (full : Bool) (left : ℕ) (whole : Bool) where
+  pub goes-on-means : (ok : Bool) → goesOn ok full left whole ≡ true → (left ≡ 0 → ⊥) × ((full ≡ true) ⊎ (whole ≡ true))
+  unfolding goesOn
+  goes-on-means ok h = go ok (eqb left 0) (eqb-false left 0) full whole h
+    where
+      go : (a b : Bool) → (b ≡ false → left ≡ 0 → ⊥) → (f w : Bool) → cond a (cond b false (f || w)) false ≡ true → (left ≡ 0 → ⊥) × ((f ≡ true) ⊎ (w ≡ true))
+      go true false n true w e = (n refl, inl refl)
+      go true false n false w e = (n refl, inr e)
+      go true true n f w e = clash false e refl
+      go false b n f w e = clash false e refl
+
+  pub stops-means : goesOn true full left whole ≡ false → (left ≡ 0) ⊎ ((full ≡ false) × (whole ≡ false))
+  unfolding goesOn
+  stops-means h = go (eqb left 0) (eqb-true left 0) full whole h
+    where
+      go : (b : Bool) → (b ≡ true → left ≡ 0) → (f w : Bool) → cond b false (f || w) ≡ false → (left ≡ 0) ⊎ ((f ≡ false) × (w ≡ false))
+      go true y f w e = inl (y refl)
+      go false y true w e = clash true refl e
+      go false y false w e = inr (refl, e)

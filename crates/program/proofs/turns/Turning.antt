@@ -9,7 +9,6 @@ use lib.Seq.{length-take-le, take-nil}
 use Rattle.bytes.proofs.Bytes.{take-there}
 use Rattle.lines.specs.Put.{put}
 use Rattle.lines.specs.Stream.{Rule, linesFirst, countOf, Block, Turned}
-use Rattle.lines.specs.Feed.{Filled, Stepped}
 use Rattle.lines.proofs.Puts.{wrote-take}
 use Rattle.lines.proofs.Blocks.{Answered, answered}
 use Rattle.lines.proofs.Runs.{turned}
@@ -64,7 +63,7 @@ drop-take (suc k) zero l = let e : 0 - suc k ≡ 0 = omega arith in rw e
 drop-take (suc k) (suc n) [] = sym (take-nil (suc n - suc k))
 drop-take (suc k) (suc n) (x ∷ l) = let e : suc n - suc k ≡ n - k = omega arith in rw e (drop-take k n l)
 
-turning : {p : Rule} {most have : ℕ} {b d c e : List ℕ} {count written : ℕ} → have ≤ length b → Block p most (take have b) d e count written → length e ≡ length d
+pub turning : {p : Rule} {most have : ℕ} {b d c e : List ℕ} {count written : ℕ} → have ≤ length b → Block p most (take have b) d e count written → length e ≡ length d
     → c ≡ shifted b (count * p .size) (have - count * p .size) → Turning p most have b d c e written (have - count * p .size) (most - count)
 turning {p} {most} {have} {b} {d} {c} {e} {count} {written} h k spaced m =
     let used = count * p .size in
@@ -91,12 +90,3 @@ turn-turning {p} {most} {have} {b} {d} {c} {e} {w} {h} {l} fits kept t =
     let u : Turning p most have b d c e w (have - turnCount p most have b d * p .size) (most - turnCount p most have b d) =
     turning fits (record { many = refl; long = t .written; bytes = t .bytes }) kept (t .buffer ∙ ap (shifted b (turnCount p most have b d * p .size)) rest) in
     subst (λ (k : ℕ). Turning p most have b d c e w k l) (sym (t .held ∙ rest)) (subst (λ (k : ℕ). Turning p most have b d c e w (have - turnCount p most have b d * p .size) k) (sym (t .left)) u)
-
--- and after a block was read
-pub stepped : {p : Rule} {held left have : ℕ} {b c d f e : List ℕ} {w h l : ℕ} → Filled held b c have → Turning p left have c d f e w h l → Stepped p held left b f h l
-stepped {p} {held} {left} {have} {b} {c} {d} {f} {e} {w} {h} {l} i u = record {
-  block = i .block;
-  printed = take w e;
-  turned = rw (← i .bytes) (u .turned);
-  within = omega (arith, u .held, i .within, u .kept);
-}

@@ -1,0 +1,94 @@
+-- Turn after turn: what the loop over the blocks keeps. Assumes nothing.
+use mathlib.Core.Path.{_≡_, refl, sym, ap, _∙_}
+use mathlib.Core.Bool.{Bool, true, false, cond}
+use mathlib.Core.Logic.{_⊎_, inl, inr, ⊎-elim}
+use mathlib.Core.List.{List, [], _++_, append-assoc}
+use Prim.Native.Nat.{ℕ, _+_, _*_, _≤_, _<_}
+use native.Mathlib.Omega.{arith}
+use lib.ListN.{length, take, length-append}
+use lib.Seq.{length-take-le}
+use lib.Ieee.{Float}
+use Rattle.answer.proofs.Orders.{clash}
+use Rattle.layout.specs.declared.Shape.{Shape}
+use Rattle.lines.specs.Stream.{Rule, linesOf}
+use Rattle.program.specs.Run.{mostRecords, ruleOf}
+use Rattle.lookup.specs.Whole.{TableOf}
+use Rattle.lookup.specs.declared.feed.Next.{Next}
+use Rattle.lookup.specs.Scaffolding.{Room, Last, Stepped, Reached}
+use Rattle.lookup.proofs.Runs.{four-axes}
+
+pub reached-start : (p : Rule) (limit : ℕ) → Reached p limit limit [] 0 0
+reached-start p limit = record { bytes = []; text = []; counted = refl; told = refl; right = λ more. refl }
+
+pub reached-step : {p : Rule} {limit held left read printed : ℕ} {b c : List ℕ} {n : Next}
+    → Reached p limit left (take held b) read printed → Stepped p held left b c n
+    → Reached p limit (n .left) (take (n .held) c) (read + n .read) (printed + n .printed)
+reached-step {p} {limit} {held} {left} {read} {printed} {b} {c} {n} g s = record {
+  bytes = g .bytes ++ s .block;
+  text = g .text ++ s .text;
+  counted = omega (arith, length-append (g .bytes) (s .block), g .counted, s .counted);
+  told = omega (arith, length-append (g .text) (s .text), g .told, s .told);
+  right = λ more.
+      ap (linesOf p limit) (append-assoc (g .bytes) (s .block) more)
+      ∙ g .right (s .block ++ more)
+      ∙ ap (λ (x : List ℕ). g .text ++ linesOf p left x) (sym (append-assoc (take held b) (s .block) more))
+      ∙ ap (λ (x : List ℕ). g .text ++ x) (s .turned .right more)
+      ∙ sym (append-assoc (g .text) (s .text) (linesOf p (n .left) (take (n .held) c ++ more)));
+}
+
+-- how many turns are left at most: one for each record that may still come, and one more while it goes on
+abbrev pub turnsLeft : ℕ → Bool → ℕ
+turnsLeft left go = left + cond go 1 0
+
+-- between two turns; of each turn no more is counted than the buffer and the output have, so the sums fit
+pub record Feeding (p : Rule) (buf out : List ℕ) (held left read printed : ℕ) (go ok : Bool) : Type 0 where
+  pub long : length buf ≡ 32768
+  pub wide : length out ≡ 81920
+  pub holds : held ≤ length buf
+  pub reached : Reached p mostRecords left (take held buf) read printed
+  pub last : go ≡ false → ok ≡ true → Last p left (take held buf)
+  pub few : read + 32768 * turnsLeft left go ≤ 32768 * 1000001
+  pub short : printed + 81920 * turnsLeft left go ≤ 81920 * 1000001
+
+-- a record and a line have room
+pub feed-room : {img : List ℕ} {shape : Shape} {nodes values : List Float} {buf out : List ℕ} {held left read printed : ℕ} {go ok : Bool}
+    → TableOf img shape nodes values → Feeding (ruleOf img) buf out held left read printed go ok → Room (ruleOf img) (1 + 8 * shape .axes) held buf out
+feed-room {img} t g =
+    let same = ap (λ (s : Shape). 1 + 8 * s .axes) (t .shape-is) in
+    record { sized = same; holds = g .holds; whole = omega (arith, same, four-axes t, g .long); spaced = omega (arith, g .wide) }
+
+pub feed-start : (p : Rule) (buf out : List ℕ) → length buf ≡ 32768 → length out ≡ 81920 → Feeding p buf out 0 mostRecords 0 0 true true
+feed-start p buf out l w = record {
+  long = l;
+  wide = w;
+  holds = omega arith;
+  reached = reached-start p mostRecords;
+  last = λ h. clash true refl h;
+  few = omega arith;
+  short = omega arith;
+}
+
+module _ {p : Rule} {held left : ℕ} {buf after : List ℕ} {n : Next} (s : Stepped p held left buf after n) where
+  -- each turn leaves one less
+  pub fewer : {go : Bool} → go ≡ true → turnsLeft (n .left) (n .go) < turnsLeft left go
+  fewer {go} e = by (n .go) (s .goes)
+    where
+      on : turnsLeft left go ≡ left + 1
+      on = ap (turnsLeft left) e
+
+      by : (g : Bool) → (g ≡ true → n .left < left) → turnsLeft (n .left) g < turnsLeft left go
+      by true h = let f : n .left < left = h refl in omega (arith, on)
+      by false h = omega (arith, s .within, on)
+
+  pub feed-step : {out late : List ℕ} {read printed : ℕ} {go ok : Bool} → Feeding p buf out held left read printed go ok → go ≡ true
+      → length after ≡ length buf → length late ≡ length out → n .read ≤ length buf → n .printed ≤ length out
+      → Feeding p after late (n .held) (n .left) (read + n .read) (printed + n .printed) (n .go) (n .ok)
+  feed-step g e l w a c = record {
+    long = l ∙ g .long;
+    wide = w ∙ g .wide;
+    holds = s .holds;
+    reached = reached-step (g .reached) s;
+    last = λ h o. ⊎-elim inl (λ t. inr (omega (arith, t .1, length-take-le (n .held) after (s .holds)))) (s .stops h o);
+    few = omega (arith, fewer e, g .few, g .long, a);
+    short = omega (arith, fewer e, g .short, g .wide, c);
+  }

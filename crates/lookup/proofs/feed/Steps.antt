@@ -1,0 +1,118 @@
+-- A turn: a block is read, answered and printed, and what is left is moved to the front. Assumes nothing.
+use mathlib.Core.Path.{_≡_, refl, sym, ap, ap₂, _∙_, subst}
+use mathlib.Core.Bool.{Bool, true, false}
+use mathlib.Core.Logic.{_⊎_, inl, inr, ⊎-elim}
+use mathlib.Core.List.{List, _++_}
+use Prim.Native.Nat.{ℕ, _+_, _-_, _*_, _≤_, _<_}
+use native.Mathlib.Nat.{zero-mul}
+use native.Mathlib.Omega.{arith}
+use borrow.Author.Tests.{eqb-true, eqb-false, leb-true, leb-false}
+use lib.Dec.{leb, eqb}
+use lib.ListN.{length, take}
+use lib.Seq.{length-take-le, take-all}
+use Rattle.answer.specs.Faults.{refusal}
+use Rattle.answer.specs.Answer.{refused}
+use Rattle.lines.specs.Line.{lineOf, longest}
+use Rattle.lines.specs.Stream.{Rule, linesFirst, linesOf, Block}
+use Rattle.lines.specs.Scaffolding.{Filled}
+use Rattle.lines.proofs.Blocks.{Answered, answered, lines-none}
+use Rattle.lines.proofs.Feeds.{filled-count}
+use Rattle.lines.proofs.Puts.{wrote-take}
+use Rattle.lines.proofs.Runs.{cut-off}
+use Rattle.program.specs.Input.{goesOn, endInto, endSize}
+use Rattle.program.specs.Turns.{shifted}
+use Rattle.program.proofs.input.Ends.{goes-on-means, stops-means, no-record-left, end-told}
+use Rattle.program.proofs.turns.Turning.{Turning, turning}
+use Rattle.lookup.specs.Scaffolding.{Room, Last, Stepped}
+
+-- b is the buffer before the block was read and c after it; d is the output before the records were answered and e after it
+pub record Done (p : Rule) (size held left have count written : ℕ) (b c d e : List ℕ) : Type 0 where
+  pub room : Room p size held b d
+  pub filled : Filled held b c have
+  pub kept : length c ≡ length b
+  pub block : Block p left (take have c) d e count written
+  pub spaced : length e ≡ length d
+
+module _ {p : Rule} {size held left have count written : ℕ} {b c d e : List ℕ} (k : Done p size held left have count written b c d e) where
+  done : Answered p left (take have c) d e count written
+  done = answered (k .block) (k .spaced)
+
+  pub step-there : have ≤ length c
+  step-there = k .filled .within
+
+  there : length (take have c) ≡ have
+  there = length-take-le have c step-there
+
+  same : count * size ≡ count * p .size
+  same = ap (λ (n : ℕ). count * n) (k .room .sized)
+
+  pub step-grown : held ≤ have
+  step-grown = omega (arith, filled-count (k .room .holds) (k .filled))
+
+  pub step-count : count ≤ left
+  step-count = done .within
+
+  pub step-used : count * size ≤ have
+  step-used = omega (arith, done .whole, there, same)
+
+  pub step-room : written ≤ length e
+  step-room = omega (arith, done .room, k .spaced)
+
+  pub step-text : take written e ≡ linesFirst p count (take have c)
+  step-text = wrote-take (done .lines)
+
+  -- some record was answered, where records may still come and the buffer was filled or holds a whole one still
+  some : (left - count ≡ 0 → ⊥) → (have ≡ length c) ⊎ (size ≤ have - count * size) → count ≡ 0 → ⊥
+  some more way z = ⊎-elim (λ s. more (omega (arith, s))) (λ s. ⊎-elim (λ s. ⊎-elim (λ f. omega (arith, s, f, there, none, k .room .whole, k .kept)) (λ w. omega (arith, s, w, there, none, same, k .room .sized)) way) (λ s. omega (arith, s, k .room .spaced, empty)) s) (done .stop)
+    where
+      none : count * p .size ≡ 0
+      none = ap (λ (n : ℕ). n * p .size) z ∙ zero-mul (p .size)
+
+      empty : written ≡ 0
+      empty = k .block .long ∙ ap (λ (n : ℕ). length (linesFirst p n (take have c))) z ∙ ap length (lines-none p (take have c))
+
+  -- f is the buffer after what is left was moved to its front
+  pub stepped : (f : List ℕ) (printed : ℕ) (go ok : Bool) → f ≡ shifted c (count * size) (have - count * size) → length f ≡ length c
+      → printed ≡ length (linesFirst p count (take have c))
+      → go ≡ goesOn ok (eqb have (length f)) (left - count) (leb size (have - count * size))
+      → Stepped p held left b f (record { held = have - count * size; left = left - count; read = have - held; printed = printed; go = go; ok = ok })
+  stepped f printed go ok m wide w g = record {
+    block = k .filled .block;
+    text = take written e;
+    counted = omega (arith, filled-count (k .room .holds) (k .filled));
+    told = ap length step-text ∙ sym w;
+    turned = rw (← k .filled .bytes) (t .turned);
+    holds = omega (arith, step-there, wide);
+    within = omega arith;
+    goes = λ h. goes (sym g ∙ h);
+    stops = λ h o. stops (sym (ap (λ (x : Bool). goesOn x (eqb have (length f)) (left - count) (leb size (have - count * size))) o) ∙ sym g ∙ h);
+  }
+    where
+      moved : f ≡ shifted c (count * p .size) (have - count * p .size)
+      moved = m ∙ ap (λ (n : ℕ). shifted c n (have - n)) same
+
+      t : Turning p left have c d f e written (have - count * size) (left - count)
+      t = subst (λ (n : ℕ). Turning p left have c d f e written (have - n) (left - count)) (sym same) (turning step-there (k .block) (k .spaced) moved)
+
+      goes : goesOn ok (eqb have (length f)) (left - count) (leb size (have - count * size)) ≡ true → left - count < left
+      goes h =
+          let q = goes-on-means (eqb have (length f)) (left - count) (leb size (have - count * size)) ok h in
+          let n : count ≡ 0 → ⊥ = some (q .0) (⊎-elim (λ x. inl (eqb-true have (length f) x ∙ wide)) (λ x. inr (leb-true size (have - count * size) x)) (q .1)) in
+          omega (arith, n, step-count)
+
+      stops : goesOn true (eqb have (length f)) (left - count) (leb size (have - count * size)) ≡ false → (left - count ≡ 0) ⊎ ((held + (have - held) < length b) × (have - count * size < p .size))
+      stops h =
+          ⊎-elim inl
+          (λ q. inr (let n = eqb-false have (length f) (q .0) in omega (arith, n, wide, k .kept, step-there, step-grown), let n = leb-false size (have - count * size) (q .1) in omega (arith, n, k .room .sized)))
+          (stops-means (eqb have (length f)) (left - count) (leb size (have - count * size)) h)
+
+-- what is put at the input's end is what is printed of the rest
+pub end-put : (p : Rule) → p .cut ≡ lineOf (refused (refusal 3 0 2)) → (left : ℕ) (rest out : List ℕ) → longest ≤ length out → Last p left rest
+    → (r : ℕ) (after : List ℕ) → r ≡ endSize (length rest) left out → after ≡ endInto (length rest) left out
+    → (take r after ≡ linesOf p left rest) × (r ≤ length after)
+end-put p cut left rest out room (inl z) r after e f =
+    let none : r ≡ 0 = e ∙ sym (no-record-left (length rest) left out z .0) in
+    (ap (λ (n : ℕ). take n after) none ∙ cut-off p left rest z, omega (arith, none))
+end-put p cut left rest out room (inr s) r after e f =
+    let t = end-told p cut (length rest) left rest out (omega arith) room s r after e f in
+    (t .0 ∙ ap (linesOf p left) (take-all (length rest) rest (omega arith)), t .1)

@@ -1,0 +1,97 @@
+-- What the loader gave: a table of the image, or its refusal. Assumes nothing.
+use mathlib.Core.Path.{_≡_, refl, sym, ap, ap₂, _∙_}
+use mathlib.Core.Bool.{Bool, true, false}
+use mathlib.Core.List.{List}
+use Prim.Native.Nat.{ℕ, _≤_}
+use native.Mathlib.Omega.{arith}
+use borrow.Author.Tests.{eq-eqb, ne-eqb}
+use lib.Dec.{eqb}
+use lib.Ieee.{Float}
+use lib.ListN.{length, take}
+use Rattle.answer.specs.Faults.{good, filledInto}
+use Rattle.answer.specs.Answer.{refused, answered, fine, _then_}
+use Rattle.answer.specs.declared.Fault.{Fault}
+use Rattle.answer.specs.declared.Answer.{Answer}
+use Rattle.answer.proofs.Answers.{then-good, then-bad, refused-number}
+use Rattle.answer.proofs.Orders.{given-good}
+use Rattle.answer.proofs.Outputs.{given-front}
+use Rattle.layout.specs.Shape.{countsOf, noShape, total, size}
+use Rattle.layout.specs.declared.Shape.{Shape}
+use Rattle.checks.specs.Shapes.{shapeFault, sizesOf}
+use Rattle.checks.specs.declared.shapes.Holding.{Holding}
+use Rattle.checks.proofs.shapes.Frames.{holds-nodes, holds-values}
+use Rattle.image.specs.Fields.{shapeOf}
+use Rattle.image.specs.Image.{nodesIn, valuesIn}
+use Rattle.image.specs.Load.{loadFault, loadAnswer, Loaded}
+use Rattle.image.specs.declared.LoadAnswer.{LoadAnswer}
+use Rattle.image.proofs.Laws.{loaded-shape}
+use Rattle.image.proofs.Loads.{nodes-fit, values-fit}
+use Rattle.image.proofs.Floats.{nodes-total, values-size}
+use Rattle.lines.specs.Line.{lineOf}
+use Rattle.program.specs.Input.{imageIn}
+use Rattle.program.specs.Run.{runOf}
+use Rattle.program.proofs.turns.Laws.{run-refused}
+use Rattle.lookup.specs.Whole.{TableOf}
+
+-- an answer's number is 0 exactly where nothing is wrong
+number-good : (f : Fault) (a : Answer) → a ≡ (f then fine) → eqb (a .number) 0 ≡ good f
+unfolding fine answered
+number-good f a e = go (good f) refl
+  where
+    number : Answer → Bool
+    number x = eqb (x .number) 0
+
+    go : (b : Bool) → good f ≡ b → eqb (a .number) 0 ≡ good f
+    go true h = ap number (e ∙ then-good f fine h) ∙ sym h
+    go false h = ap number (e ∙ then-bad f fine h) ∙ refused-number f
+
+module _ {img : List ℕ} {nodes values nodes′ values′ : List Float} {r : LoadAnswer} (l : Loaded img nodes values nodes′ values′ r)
+    (n : length nodes ≡ 256) (v : length values ≡ 4096) where
+  same : loadFault img (length nodes) (length values) ≡ loadFault img 256 4096
+  same = ap₂ (loadFault img) n v
+
+  told : r .answer ≡ (loadFault img 256 4096 then fine)
+  unfolding loadAnswer
+  told = ap (λ (x : LoadAnswer). x .answer) (l .answer) ∙ ap (λ (f : Fault). f then fine) same
+
+  -- the line of an image that is refused
+  pub refusal-line : (r .answer .number ≡ 0 → ⊥) → imageIn img ≡ img → runOf img ≡ lineOf (r .answer)
+  refusal-line h i =
+      run-refused img (ap (λ (x : List ℕ). good (loadFault x 256 4096)) i ∙ bad)
+      ∙ ap (λ (x : List ℕ). lineOf (refused (loadFault x 256 4096))) i
+      ∙ ap lineOf (sym (told ∙ then-bad (loadFault img 256 4096) fine bad))
+    where
+      bad : good (loadFault img 256 4096) ≡ false
+      bad = sym (number-good (loadFault img 256 4096) (r .answer) told) ∙ ne-eqb (r .answer .number) 0 h
+
+  module _ (h : r .answer .number ≡ 0) (z : Holding) (e : z ≡ sizesOf (r .shape)) where
+    loads : good (loadFault img 256 4096) ≡ true
+    loads = sym (number-good (loadFault img 256 4096) (r .answer) told) ∙ eq-eqb (r .answer .number) 0 h
+
+    given : good (loadFault img (length nodes) (length values)) ≡ true
+    given = ap good same ∙ loads
+
+    shaped : r .shape ≡ shapeOf img
+    unfolding loadAnswer
+    shaped = ap (λ (x : LoadAnswer). x .shape) (l .answer) ∙ given-good (loadFault img (length nodes) (length values)) (shapeOf img) noShape given
+
+    many : length (nodesIn img) ≡ z .nodes
+    many = nodes-total img (loaded-shape img 256 4096 loads) ∙ sym (holds-nodes (shapeOf img) (loaded-shape img 256 4096 loads) z (e ∙ ap sizesOf shaped))
+
+    large : length (valuesIn img) ≡ z .values
+    large = values-size img ∙ sym (holds-values (shapeOf img) (loaded-shape img 256 4096 loads) z (e ∙ ap sizesOf shaped))
+
+    pub nodes-there : length nodes′ ≡ length nodes → z .nodes ≤ length nodes′
+    nodes-there k = omega (arith, k, n, many, nodes-fit img 256 4096 loads)
+
+    pub values-there : length values′ ≡ length values → z .values ≤ length values′
+    values-there k = omega (arith, k, v, large, values-fit img 256 4096 loads)
+
+    -- the table stands at the fronts of both outputs
+    pub table : TableOf img (r .shape) (take (z .nodes) nodes′) (take (z .values) values′)
+    table = record {
+      loads = loads;
+      shape-is = shaped;
+      nodes-are = ap₂ take (sym many) (l .nodes-out) ∙ given-front (loadFault img (length nodes) (length values)) (nodesIn img) nodes given;
+      values-are = ap₂ take (sym large) (l .values-out) ∙ given-front (loadFault img (length nodes) (length values)) (valuesIn img) values given;
+    }

@@ -1,9 +1,10 @@
 -- "The program and one whole run": what a run of `lookup` owes to the bytes that it counts. Which bytes `read` gave and `write` took no
 -- contract can name.
 use mathlib.Core.Path.{_≡_}
-use mathlib.Core.Bool.{Bool, true, false}
+use mathlib.Core.Bool.{true, false}
+use mathlib.Core.Logic.{_⊎_}
 use mathlib.Core.List.{List, _++_}
-use Prim.Native.Nat.{ℕ}
+use Prim.Native.Nat.{ℕ, _+_, _*_, _≤_, _<_}
 use lib.ListN.{length}
 use lib.Ieee.{Float}
 use Rattle.answer.specs.Faults.{good}
@@ -11,7 +12,8 @@ use Rattle.layout.specs.declared.Shape.{Shape}
 use Rattle.image.specs.Fields.{shapeOf}
 use Rattle.image.specs.Image.{nodesIn, valuesIn}
 use Rattle.image.specs.Load.{loadFault}
-use Rattle.program.specs.Run.{runOf}
+use Rattle.program.specs.Run.{mostRecords, ruleOf, runOf}
+use Rattle.lookup.specs.declared.feed.Counts.{Counts}
 
 -- the table of an image that no check refuses: the shape, the nodes and the values are the image's
 pub record TableOf (img : List ℕ) (shape : Shape) (nodes values : List Float) : Type 0 where
@@ -20,10 +22,14 @@ pub record TableOf (img : List ℕ) (shape : Shape) (nodes values : List Float) 
   pub nodes-are : nodes ≡ nodesIn img
   pub values-are : values ≡ valuesIn img
 
--- After an image, for some records with as many bytes as were read: where no write failed, as many bytes were printed as a run of the image and
--- the records prints. "A refused image prints one line and ends": nothing is read after it.
-pub record Whole (img : List ℕ) (read printed : ℕ) (ok : Bool) : Type 0 where
+-- What follows an image, for some records of as many bytes as were read.
+pub record Whole (img : List ℕ) (n : Counts) : Type 0 where
   pub records : List ℕ
-  pub all-read : length records ≡ read
-  pub all-printed : ok ≡ true → printed ≡ length (runOf (img ++ records))
-  pub refused-ends : good (loadFault img 256 4096) ≡ false → read ≡ 0
+  pub all-read : length records ≡ n .read
+  -- where no write failed, as many bytes were printed as a run of the image and the records prints
+  pub all-printed : n .ok ≡ true → n .printed ≡ length (runOf (img ++ records))
+  -- "A refused image prints one line and ends": nothing more is asked for
+  pub refused-ends : good (loadFault img 256 4096) ≡ false → n .asked + n .read ≡ 0
+  -- "then records until input ends", and "of a longer input .. the first 1,000,000": where no write failed, fewer bytes came than were asked for, or
+  -- those of so many records did
+  pub input-ends : good (loadFault img 256 4096) ≡ true → n .ok ≡ true → (n .read < n .asked) ⊎ (mostRecords * ruleOf img .size ≤ n .read)

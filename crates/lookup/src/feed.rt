@@ -16,19 +16,21 @@ use program::input;
 use program::stdin;
 use program::turns;
 
-// What a turn leaves: how many bytes are held, how many records may still come, how many bytes were read and printed, whether to go on, and
-// whether the output stands.
+// What a turn leaves: how many bytes are held, how many records may still come, how many bytes were asked for, read and printed, whether
+// to go on, and whether the output stands.
 struct Next {
     held: usize,
     left: usize,
+    asked: usize,
     read: usize,
     printed: usize,
     go: bool,
     ok: bool,
 }
 
-// How many bytes of records were read and how many bytes were printed, and whether every write went well.
+// Of what follows the image, how many bytes were asked for and how many read; how many were printed, and whether every write went well.
 pub struct Counts {
+    pub asked: usize,
     pub read: usize,
     pub printed: usize,
     pub ok: bool,
@@ -49,9 +51,11 @@ fn step(
     requires { ⌜ TableOf (now img) shape (now nodes) (now values) ⌝ }
     requires { ⌜ Room (ruleOf (now img)) size held (now buf) (now out) ⌝ }
     ensures { λ r. ⌜ Stepped (ruleOf (now (img .entry))) held left (now (buf .entry)) (now (buf .exit)) r ⌝ }
-    ensures { λ r. ⌜ (r .read ≤ length (now (buf .entry))) × (r .printed ≤ length (now (out .entry))) ⌝ }
+    ensures { λ r. ⌜ r .printed ≤ length (now (out .entry)) ⌝ }
 {
+    let asked = buf.len() - held;
     let have = stdin::fill(buf, held);
+    let read = have - held;
     let done = block::answer_block(shape, nodes, values, &buf[..have], left, out);
     let count = done.count;
     let written = done.written;
@@ -64,7 +68,8 @@ fn step(
     Next {
         held: rest,
         left: more,
-        read: have - held,
+        asked,
+        read,
         printed: printed.bytes,
         go: input::goes_on(printed.ok, full, more, rest >= size),
         ok: printed.ok,
@@ -92,11 +97,12 @@ fn answer_blocks(
 ) -> Counts
     requires { ⌜ TableOf (now img) shape (now nodes) (now values) ⌝ }
     requires { ⌜ (length (now buf) ≡ 32768) × (length (now out) ≡ 81920) ⌝ }
-    ensures { λ r. ⌜ Whole (now (img .entry)) (r .read) (r .printed) (r .ok) ⌝ }
+    ensures { λ r. ⌜ Whole (now (img .entry)) r ⌝ }
 {
     let size = 1 + 8 * shape.axes;
     let mut held: usize = 0;
     let mut left: usize = program::MOST_RECORDS;
+    let mut asked: usize = 0;
     let mut read: usize = 0;
     let mut printed: usize = 0;
     let mut go = true;
@@ -105,18 +111,26 @@ fn answer_blocks(
         let n = step(img, shape, nodes, values, size, buf, out, held, left);
         held = n.held;
         left = n.left;
+        asked += n.asked;
         read += n.read;
         printed += n.printed;
         go = n.go;
         ok = n.ok;
     }
     if !ok {
-        return Counts { read, printed, ok };
+        return Counts {
+            asked,
+            read,
+            printed,
+            ok,
+        };
     }
     let last = end(img, &buf[..held], left, out);
+    let all = printed + last.bytes;
     Counts {
+        asked,
         read,
-        printed: printed + last.bytes,
+        printed: all,
         ok: last.ok,
     }
 }
@@ -124,7 +138,7 @@ fn answer_blocks(
 // Answers the records that follow an image.
 pub(crate) fn answer_all(img: &[u8], shape: Shape, nodes: &[f64], values: &[f64]) -> Counts
     requires { ⌜ TableOf (now img) shape (now nodes) (now values) ⌝ }
-    ensures { λ r. ⌜ Whole (now (img .entry)) (r .read) (r .printed) (r .ok) ⌝ }
+    ensures { λ r. ⌜ Whole (now (img .entry)) r ⌝ }
 {
     // The lines of a full buffer have room: of 9-byte records it has 3,640, and no line of a record has more than 20 bytes.
     let mut buf = [0u8; 32768];

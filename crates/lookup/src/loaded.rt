@@ -27,12 +27,13 @@ fn put_refusal(img: &[u8], answer: Answer, out: &mut [u8]) -> Printed
 
 // A refused image: one line, and no records.
 fn refuse(img: &[u8], answer: Answer) -> Counts
-    requires { ⌜ runOf (now img) ≡ lineOf answer ⌝ }
-    ensures { λ r. ⌜ Whole (now (img .entry)) (r .read) (r .printed) (r .ok) ⌝ }
+    requires { ⌜ (good (loadFault (now img) 256 4096) ≡ false) × (runOf (now img) ≡ lineOf answer) ⌝ }
+    ensures { λ r. ⌜ Whole (now (img .entry)) r ⌝ }
 {
     let mut line = [0u8; lines::LONGEST];
     let printed = put_refusal(img, answer, &mut line);
     Counts {
+        asked: 0,
         read: 0,
         printed: printed.bytes,
         ok: printed.ok,
@@ -43,7 +44,7 @@ fn refuse(img: &[u8], answer: Answer) -> Counts
 pub(crate) fn answer_image(img: &[u8], nodes: &mut [f64], values: &mut [f64]) -> Counts
     requires { ⌜ (length (now nodes) ≡ 256) × (length (now values) ≡ 4096) ⌝ }
     requires { ⌜ imageIn (now img) ≡ now img ⌝ }
-    ensures { λ r. ⌜ Whole (now (img .entry)) (r .read) (r .printed) (r .ok) ⌝ }
+    ensures { λ r. ⌜ Whole (now (img .entry)) r ⌝ }
 {
     let loaded = image::load(img, nodes, values);
     let answer = loaded.answer;

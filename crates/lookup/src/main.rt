@@ -12,30 +12,24 @@ ghost use Prim.Native.Nat.{_≤_};
 ghost use lib.ListN.{length, take};
 ghost use Rattle.program.specs.Input.{imageIn};
 ghost use Rattle.lookup.specs.Whole.{Whole};
+use feed::Counts;
 use program::stdin;
 
-// How many bytes of the input were the image, how many were read after it, how many were printed, and whether every write went well.
+// How many bytes of the input were taken for the image, and what was counted after it.
 pub struct Totals {
     pub image: usize,
-    pub read: usize,
-    pub printed: usize,
-    pub ok: bool,
+    pub after: Counts,
 }
 
 // One whole run: the image, and what follows it.
 fn run(img: &mut [u8], nodes: &mut [f64], values: &mut [f64]) -> Totals
     requires { ⌜ (length (now nodes) ≡ 256) × (length (now values) ≡ 4096) ⌝ }
     ensures { λ r. ⌜ imageIn (take (r .image) (now (img .exit))) ≡ take (r .image) (now (img .exit)) ⌝ }
-    ensures { λ r. ⌜ Whole (take (r .image) (now (img .exit))) (r .read) (r .printed) (r .ok) ⌝ }
+    ensures { λ r. ⌜ Whole (take (r .image) (now (img .exit))) (r .after) ⌝ }
 {
     let size = stdin::read_image(img);
-    let counts = loaded::answer_image(&img[..size], nodes, values);
-    Totals {
-        image: size,
-        read: counts.read,
-        printed: counts.printed,
-        ok: counts.ok,
-    }
+    let after = loaded::answer_image(&img[..size], nodes, values);
+    Totals { image: size, after }
 }
 
 fn main() {

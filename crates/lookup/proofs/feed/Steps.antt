@@ -75,19 +75,25 @@ module _ {p : Rule} {size held left have count written : ℕ} {b c d e : List �
   pub stepped : (f : List ℕ) (printed : ℕ) (go ok : Bool) → f ≡ shifted c (count * size) (have - count * size) → length f ≡ length c
       → printed ≡ length (linesFirst p count (take have c))
       → go ≡ goesOn ok (eqb have (length f)) (left - count) (leb size (have - count * size))
-      → Stepped p held left b f (record { held = have - count * size; left = left - count; read = have - held; printed = printed; go = go; ok = ok })
+      → Stepped p held left b f (record { held = have - count * size; left = left - count; asked = length b - held; read = have - held; printed = printed; go = go; ok = ok })
   stepped f printed go ok m wide w g = record {
     block = k .filled .block;
     text = take written e;
+    room = omega (arith, k .room .holds);
+    filled = omega (arith, step-there, k .kept);
     counted = omega (arith, filled-count (k .room .holds) (k .filled));
     told = ap length step-text ∙ sym w;
     turned = rw (← k .filled .bytes) (t .turned);
+    spent = omega (arith, spent, step-used, step-grown);
     holds = omega (arith, step-there, wide);
     within = omega arith;
     goes = λ h. goes (sym g ∙ h);
     stops = λ h o. stops (sym (ap (λ (x : Bool). goesOn x (eqb have (length f)) (left - count) (leb size (have - count * size))) o) ∙ sym g ∙ h);
   }
     where
+      spent : (left - (left - count)) * p .size ≡ count * size
+      spent = ap (λ (n : ℕ). n * p .size) (omega (arith, step-count)) ∙ sym same
+
       moved : f ≡ shifted c (count * p .size) (have - count * p .size)
       moved = m ∙ ap (λ (n : ℕ). shifted c n (have - n)) same
 
@@ -100,7 +106,7 @@ module _ {p : Rule} {size held left have count written : ℕ} {b c d e : List �
           let n : count ≡ 0 → ⊥ = some (q .0) (⊎-elim (λ x. inl (eqb-true have (length f) x ∙ wide)) (λ x. inr (leb-true size (have - count * size) x)) (q .1)) in
           omega (arith, n, step-count)
 
-      stops : goesOn true (eqb have (length f)) (left - count) (leb size (have - count * size)) ≡ false → (left - count ≡ 0) ⊎ ((held + (have - held) < length b) × (have - count * size < p .size))
+      stops : goesOn true (eqb have (length f)) (left - count) (leb size (have - count * size)) ≡ false → (left - count ≡ 0) ⊎ ((have - held < length b - held) × (have - count * size < p .size))
       stops h =
           ⊎-elim inl
           (λ q. inr (let n = eqb-false have (length f) (q .0) in omega (arith, n, wide, k .kept, step-there, step-grown), let n = leb-false size (have - count * size) (q .1) in omega (arith, n, k .room .sized)))

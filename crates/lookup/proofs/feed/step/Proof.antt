@@ -1,7 +1,8 @@
 use lib.Seq.{length-take-le}
+use Rattle.lines.proofs.Feeds.{filled-count}
 use Rattle.program.specs.Run.{ruleOf}
-use Rattle.lookup.proofs.Runs.{of-image}
-use Rattle.lookup.proofs.feed.Steps.{Done, step-there, step-grown, step-count, step-used, step-room, step-text, stepped}
+use Rattle.lookup.proofs.Tables.{of-image}
+use Rattle.lookup.proofs.feed.Steps.{Done, step-there, step-count, step-used, step-room, step-text, stepped}
 use mathlib.Core.Path.{sym}
 use native.Mathlib.Omega.{arith}
 use denote.Ref.{now}
@@ -29,6 +30,9 @@ done w =
       block = of-image (s .pre .0) (w .answer-block .ensures);
       spaced = w .answer-block .kept .1 .1 .1 .1 .1 .0;
     }
+
+sub-read : tie.Need-sub-read
+sub-read c = let f = c .before .before in omega (arith, filled-count (start f .pre .1 .holds) (f .fill .ensures (start f .pre .1 .holds)))
 
 slice-reshare-prefix-answer-block : tie.Need-slice-reshare-prefix-answer-block
 slice-reshare-prefix-answer-block c = let f = c .before .before in f .fill .ensures (start f .pre .1 .holds) .within
@@ -63,21 +67,20 @@ answered c = c .before .before .before .before .before .before .before .before .
 sub-more : tie.Need-sub-more
 sub-more c = step-count (done (answered c))
 
-sub-t32 : tie.Need-sub-t32
-sub-t32 c = step-grown (done (answered c))
-
 returns : tie.Need-returns
 returns c =
     let m = c .before .before .before in
     let l = m .before .before in
     let k = done (answered (c .before)) in
-    (stepped k _ _ _ _ (m .shift .ensures) (m .shift .kept .0) (l .lines .ensures) (c .goes-on .ensures), (omega (arith, step-there k, k .kept), omega (arith, l .lines .ensures, k .block .long, step-room k, k .spaced)))
+    (stepped k _ _ _ _ (m .shift .ensures) (m .shift .kept .0) (l .lines .ensures) (c .goes-on .ensures), omega (arith, l .lines .ensures, k .block .long, step-room k, k .spaced))
 
 pub step-spec : {M : Type 1} → statement M
 step-spec =
     tie.close
     (tie.spec
+    (λ c. search needs)
     (λ c κs. search needs)
+    sub-read
     slice-reshare-prefix-answer-block
     slice-aggregate-answer-block
     (λ c κs. search needs)
@@ -90,7 +93,6 @@ step-spec =
     sub-rest
     (λ c κs. search needs)
     sub-more
-    sub-t32
     (λ c κs. search needs)
     (λ c. search needs)
     (λ c. search needs)

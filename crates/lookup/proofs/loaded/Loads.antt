@@ -1,7 +1,7 @@
 -- What the loader gave: a table of the image, or its refusal. Assumes nothing.
 use mathlib.Core.Path.{_≡_, refl, sym, ap, ap₂, _∙_}
 use mathlib.Core.Bool.{Bool, true, false}
-use mathlib.Core.List.{List}
+use mathlib.Core.List.{List, [], append-nil}
 use Prim.Native.Nat.{ℕ, _≤_}
 use native.Mathlib.Omega.{arith}
 use borrow.Author.Tests.{eq-eqb, ne-eqb}
@@ -13,7 +13,7 @@ use Rattle.answer.specs.Answer.{refused, answered, fine, _then_}
 use Rattle.answer.specs.declared.Fault.{Fault}
 use Rattle.answer.specs.declared.Answer.{Answer}
 use Rattle.answer.proofs.Answers.{then-good, then-bad, refused-number}
-use Rattle.answer.proofs.Orders.{given-good}
+use Rattle.answer.proofs.Orders.{clash, given-good}
 use Rattle.answer.proofs.Outputs.{given-front}
 use Rattle.layout.specs.Shape.{countsOf, noShape, total, size}
 use Rattle.layout.specs.declared.Shape.{Shape}
@@ -31,7 +31,7 @@ use Rattle.lines.specs.Line.{lineOf}
 use Rattle.program.specs.Input.{imageIn}
 use Rattle.program.specs.Run.{runOf}
 use Rattle.program.proofs.turns.Laws.{run-refused}
-use Rattle.lookup.specs.Whole.{TableOf}
+use Rattle.lookup.specs.Whole.{TableOf, Whole}
 
 -- an answer's number is 0 exactly where nothing is wrong
 number-good : (f : Fault) (a : Answer) → a ≡ (f then fine) → eqb (a .number) 0 ≡ good f
@@ -54,12 +54,14 @@ module _ {img : List ℕ} {nodes values nodes′ values′ : List Float} {r : Lo
   unfolding loadAnswer
   told = ap (λ (x : LoadAnswer). x .answer) (l .answer) ∙ ap (λ (f : Fault). f then fine) same
 
-  -- the line of an image that is refused
-  pub refusal-line : (r .answer .number ≡ 0 → ⊥) → imageIn img ≡ img → runOf img ≡ lineOf (r .answer)
-  refusal-line h i =
-      run-refused img (ap (λ (x : List ℕ). good (loadFault x 256 4096)) i ∙ bad)
-      ∙ ap (λ (x : List ℕ). lineOf (refused (loadFault x 256 4096))) i
-      ∙ ap lineOf (sym (told ∙ then-bad (loadFault img 256 4096) fine bad))
+  -- what is printed of an image that is refused
+  pub refusal : (r .answer .number ≡ 0 → ⊥) → imageIn img ≡ img → (good (loadFault img 256 4096) ≡ false) × (runOf img ≡ lineOf (r .answer))
+  refusal h i = (
+    bad,
+    run-refused img (ap (λ (x : List ℕ). good (loadFault x 256 4096)) i ∙ bad)
+        ∙ ap (λ (x : List ℕ). lineOf (refused (loadFault x 256 4096))) i
+        ∙ ap lineOf (sym (told ∙ then-bad (loadFault img 256 4096) fine bad)),
+  )
     where
       bad : good (loadFault img 256 4096) ≡ false
       bad = sym (number-good (loadFault img 256 4096) (r .answer) told) ∙ ne-eqb (r .answer .number) 0 h
@@ -95,3 +97,13 @@ module _ {img : List ℕ} {nodes values nodes′ values′ : List Float} {r : Lo
       nodes-are = ap₂ take (sym many) (l .nodes-out) ∙ given-front (loadFault img (length nodes) (length values)) (nodesIn img) nodes given;
       values-are = ap₂ take (sym large) (l .values-out) ∙ given-front (loadFault img (length nodes) (length values)) (valuesIn img) values given;
     }
+
+pub refused-whole : (img : List ℕ) (printed : ℕ) (ok : Bool) → good (loadFault img 256 4096) ≡ false → printed ≡ length (runOf img)
+    → Whole img (record { asked = 0; read = 0; printed = printed; ok = ok })
+refused-whole img printed ok h e = record {
+  records = [];
+  all-read = refl;
+  all-printed = λ _. e ∙ ap (λ (l : List ℕ). length (runOf l)) (sym (append-nil img));
+  refused-ends = λ _. refl;
+  input-ends = λ t. clash (good (loadFault img 256 4096)) t h;
+}

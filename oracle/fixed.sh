@@ -1,5 +1,5 @@
 #!/usr/bin/env bash
-# For list.sh and runs.sh: builds the oracle and makes the input that a program of crates/ is run on, and its answers.
+# For list.sh, runs.sh and long.sh: builds the oracle and makes the input that a program of crates/ is run on, and its answers.
 #   bash oracle/fixed.sh CRATE WHAT WORD [--check]
 # Writes crates/CRATE/stdin and stdout, or compares with them. WORD, if any, stands before the oracle's own words.
 set -eu

@@ -32,6 +32,7 @@ const USAGE: &str = "usage: oracle make | answer | count | check
        oracle limit FOLDER
        oracle compare FOLDER
        oracle runs make | answer | count
+       oracle long make | answer | count
        oracle fast lookup | judged
        oracle timed records KIND COUNTS RECORDS
        oracle timed calls | refused KIND COUNTS CALLS";
@@ -97,6 +98,9 @@ fn run(words: &[&str]) -> Result<(bool, Vec<u8>), String> {
         ["runs", "make"] => runs::joined(&make::runs::all()),
         ["runs", "answer"] => runs::answer(&runs::split(&input()?)?).into(),
         ["runs", "count"] => format!("{}\n", runs::split(&input()?)?.len()).into(),
+        ["long", "make"] => make::runs::long(),
+        ["long", "answer"] => program::lines(&input()?).into(),
+        ["long", "count"] => format!("{}\n", program::lines(&input()?).lines().count()).into(),
         ["fast", program] => {
             fast(program)?;
             Vec::new()

@@ -1,4 +1,5 @@
-//! The fixed whole runs, each an image and records together, that `crates/test_whole` runs.
+//! The fixed whole runs, each an image and records together: those that `crates/test_whole` runs, and the long one of
+//! `crates/lookup`.
 
 mod answered;
 mod contents;
@@ -8,7 +9,10 @@ mod headers;
 mod large;
 mod layouts;
 mod lengths;
+mod long;
 mod records;
+
+pub use long::long;
 
 use super::images::put_record;
 use super::numbers::Seed;

@@ -5,7 +5,7 @@ use Rattle.lookup.proofs.run.Statement.{statement}
 use Rattle.lookup.proofs.run.Tie as tie
 
 slice-aggregate-answer-image : tie.Need-slice-aggregate-answer-image
-slice-aggregate-answer-image c = sym (length-take-le _ _ (c .before .before .before .read-image .ensures .0))
+slice-aggregate-answer-image c = sym (length-take-le _ _ (search needs))
 
 pub run-spec : {M : Type 1} → statement M
 run-spec =

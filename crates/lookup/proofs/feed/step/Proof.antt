@@ -25,20 +25,20 @@ done w =
     let s = start f in
     record {
       room = s .pre .1;
-      filled = f .fill .ensures (s .pre .1 .holds);
+      filled = f .fill .ensures (search needs);
       kept = f .fill .kept .0;
       block = of-image (s .pre .0) (w .answer-block .ensures);
       spaced = w .answer-block .kept .1 .1 .1 .1 .1 .0;
     }
 
 sub-read : tie.Need-sub-read
-sub-read c = let f = c .before .before in omega (arith, filled-count (start f .pre .1 .holds) (f .fill .ensures (start f .pre .1 .holds)))
+sub-read c = let f = c .before .before in omega (arith, filled-count (search needs) (f .fill .ensures (search needs)))
 
 slice-reshare-prefix-answer-block : tie.Need-slice-reshare-prefix-answer-block
-slice-reshare-prefix-answer-block c = let f = c .before .before in f .fill .ensures (start f .pre .1 .holds) .within
+slice-reshare-prefix-answer-block c = let f = c .before .before in f .fill .ensures (search needs) .within
 
 slice-aggregate-answer-block : tie.Need-slice-aggregate-answer-block
-slice-aggregate-answer-block c = let f = c .before .before .before in sym (length-take-le _ _ (f .fill .ensures (start f .pre .1 .holds) .within))
+slice-aggregate-answer-block c = let f = c .before .before .before in sym (length-take-le _ _ (f .fill .ensures (search needs) .within))
 
 slice-reshare-prefix-lines : tie.Need-slice-reshare-prefix-lines
 slice-reshare-prefix-lines c = step-there (done (c .before .before))

@@ -3,6 +3,7 @@ use Rattle.image.specs.Load.{Loaded}
 use Rattle.lookup.proofs.loaded.Loads.{refusal, nodes-there, values-there, table}
 use mathlib.Core.Path.{sym}
 use Prim.Native.Nat.{_≤_}
+use native.Mathlib.Omega.{arith}
 use lib.ListN.{length}
 use denote.Ref.{now}
 use borrow.Author.Needs.{needs}
@@ -24,29 +25,28 @@ refuse-requires c κs =
 abbrev passed : tie.After-sizes → tie.Else1
 passed c = c .before .before
 
-nodes-front : (c : tie.After-sizes) → c .sizes .result .nodes ≤ length (load (passed c .before) .load .last .1 .0)
-nodes-front c =
+-- both outputs have room for what is lent of them
+fronts : (c : tie.After-sizes)
+    → (c .sizes .result .nodes ≤ length (load (passed c .before) .load .last .1 .0)) × (c .sizes .result .values ≤ length (load (passed c .before) .load .last .1 .1 .0))
+fronts c =
     let l = load (passed c .before) in
     let s = start l in
-    nodes-there (l .load .ensures) (s .pre .0 .0) (s .pre .0 .1) (passed c .if1 .left) (c .sizes .result) (c .sizes .ensures) (l .load .kept .1 .0)
-
-values-front : (c : tie.After-sizes) → c .sizes .result .values ≤ length (load (passed c .before) .load .last .1 .1 .0)
-values-front c =
-    let l = load (passed c .before) in
-    let s = start l in
-    values-there (l .load .ensures) (s .pre .0 .0) (s .pre .0 .1) (passed c .if1 .left) (c .sizes .result) (c .sizes .ensures) (l .load .kept .1 .1 .0)
+    (
+      nodes-there (l .load .ensures) (s .pre .0 .0) (s .pre .0 .1) (passed c .if1 .left) (c .sizes .result) (c .sizes .ensures) (l .load .kept .1 .0),
+      values-there (l .load .ensures) (s .pre .0 .0) (s .pre .0 .1) (passed c .if1 .left) (c .sizes .result) (c .sizes .ensures) (l .load .kept .1 .1 .0),
+    )
 
 slice-reshare-prefix-answer-all : tie.Need-slice-reshare-prefix-answer-all
-slice-reshare-prefix-answer-all c = nodes-front c
+slice-reshare-prefix-answer-all c = omega (arith, fronts c)
 
 slice-aggregate-answer-all : tie.Need-slice-aggregate-answer-all
-slice-aggregate-answer-all c = sym (length-take-le _ _ (nodes-front (c .before)))
+slice-aggregate-answer-all c = sym (length-take-le _ _ (omega (arith, fronts (c .before))))
 
 slice-reshare-prefix-answer-all-2 : tie.Need-slice-reshare-prefix-answer-all-2
-slice-reshare-prefix-answer-all-2 c = values-front (c .before)
+slice-reshare-prefix-answer-all-2 c = omega (arith, fronts (c .before))
 
 slice-aggregate-answer-all-2 : tie.Need-slice-aggregate-answer-all-2
-slice-aggregate-answer-all-2 c = sym (length-take-le _ _ (values-front (c .before .before)))
+slice-aggregate-answer-all-2 c = sym (length-take-le _ _ (omega (arith, fronts (c .before .before))))
 
 answer-all-requires : tie.Need-answer-all-requires
 answer-all-requires c κs =

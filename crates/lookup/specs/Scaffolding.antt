@@ -1,4 +1,4 @@
--- Not for the reader of promises: what the functions between a block and the whole run ask for and give, held to by the checker. Of any rule.
+-- Not for the reader of promises: what the functions between a block and the whole run ask for and give, held to by the checker.
 use mathlib.Core.Path.{_≡_}
 use mathlib.Core.Bool.{true, false}
 use mathlib.Core.Logic.{_⊎_}
@@ -19,9 +19,9 @@ pub record Room (p : Rule) (size held : ℕ) (buf out : List ℕ) : Type 0 where
 abbrev pub Last : Rule → ℕ → List ℕ → Type 0
 Last p left rest = (left ≡ 0) ⊎ (length rest < p .size)
 
--- A block was read into the buffer b after the bytes that are held, and answered with them, and what is left of them stands at the front of the
--- buffer c. It goes on only where records were answered. Where the output stands it stops only at the limit, or where the block did not fill
--- the buffer and no whole record is left.
+-- A block was read into the buffer b after the bytes that are held, and answered with them, and what is left of them stands at the
+-- front of the buffer c. It goes on only where records were answered. Where the output stands it stops only at the limit, or where
+-- the block did not fill the buffer and no whole record is left.
 pub record Stepped (p : Rule) (held left : ℕ) (b c : List ℕ) (n : Next) : Type 0 where
   pub block : List ℕ
   pub text : List ℕ

@@ -30,6 +30,6 @@ pub record Whole (img : List ℕ) (n : Counts) : Type 0 where
   pub all-printed : n .ok ≡ true → n .printed ≡ length (runOf (img ++ records))
   -- "A refused image prints one line and ends": nothing more is asked for
   pub refused-ends : good (loadFault img 256 4096) ≡ false → n .asked + n .read ≡ 0
-  -- "then records until input ends", and "of a longer input .. the first 1,000,000": where no write failed, fewer bytes came than were asked for, or
-  -- those of so many records did
+  -- "then records until input ends"; "of a longer input .. the first 1,000,000 records": where no write failed, fewer bytes came than
+  -- were asked for, or those of so many records did
   pub input-ends : good (loadFault img 256 4096) ≡ true → n .ok ≡ true → (n .read < n .asked) ⊎ (mostRecords * ruleOf img .size ≤ n .read)

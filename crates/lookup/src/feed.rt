@@ -1,8 +1,7 @@
 // Records from standard input, block by block, to lines on standard output.
 ghost use mathlib.Core.Path.{_≡_};
-ghost use mathlib.Core.Bool.{true};
 ghost use Prim.Native.Nat.{_≤_};
-ghost use lib.ListN.{length, take};
+ghost use lib.ListN.{length};
 ghost use Rattle.lines.specs.Line.{longest};
 ghost use Rattle.lines.specs.Stream.{linesOf};
 ghost use Rattle.program.specs.Run.{ruleOf};

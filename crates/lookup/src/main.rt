@@ -8,7 +8,6 @@ mod loaded;
 mod print;
 
 ghost use mathlib.Core.Path.{_≡_};
-ghost use Prim.Native.Nat.{_≤_};
 ghost use lib.ListN.{length, take};
 ghost use Rattle.program.specs.Input.{imageIn};
 ghost use Rattle.lookup.specs.Whole.{Whole};

@@ -18,8 +18,8 @@ use Rattle.lookup.specs.declared.feed.Next.{Next}
 use Rattle.lookup.specs.Scaffolding.{Room, Last, Stepped}
 use Rattle.lookup.proofs.Tables.{four-axes}
 
--- For some bytes, as many as were read so far, and some text, as long as what was printed: `rest` is held and `left` records may still come, and
--- whatever bytes come next, the text and what is printed of the rest and them is what is printed of all.
+-- For some bytes, as many as were read so far, and some text, as long as what was printed: `rest` is held and `left` records may
+-- still come, and whatever bytes come next, the text and what is printed of the rest and them is what is printed of all.
 pub record Reached (p : Rule) (limit left : ℕ) (rest : List ℕ) (read printed : ℕ) : Type 0 where
   pub bytes : List ℕ
   pub text : List ℕ

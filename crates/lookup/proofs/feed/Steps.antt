@@ -1,8 +1,8 @@
 -- A turn: a block is read, answered and printed, and what is left is moved to the front. Assumes nothing.
-use mathlib.Core.Path.{_≡_, refl, sym, ap, ap₂, _∙_, subst}
+use mathlib.Core.Path.{_≡_, sym, ap, _∙_, subst}
 use mathlib.Core.Bool.{Bool, true, false}
 use mathlib.Core.Logic.{_⊎_, inl, inr, ⊎-elim}
-use mathlib.Core.List.{List, _++_}
+use mathlib.Core.List.{List}
 use Prim.Native.Nat.{ℕ, _+_, _-_, _*_, _≤_, _<_}
 use native.Mathlib.Nat.{zero-mul}
 use native.Mathlib.Omega.{arith}
@@ -63,7 +63,7 @@ module _ {p : Rule} {size held left have count written : ℕ} {b c d e : List �
 
   -- some record was answered, where records may still come and the buffer was filled or holds a whole one still
   some : (left - count ≡ 0 → ⊥) → (have ≡ length c) ⊎ (size ≤ have - count * size) → count ≡ 0 → ⊥
-  some more way z = ⊎-elim (λ s. more (omega (arith, s))) (λ s. ⊎-elim (λ s. ⊎-elim (λ f. omega (arith, s, f, there, none, k .room .whole, k .kept)) (λ w. omega (arith, s, w, there, none, same, k .room .sized)) way) (λ s. omega (arith, s, k .room .spaced, empty)) s) (done .stop)
+  some more way z = by (done .stop) way
     where
       none : count * p .size ≡ 0
       none = ap (λ (n : ℕ). n * p .size) z ∙ zero-mul (p .size)
@@ -71,46 +71,60 @@ module _ {p : Rule} {size held left have count written : ℕ} {b c d e : List �
       empty : written ≡ 0
       empty = k .block .long ∙ ap (λ (n : ℕ). length (linesFirst p n (take have c))) z ∙ ap length (lines-none p (take have c))
 
+      by : (left ≤ count) ⊎ ((length (take have c) < count * p .size + p .size) ⊎ (length d < written + p .longest))
+          → (have ≡ length c) ⊎ (size ≤ have - count * size) → ⊥
+      by (inl s) w = more (omega (arith, s))
+      by (inr (inl s)) (inl f) = omega (arith, s, f, there, none, k .room .whole, k .kept)
+      by (inr (inl s)) (inr w) = omega (arith, s, w, there, none, same, k .room .sized)
+      by (inr (inr s)) w = omega (arith, s, k .room .spaced, empty)
+
   -- f is the buffer after what is left was moved to its front
-  pub stepped : (f : List ℕ) (printed : ℕ) (go ok : Bool) → f ≡ shifted c (count * size) (have - count * size) → length f ≡ length c
-      → printed ≡ length (linesFirst p count (take have c))
-      → go ≡ goesOn ok (eqb have (length f)) (left - count) (leb size (have - count * size))
-      → Stepped p held left b f (record { held = have - count * size; left = left - count; asked = length b - held; read = have - held; printed = printed; go = go; ok = ok })
-  stepped f printed go ok m wide w g = record {
-    block = k .filled .block;
-    text = take written e;
-    room = omega (arith, k .room .holds);
-    filled = omega (arith, step-there, k .kept);
-    counted = omega (arith, filled-count (k .room .holds) (k .filled));
-    told = ap length step-text ∙ sym w;
-    turned = rw (← k .filled .bytes) (t .turned);
-    spent = omega (arith, spent, step-used, step-grown);
-    holds = omega (arith, step-there, wide);
-    within = omega arith;
-    goes = λ h. goes (sym g ∙ h);
-    stops = λ h o. stops (sym (ap (λ (x : Bool). goesOn x (eqb have (length f)) (left - count) (leb size (have - count * size))) o) ∙ sym g ∙ h);
-  }
-    where
-      spent : (left - (left - count)) * p .size ≡ count * size
-      spent = ap (λ (n : ℕ). n * p .size) (omega (arith, step-count)) ∙ sym same
+  module _ (f : List ℕ) (m : f ≡ shifted c (count * size) (have - count * size)) (wide : length f ≡ length c) where
+    abbrev full : Bool
+    full = eqb have (length f)
 
-      moved : f ≡ shifted c (count * p .size) (have - count * p .size)
-      moved = m ∙ ap (λ (n : ℕ). shifted c n (have - n)) same
+    abbrev whole : Bool
+    whole = leb size (have - count * size)
 
-      t : Turning p left have c d f e written (have - count * size) (left - count)
-      t = subst (λ (n : ℕ). Turning p left have c d f e written (have - n) (left - count)) (sym same) (turning step-there (k .block) (k .spaced) moved)
+    turn : Turning p left have c d f e written (have - count * size) (left - count)
+    turn = subst (λ (n : ℕ). Turning p left have c d f e written (have - n) (left - count)) (sym same) (turning step-there (k .block) (k .spaced) moved)
+      where
+        moved : f ≡ shifted c (count * p .size) (have - count * p .size)
+        moved = m ∙ ap (λ (n : ℕ). shifted c n (have - n)) same
 
-      goes : goesOn ok (eqb have (length f)) (left - count) (leb size (have - count * size)) ≡ true → left - count < left
-      goes h =
-          let q = goes-on-means (eqb have (length f)) (left - count) (leb size (have - count * size)) ok h in
-          let n : count ≡ 0 → ⊥ = some (q .0) (⊎-elim (λ x. inl (eqb-true have (length f) x ∙ wide)) (λ x. inr (leb-true size (have - count * size) x)) (q .1)) in
-          omega (arith, n, step-count)
+    spent : (left - (left - count)) * p .size ≡ count * size
+    spent = ap (λ (n : ℕ). n * p .size) (omega (arith, step-count)) ∙ sym same
 
-      stops : goesOn true (eqb have (length f)) (left - count) (leb size (have - count * size)) ≡ false → (left - count ≡ 0) ⊎ ((have - held < length b - held) × (have - count * size < p .size))
-      stops h =
-          ⊎-elim inl
-          (λ q. inr (let n = eqb-false have (length f) (q .0) in omega (arith, n, wide, k .kept, step-there, step-grown), let n = leb-false size (have - count * size) (q .1) in omega (arith, n, k .room .sized)))
-          (stops-means (eqb have (length f)) (left - count) (leb size (have - count * size)) h)
+    goes : (ok : Bool) → goesOn ok full (left - count) whole ≡ true → left - count < left
+    goes ok h =
+        let q = goes-on-means full (left - count) whole ok h in
+        let n : count ≡ 0 → ⊥ = some (q .0) (⊎-elim (λ x. inl (eqb-true have (length f) x ∙ wide)) (λ x. inr (leb-true size (have - count * size) x)) (q .1)) in
+        omega (arith, n, step-count)
+
+    stops : goesOn true full (left - count) whole ≡ false → (left - count ≡ 0) ⊎ ((have - held < length b - held) × (have - count * size < p .size))
+    stops h = ⊎-elim inl (λ q. inr (short (eqb-false have (length f) (q .0)), omega (arith, leb-false size (have - count * size) (q .1), k .room .sized))) (stops-means full (left - count) whole h)
+      where
+        short : (have ≡ length f → ⊥) → have - held < length b - held
+        short n = omega (arith, n, wide, k .kept, step-there, step-grown)
+
+    pub stepped : (printed : ℕ) (go ok : Bool) → printed ≡ length (linesFirst p count (take have c))
+        → go ≡ goesOn ok (eqb have (length f)) (left - count) (leb size (have - count * size))
+        → Stepped p held left b f
+        (record { held = have - count * size; left = left - count; asked = length b - held; read = have - held; printed = printed; go = go; ok = ok })
+    stepped printed go ok w g = record {
+      block = k .filled .block;
+      text = take written e;
+      room = omega (arith, k .room .holds);
+      filled = omega (arith, step-there, k .kept);
+      counted = omega (arith, filled-count (k .room .holds) (k .filled));
+      told = ap length step-text ∙ sym w;
+      turned = rw (← k .filled .bytes) (turn .turned);
+      spent = omega (arith, spent, step-used, step-grown);
+      holds = omega (arith, step-there, wide);
+      within = omega arith;
+      goes = λ h. goes ok (sym g ∙ h);
+      stops = λ h o. stops (sym (ap (λ (x : Bool). goesOn x full (left - count) whole) o) ∙ sym g ∙ h);
+    }
 
 -- what is put at the input's end is what is printed of the rest
 pub end-put : (p : Rule) → p .cut ≡ lineOf (refused (refusal 3 0 2)) → (left : ℕ) (rest out : List ℕ) → longest ≤ length out → Last p left rest

@@ -8,16 +8,15 @@ use borrow.Author.Tests.{eq-eqb, ne-eqb}
 use lib.Dec.{eqb}
 use lib.Ieee.{Float}
 use lib.ListN.{length, take}
-use Rattle.answer.specs.Faults.{good, filledInto}
+use Rattle.answer.specs.Faults.{good}
 use Rattle.answer.specs.Answer.{refused, answered, fine, _then_}
 use Rattle.answer.specs.declared.Fault.{Fault}
 use Rattle.answer.specs.declared.Answer.{Answer}
 use Rattle.answer.proofs.Answers.{then-good, then-bad, refused-number}
 use Rattle.answer.proofs.Orders.{clash, given-good}
 use Rattle.answer.proofs.Outputs.{given-front}
-use Rattle.layout.specs.Shape.{countsOf, noShape, total, size}
-use Rattle.layout.specs.declared.Shape.{Shape}
-use Rattle.checks.specs.Shapes.{shapeFault, sizesOf}
+use Rattle.layout.specs.Shape.{noShape}
+use Rattle.checks.specs.Shapes.{sizesOf}
 use Rattle.checks.specs.declared.shapes.Holding.{Holding}
 use Rattle.checks.proofs.shapes.Frames.{holds-nodes, holds-values}
 use Rattle.image.specs.Fields.{shapeOf}

@@ -72,7 +72,7 @@ returns c =
     let m = c .before .before .before in
     let l = m .before .before in
     let k = done (answered (c .before)) in
-    (stepped k _ _ _ _ (m .shift .ensures) (m .shift .kept .0) (l .lines .ensures) (c .goes-on .ensures), omega (arith, l .lines .ensures, k .block .long, step-room k, k .spaced))
+    (stepped k _ (m .shift .ensures) (m .shift .kept .0) _ _ _ (l .lines .ensures) (c .goes-on .ensures), omega (arith, l .lines .ensures, k .block .long, step-room k, k .spaced))
 
 pub step-spec : {M : Type 1} → statement M
 step-spec =

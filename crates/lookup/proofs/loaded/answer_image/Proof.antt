@@ -1,11 +1,9 @@
 use lib.Seq.{length-take-le}
-use Rattle.image.specs.Load.{Loaded}
 use Rattle.lookup.proofs.loaded.Loads.{refusal, nodes-there, values-there, table}
 use mathlib.Core.Path.{sym}
 use Prim.Native.Nat.{_≤_}
 use native.Mathlib.Omega.{arith}
 use lib.ListN.{length}
-use denote.Ref.{now}
 use borrow.Author.Needs.{needs}
 use Rattle.lookup.proofs.loaded.answer_image.Statement.{statement}
 use Rattle.lookup.proofs.loaded.answer_image.Tie as tie
@@ -30,8 +28,7 @@ fronts : (c : tie.After-sizes)
     → (c .sizes .result .nodes ≤ length (load (passed c .before) .load .last .1 .0)) × (c .sizes .result .values ≤ length (load (passed c .before) .load .last .1 .1 .0))
 fronts c =
     let l = load (passed c .before) in
-    let s = start l in
-    (
+    let s = start l in (
       nodes-there (l .load .ensures) (s .pre .0 .0) (s .pre .0 .1) (passed c .if1 .left) (c .sizes .result) (c .sizes .ensures) (l .load .kept .1 .0),
       values-there (l .load .ensures) (s .pre .0 .0) (s .pre .0 .1) (passed c .if1 .left) (c .sizes .result) (c .sizes .ensures) (l .load .kept .1 .1 .0),
     )

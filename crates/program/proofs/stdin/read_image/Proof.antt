@@ -17,7 +17,7 @@ read-rest-requires c κs =
     let z = c .before in
     let h = z .before .before .before .before .before .before in
     let w = size-within _ _ (z .image-size .ensures) in
-    (w .0, omega (arith, w .1, h .read-head .kept .0, h .before .before .if1 .left))
+    (omega (arith, w .0), omega (arith, w .1, h .read-head .kept .0, h .before .before .if1 .left))
 
 returns-3 : tie.Need-returns-3
 returns-3 c =

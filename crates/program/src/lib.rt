@@ -10,7 +10,7 @@ pub mod run;
 pub mod stdin;
 // lines printed on standard output
 pub mod stdout;
-// a turn of the buffer: its records are answered, and what is left is moved to its front
+// a turn of the buffer: what is left of it is moved to its front
 pub mod turns;
 
 // Of a longer input so many records are answered.

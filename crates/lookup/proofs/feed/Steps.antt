@@ -13,7 +13,7 @@ use lib.Seq.{length-take-le, take-all}
 use Rattle.answer.specs.Faults.{refusal}
 use Rattle.answer.specs.Answer.{refused}
 use Rattle.lines.specs.Line.{lineOf, longest}
-use Rattle.lines.specs.Stream.{Rule, linesFirst, linesOf, Block}
+use Rattle.lines.specs.Stream.{Rule, linesFirst, linesOf, Block, Turned}
 use Rattle.lines.specs.Scaffolding.{Filled}
 use Rattle.lines.proofs.Blocks.{Answered, answered, lines-none}
 use Rattle.lines.proofs.Feeds.{filled-count}
@@ -22,7 +22,7 @@ use Rattle.lines.proofs.Runs.{cut-off}
 use Rattle.program.specs.Input.{goesOn, endInto, endSize}
 use Rattle.program.specs.Turns.{shifted}
 use Rattle.program.proofs.input.Ends.{goes-on-means, stops-means, no-record-left, end-told}
-use Rattle.program.proofs.turns.Turning.{Turning, turning}
+use Rattle.program.proofs.turns.Turning.{turning}
 use Rattle.lookup.specs.Scaffolding.{Room, Last, Stepped}
 
 -- b is the buffer before the block was read and c after it; d is the output before the records were answered and e after it
@@ -86,8 +86,8 @@ module _ {p : Rule} {size held left have count written : ℕ} {b c d e : List �
     abbrev whole : Bool
     whole = leb size (have - count * size)
 
-    turn : Turning p left have c d f e written (have - count * size) (left - count)
-    turn = subst (λ (n : ℕ). Turning p left have c d f e written (have - n) (left - count)) (sym same) (turning step-there (k .block) (k .spaced) moved)
+    turn : Turned p left (take have c) (take written e) (left - count) (take (have - count * size) f)
+    turn = subst (λ (n : ℕ). Turned p left (take have c) (take written e) (left - count) (take (have - n) f)) (sym same) (turning have c step-there (k .block) (k .spaced) moved)
       where
         moved : f ≡ shifted c (count * p .size) (have - count * p .size)
         moved = m ∙ ap (λ (n : ℕ). shifted c n (have - n)) same
@@ -118,7 +118,7 @@ module _ {p : Rule} {size held left have count written : ℕ} {b c d e : List �
       filled = omega (arith, step-there, k .kept);
       counted = omega (arith, filled-count (k .room .holds) (k .filled));
       told = ap length step-text ∙ sym w;
-      turned = rw (← k .filled .bytes) (turn .turned);
+      turned = rw (← k .filled .bytes) turn;
       spent = omega (arith, spent, step-used, step-grown);
       holds = omega (arith, step-there, wide);
       within = omega arith;

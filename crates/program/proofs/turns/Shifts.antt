@@ -6,7 +6,7 @@ use Prim.Native.Nat.{ℕ, _+_, _≤_, _<_}
 use native.Mathlib.Nat.{add-comm}
 use native.Mathlib.Numerals.{add-one}
 use native.Mathlib.Omega.{arith}
-use lib.ListN.{length, take, drop, getD, set, length-append, length-take, length-drop, length-set, take-append-drop}
+use lib.ListN.{length, take, drop, getD, set, length-take, length-drop, length-set, take-append-drop}
 use lib.Seq.{drop-drop, take-at, take-suc, take-suc-set, drop-set-lt, getD-drop}
 use borrow.Author.Tests.{le-leb, lt-leb}
 use Rattle.lines.specs.Put.{roomFor}
@@ -60,12 +60,9 @@ module _ (a : List ℕ) (from n : ℕ) where
       ∙ ap₂ (λ (x y : List ℕ). x ++ y) (ap (λ (k : ℕ). take k b) (sym e) ∙ s .front ∙ ap (λ (k : ℕ). take k (drop from a)) e) (ap (λ (k : ℕ). drop k b) (sym e) ∙ s .back ∙ ap (λ (k : ℕ). drop k a) e)
       ∙ sym (there (s .room))
 
-  -- ---- for callers: the bytes are at the front, and the length is kept
+  -- ---- for callers: the bytes are at the front
   moved-length : from + n ≤ length a → length (take n (drop from a)) ≡ n
   moved-length h = simp (length-take, length-drop) (omega arith)
 
   pub shifted-front : from + n ≤ length a → take n (shifted a from n) ≡ take n (drop from a)
   shifted-front h = ap (take n) (there h) ∙ take-at (take n (drop from a)) (drop n a) n (moved-length h)
-
-  pub shifted-length : from + n ≤ length a → length (shifted a from n) ≡ length a
-  shifted-length h = ap length (there h) ∙ simp (length-append, length-drop) (omega (arith, moved-length h))

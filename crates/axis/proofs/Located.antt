@@ -17,7 +17,8 @@ use Rattle.rust.specs.declared.AxisLocation.{AxisLocation}
 use Rattle.rust.specs.declared.AxisLocation.the-variants.{Exact, Between}
 use Rattle.axis.specs.Cells.{lowerIndex}
 use Rattle.axis.proofs.cells.Cells.{cell-inside}
-use Rattle.axis.specs.Locations.{exactOr, fraction, axisLocation, uniformLocation, locationBy, locationFound, locationIndex, upperOf}
+use Rattle.axis.specs.Locations.{exactOr, fraction, axisLocation, uniformLocation, locationIndex}
+use Rattle.axis.specs.Scaffolding.{locationBy, locationFound, upperOf}
 use Rattle.axis.specs.Exact.{exactNode}
 use Rattle.rust.specs.declared.MaybeIndex.the-variants.{Some, None}
 

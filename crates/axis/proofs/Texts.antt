@@ -22,8 +22,7 @@ use Rattle.binary64.proofs.Difference.{sub-is}
 use Rattle.checks.specs.Nodes.{node, gap}
 use Rattle.checks.specs.Numbers.{apart, gapFault, uniformFault, defaultTolerance, defaultFault}
 use Rattle.checks.specs.Passed.{Axis}
-use Rattle.rust.specs.Utils.{at, fracOf, bisected, lowerOf, locateLowerIndex, exactIndex, matched, locateAxis, lowerBy, upperBy, locateStepIndex, floor, toUsize, unwrapOr, cellOf, locateLowerIndexUniform}
-use Rattle.rust.specs.Utils.{Validated, ok, nonUniform, spacingAt, diffOf, gapsFrom, validateUniformGrid, doubled, abs, epsilon, toleranceOf, validateUniformGridEpsilon}
+use Rattle.rust.specs.Utils.{at, fracOf, bisected, lowerOf, locateLowerIndex, exactIndex, matched, locateAxis, lowerBy, upperBy, locateStepIndex, floor, toUsize, unwrapOr, cellOf, locateLowerIndexUniform, Validated, ok, nonUniform, spacingAt, diffOf, gapsFrom, validateUniformGrid, doubled, abs, epsilon, toleranceOf, validateUniformGridEpsilon}
 use Rattle.rust.specs.Strategies.{nearestAt, uniformLower, uniformDiff, orElse, validateFrom, validateLinearUniform}
 use Rattle.rust.specs.declared.MaybeIndex.{MaybeIndex}
 use Rattle.rust.specs.declared.MaybeIndex.the-variants.{Some, None}
@@ -32,7 +31,8 @@ use Rattle.axis.specs.Cells.{lowerIndex}
 use Rattle.axis.specs.Exact.{exactNode}
 use Rattle.axis.specs.Locations.{fraction, exactOr, axisLocation, uniformLocation}
 use Rattle.axis.specs.Steps.{stepIndex}
-use Rattle.axis.specs.Picks.{rustStep, nearer, nearestIndex}
+use Rattle.axis.specs.Picks.{nearer, nearestIndex}
+use Rattle.axis.specs.Scaffolding.{rustStep}
 use Rattle.axis.specs.Uniform.{uniformCell, uniformIndex}
 use Rattle.axis.proofs.cells.Axes.{Bracket, bracket-start, bracket-up, bracket-down, lowest, highest, met-above, met-first, met-never}
 use Rattle.axis.proofs.picks.Nodes.{step-rust}

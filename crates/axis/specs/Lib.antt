@@ -4,3 +4,4 @@ pub mod Exact
 pub mod Steps
 pub mod Picks
 pub mod Uniform
+pub mod Scaffolding

@@ -1,11 +1,8 @@
 -- Where a reading lies on an axis, by Linear's rule (`locate_axis`) and by LinearUniform's: the exact node, or a cell with a fraction.
-use mathlib.Core.Bool.{Bool, true, false, cond}
 use mathlib.Core.List.{List}
-use Prim.Native.Nat.{ℕ, _+_}
-use lib.Dec.{ltb}
+use Prim.Native.Nat.{ℕ}
 use lib.ListN.{length}
 use lib.Ieee.{Float, binary64, sub, div}
-use Rattle.answer.specs.Answer.{plusZero}
 use Rattle.checks.specs.Nodes.{node, gap}
 use Rattle.axis.specs.Cells.{lowerIndex}
 use Rattle.axis.specs.Exact.{exactNode}
@@ -39,20 +36,7 @@ uniformBetween nodes lower p = Between lower (div binary64 (sub binary64 p (node
 unfoldable pub uniformLocation : List Float → Float → AxisLocation
 uniformLocation nodes p = uniformBetween nodes (uniformIndex (node nodes 0) (gap nodes 0) (length nodes) p) p
 
-abbrev pub locationBy : Bool → List Float → Float → AxisLocation
-locationBy true = uniformLocation
-locationBy false = axisLocation
-
--- what the code gives, of any list at all: 0 and +0.0 where there is no cell. On a good axis it is `locationBy` (`location-found`)
-unfoldable pub locationFound : Bool → List Float → Float → AxisLocation
-locationFound uniform nodes p = cond (ltb (length nodes) 2) (Between 0 plusZero) (locationBy uniform nodes p)
-
 -- "When an answer is an enum, a definition gives this paper's number and values for each of its cases."
 abbrev pub locationIndex : AxisLocation → ℕ
 locationIndex (Exact node) = node
 locationIndex (Between lower frac) = lower
-
--- the highest node that a location looks at
-abbrev pub upperOf : AxisLocation → ℕ
-upperOf (Exact node) = node
-upperOf (Between lower frac) = lower + 1

@@ -2,7 +2,8 @@
 ghost use mathlib.Core.Path.{_≡_};
 ghost use Prim.Native.Nat.{_≤_};
 ghost use lib.ListN.{length};
-ghost use Rattle.axis.specs.Locations.{axisLocation, locationIndex, uniformLocation, locationFound};
+ghost use Rattle.axis.specs.Locations.{axisLocation, locationIndex, uniformLocation};
+ghost use Rattle.axis.specs.Scaffolding.{locationFound};
 use crate::cells;
 use crate::exact;
 use crate::uniform;

@@ -5,7 +5,8 @@ ghost use Prim.Native.Nat.{_≤_};
 ghost use lib.ListN.{length};
 ghost use Rattle.axis.specs.Cells.{lowerIndex};
 ghost use Rattle.rust.specs.Utils.{lowerBy, upperBy};
-ghost use Rattle.axis.specs.Picks.{rustStep, nearestIndex, pickFound};
+ghost use Rattle.axis.specs.Picks.{nearestIndex};
+ghost use Rattle.axis.specs.Scaffolding.{rustStep, pickFound};
 use crate::cells;
 
 // Step's lower node: a reading on a node lies in the cell below it, so the node is one further up.

@@ -9,10 +9,11 @@ use lib.Ieee.{Float, nan}
 use Rattle.layout.specs.Layout.{tabulate}
 use Rattle.layout.proofs.Layouts.{getD-tabulate, tabulate-same}
 use Rattle.blend.specs.Blend.{blended, sliced, linear}
-use Rattle.rust.specs.Located.{view, lowers, diffs, corner, corners, passed, butterfly, rustLinear}
+use Rattle.rust.proofs.Located.{view, lowers, corner, corners, rustLinear}
+use Rattle.rust.specs.Scaffolding.{diffs, passed, butterfly}
 use Rattle.rust.proofs.Passes.{power-above, power-suc}
 use Rattle.rust.proofs.Linears.{length-lowers}
-use Rattle.blend.specs.Corners.{cornerAt}
+use Rattle.blend.specs.Scaffolding.{cornerAt}
 use Rattle.rust.specs.declared.AxisLocation.{AxisLocation}
 use Rattle.rust.specs.declared.AxisLocation.the-variants.{Exact, Between}
 

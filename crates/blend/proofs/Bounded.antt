@@ -22,11 +22,12 @@ use Rattle.rust.specs.declared.MaybeIndex.{MaybeIndex}
 use Rattle.rust.specs.declared.MaybeIndex.the-variants.{Some, None}
 use Rattle.axis.specs.Cells.{lowerIndex}
 use Rattle.axis.specs.Exact.{exactNode}
-use Rattle.axis.specs.Locations.{fraction, exactOr, axisLocation, upperOf}
+use Rattle.axis.specs.Locations.{fraction, exactOr, axisLocation}
+use Rattle.axis.specs.Scaffolding.{upperOf}
 use Rattle.axis.proofs.Laws.{fraction-unit}
 use Rattle.blend.specs.Blend.{one, blended, sliced, linear}
-use Rattle.rust.specs.Located.{diffs}
-use Rattle.blend.specs.Corners.{cornerAt}
+use Rattle.rust.specs.Scaffolding.{diffs}
+use Rattle.blend.specs.Scaffolding.{cornerAt}
 use Rattle.rust.proofs.Passes.{power-suc}
 use Rattle.blend.proofs.Bits.{low-corner, high-corner}
 

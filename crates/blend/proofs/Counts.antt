@@ -5,8 +5,8 @@ use Prim.Native.Nat.{ℕ, suc, _+_, _^_, _≤_, min}
 use native.Mathlib.Nat.{pow-le-pow-right}
 use native.Mathlib.Omega.{arith}
 use lib.ListN.{length}
-use Rattle.rust.specs.Located.{diffs}
-use Rattle.blend.specs.Corners.{moreCorners}
+use Rattle.rust.specs.Scaffolding.{diffs}
+use Rattle.blend.specs.Scaffolding.{moreCorners}
 use Rattle.rust.specs.declared.AxisLocation.{AxisLocation}
 use Rattle.rust.specs.declared.AxisLocation.the-variants.{Exact, Between}
 use Rattle.rust.proofs.Passes.{power-suc}

@@ -13,8 +13,8 @@ use lib.Ieee.Scale.{finite}
 use borrow.Author.Tests.{ltb-true, ltb-false}
 use Rattle.binary64.proofs.Finite.{add-finite, mul-finite}
 use Rattle.blend.specs.Blend.{one, blended, sliced, linear}
-use Rattle.rust.specs.Located.{diffs}
-use Rattle.blend.specs.Corners.{cornerAt}
+use Rattle.rust.specs.Scaffolding.{diffs}
+use Rattle.blend.specs.Scaffolding.{cornerAt}
 use Rattle.rust.specs.declared.AxisLocation.{AxisLocation}
 use Rattle.rust.specs.declared.AxisLocation.the-variants.{Exact, Between}
 use Rattle.rust.proofs.Passes.{power-suc}

@@ -1,4 +1,2 @@
 pub mod Blend
-pub mod Corners
-pub mod Folds
-pub mod Runs
+pub mod Scaffolding

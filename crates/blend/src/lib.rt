@@ -2,7 +2,7 @@
 ghost use mathlib.Core.Path.{_≡_};
 ghost use Prim.Native.Nat.{_+_, min};
 ghost use Rattle.blend.specs.Blend.{blended};
-ghost use Rattle.blend.specs.Corners.{moreCorners};
+ghost use Rattle.blend.specs.Scaffolding.{moreCorners};
 
 // The fold of the corners of a reading, and the answer that it gives.
 pub mod fold;

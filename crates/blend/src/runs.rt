@@ -1,6 +1,6 @@
 // Two runs of values blended, place by place: what a slice of the two linears writes, and 12 of it.
 ghost use mathlib.Core.Path.{_≡_};
-ghost use Rattle.blend.specs.Runs.{blends, blendedInto};
+ghost use Rattle.blend.specs.Scaffolding.{blends, blendedInto};
 ghost use Rattle.checks.specs.Numbers.{resultsFault};
 use answer::Fault;
 use checks::numbers;

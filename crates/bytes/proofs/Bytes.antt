@@ -8,7 +8,8 @@ use lib.Arith.{mod-mul}
 use lib.ListN.{length, take, drop, getD, drop-of-length-le, length-drop}
 use lib.Seq.{drop-cons}
 use Rattle.layout.proofs.Totals as totals
-use Rattle.bytes.specs.Words.{ofBytes, toBytes, wordAt, fourAt}
+use Rattle.bytes.specs.Words.{ofBytes, toBytes, wordAt}
+use Rattle.bytes.specs.Scaffolding.{fourAt}
 
 -- each is a byte
 abbrev pub Bytes : List ℕ → Type 0

@@ -2,7 +2,8 @@
 ghost use mathlib.Core.Path.{_≡_};
 ghost use Prim.Native.Nat.{_+_, _^_, _<_, _≤_, min};
 ghost use lib.ListN.{length};
-ghost use Rattle.bytes.specs.Words.{wordAt, fourAt, floatAt};
+ghost use Rattle.bytes.specs.Words.{wordAt, floatAt};
+ghost use Rattle.bytes.specs.Scaffolding.{fourAt};
 
 // A byte as a wider number.
 fn wide(x: u8) -> u64

@@ -2,4 +2,4 @@ pub mod Nodes
 pub mod Numbers
 pub mod Shapes
 pub mod Passed
-pub mod Table
+pub mod Scaffolding

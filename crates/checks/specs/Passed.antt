@@ -1,13 +1,11 @@
--- What is known of an axis and of a table that passed their checks.
+-- What is known of an axis that passed its checks.
 use mathlib.Core.Path.{_≡_}
 use mathlib.Core.Bool.{true}
-use mathlib.Core.List.{List, []}
+use mathlib.Core.List.{List}
 use Prim.Native.Nat.{ℕ, _+_, _≤_, _<_}
-use lib.ListN.{length, getD}
+use lib.ListN.{length}
 use lib.Ieee.{Float, lt}
 use lib.Ieee.Scale.{finite}
-use Rattle.layout.specs.Shape.{size, total}
-use Rattle.layout.specs.Layout.{axesOf}
 use Rattle.checks.specs.Nodes.{node, gap}
 
 -- what an axis is that passes 2, 4, 5 and 6; `axis-of` and `axis-fine` show that it is exactly that
@@ -17,10 +15,3 @@ pub record Axis (nodes : List Float) : Type 0 where
   pub finites : (i : ℕ) → i < length nodes → finite (node nodes i) ≡ true
   pub rises : (i : ℕ) → i + 1 < length nodes → lt (node nodes i) (node nodes (i + 1)) ≡ true
   pub gaps : (i : ℕ) → i + 1 < length nodes → finite (gap nodes i) ≡ true
-
--- what follows of passing 1 to 6 (`grid-of`)
-pub record Grid (counts : List ℕ) (nodes : List Float) : Type 0 where
-  pub few : length counts ≤ 4
-  pub flat : length nodes ≡ total counts
-  pub small : size counts ≤ 4096
-  pub axes : (a : ℕ) → a < length counts → Axis (getD (axesOf counts nodes) a [])

@@ -2,7 +2,8 @@
 ghost use mathlib.Core.Path.{_≡_};
 ghost use Prim.Native.Nat.{_≤_};
 ghost use Rattle.checks.specs.Numbers.{countsFault};
-ghost use Rattle.checks.specs.Shapes.{Few, sumsOf, shapeFault, sizesOf, frameFault};
+ghost use Rattle.checks.specs.Shapes.{shapeFault, frameFault};
+ghost use Rattle.checks.specs.Scaffolding.{Few, sumsOf, sizesOf};
 use crate::counts;
 use crate::lent;
 use answer::Fault;

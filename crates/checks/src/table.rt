@@ -3,7 +3,7 @@ ghost use mathlib.Core.Path.{_≡_};
 ghost use Prim.Native.Nat.{_≤_, min};
 ghost use Rattle.layout.specs.Shape.{countsOf};
 ghost use Rattle.checks.specs.Numbers.{axesFault, axesUniformFault, rangesFault};
-ghost use Rattle.checks.specs.Table.{End, axisRow, axesRow};
+ghost use Rattle.checks.specs.Scaffolding.{End, axisRow, axesRow};
 use crate::nodes;
 use crate::ranges;
 use crate::spacing;

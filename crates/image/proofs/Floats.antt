@@ -21,7 +21,7 @@ use Rattle.bytes.specs.Words.{floatAt}
 use Rattle.image.specs.Image.{floatsAt, nodesFrom, nodesIn, valuesIn}
 use Rattle.image.specs.Fields.{axesField, countField, offsetField, shapeOf}
 use Rattle.image.specs.Load.{contentsFault}
-use Rattle.image.specs.Parts.{Judged, Holds, Rooms, Filled}
+use Rattle.image.specs.Scaffolding.{ShapeJudged, Holds, Rooms, OutputsFilled}
 
 -- ---- a judged shape's nodes are few
 total-few : (cs : List ℕ) → ((a : ℕ) → a < length cs → getD cs a 0 ≤ 64) → total cs ≤ 64 * length cs
@@ -132,7 +132,7 @@ take-front zero m h l = refl
 take-front (suc n) zero h l = absurd (omega arith)
 take-front (suc n) (suc m) h l = ap (λ (r : List ℕ). h 0 ∷ r) (take-front n m (λ k. h (suc k)) (omega arith))
 
-module _ (img : List ℕ) (h : Judged img) where
+module _ (img : List ℕ) (h : ShapeJudged img) where
   pub axes-four : axesField img ≤ 4
   unfolding shapeOf
   axes-four = shape-four (shapeOf img) h
@@ -160,7 +160,7 @@ front-read xs out n e h = ap₂ (λ (k : ℕ) (l : List Float). take k l) e (set
 
 -- the nodes and the values that were read into two spaces, judged there
 pub fronts-judged : (img : List ℕ) (s : Shape) (held : Holding) (ns vs ns′ vs′ : List Float) → s ≡ shapeOf img → Holds img held → Rooms img (length ns) (length vs)
-    → Filled img ns vs ns′ vs′ → (axesFault (countsOf s) (take (held .nodes) ns′) or valuesFault (take (held .values) vs′)) ≡ contentsFault img
+    → OutputsFilled img ns vs ns′ vs′ → (axesFault (countsOf s) (take (held .nodes) ns′) or valuesFault (take (held .values) vs′)) ≡ contentsFault img
 unfolding contentsFault
 fronts-judged img s held ns vs ns′ vs′ e h r f =
     let en = nodes-total img (r .judged) in

@@ -19,7 +19,7 @@ use Rattle.layout.proofs.Layouts.{getD-tabulate}
 use Rattle.bytes.specs.Words.{wordAt}
 use Rattle.image.specs.Fields.{axesField, countField, shapeOf}
 use Rattle.image.specs.Head.{startFault, countRow, headFault}
-use Rattle.image.specs.Parts.{Judged}
+use Rattle.image.specs.Scaffolding.{ShapeJudged}
 use Rattle.image.proofs.Tests.{field-is, count-used, count-unused}
 
 pub shape-same : (img : List ℕ) (n a b c d : ℕ) → n ≡ axesField img → a ≡ countField img 0 → b ≡ countField img 1 → c ≡ countField img 2 → d ≡ countField img 3
@@ -52,7 +52,7 @@ module _ (img : List ℕ) where
           (ap good (orders.none-good (λ a. countFault a (getD (tabulate 4 (countField img)) a 0)) 0 (axesField img) each) ∙ orders.good-no-fault)
 
 -- where the whole header passes, so does its shape
-pub head-shape : (img : List ℕ) → good (headFault img) ≡ true → Judged img
+pub head-shape : (img : List ℕ) → good (headFault img) ≡ true → ShapeJudged img
 unfolding headFault
 head-shape img h =
     let h1 = orders.second-passed (startFault img) _ h in

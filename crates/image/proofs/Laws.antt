@@ -14,7 +14,7 @@ use Rattle.image.specs.Image.{nodesIn, valuesIn}
 use Rattle.image.specs.Fields.{shapeOf}
 use Rattle.image.specs.Load.{areasFault, roomsFault, contentsFault, loadFault, loadAnswer}
 use Rattle.image.specs.Head.{headFault}
-use Rattle.image.specs.Parts.{Judged}
+use Rattle.image.specs.Scaffolding.{ShapeJudged}
 use Rattle.image.proofs.Heads.{head-shape}
 
 -- every condition of the paper, in its order
@@ -47,7 +47,7 @@ module _ (img : List ℕ) (nodes values : ℕ) where
       }
 
   -- a loaded table's shape is a good one
-  pub loaded-shape : good (loadFault img nodes values) ≡ true → Judged img
+  pub loaded-shape : good (loadFault img nodes values) ≡ true → ShapeJudged img
   loaded-shape h = head-shape img (load-means h .head)
 
 -- loaded or not, the shape that is given has at most four axes

@@ -16,8 +16,8 @@ use Rattle.layout.specs.Shape.{countsOf, size, total, noShape}
 use Rattle.layout.specs.declared.Shape.{Shape}
 use Rattle.image.specs.Image.{nodesIn, valuesIn}
 use Rattle.image.specs.Fields.{shapeOf}
-use Rattle.image.specs.Load.{roomsFault, loadFault, loadAnswer, refusedLoad}
-use Rattle.image.specs.Parts.{Rooms}
+use Rattle.image.specs.Load.{roomsFault, loadFault, loadAnswer}
+use Rattle.image.specs.Scaffolding.{refusedLoad, Rooms}
 use Rattle.image.specs.declared.LoadAnswer.{LoadAnswer}
 use Rattle.image.proofs.Laws.{load-means, loaded-shape}
 use Rattle.image.proofs.Floats.{nodes-total, values-size, sets-front}

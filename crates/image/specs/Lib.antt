@@ -2,4 +2,4 @@ pub mod Image
 pub mod Load
 pub mod Fields
 pub mod Head
-pub mod Parts
+pub mod Scaffolding

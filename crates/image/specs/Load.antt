@@ -5,7 +5,7 @@ use Prim.Native.Nat.{ℕ}
 use lib.ListN.{length}
 use lib.Ieee.{Float}
 use Rattle.answer.specs.Faults.{_or_, firstOf, given, filledInto}
-use Rattle.answer.specs.Answer.{refused, fine, _then_}
+use Rattle.answer.specs.Answer.{fine, _then_}
 use Rattle.answer.specs.declared.Fault.{Fault}
 use Rattle.checks.specs.Numbers.{areaFault, roomFault, axesFault, valuesFault}
 use Rattle.layout.specs.Shape.{countsOf, size, total, noShape}
@@ -41,10 +41,6 @@ loadFault img nodes values = headFault img or areasFault img or roomsFault (shap
 unfoldable pub loadAnswer : List ℕ → ℕ → ℕ → LoadAnswer
 loadAnswer img nodes values =
     record { answer = loadFault img nodes values then fine; shape = given (loadFault img nodes values) (shapeOf img) noShape }
-
--- the answer of a fault, with no shape
-unfoldable pub refusedLoad : Fault → LoadAnswer
-refusedLoad fault = record { answer = refused fault; shape = noShape }
 
 -- what loading leaves: its answer, and both outputs, filled from their fronts or untouched
 pub record Loaded (img : List ℕ) (nodes values nodes′ values′ : List Float) (r : LoadAnswer) : Type 0 where

@@ -2,7 +2,7 @@
 ghost use mathlib.Core.Path.{_≡_};
 ghost use Rattle.image.specs.Fields.{shapeOf};
 ghost use Rattle.image.specs.Load.{areasFault, roomsFault};
-ghost use Rattle.image.specs.Parts.{Judged};
+ghost use Rattle.image.specs.Scaffolding.{ShapeJudged};
 use crate::fields;
 use crate::rows;
 use crate::rows::Rows;
@@ -11,7 +11,7 @@ use checks::lent;
 
 // 14: the axes' areas, then the values'.
 pub(crate) fn areas_fault(img: &[u8]) -> Fault
-    requires { ⌜ Judged (now img) ⌝ }
+    requires { ⌜ ShapeJudged (now img) ⌝ }
     ensures { λ r. ⌜ r ≡ areasFault (now (img .entry)) ⌝ }
 {
     let axes = fields::axes_of(img);
@@ -25,7 +25,7 @@ pub(crate) fn areas_fault(img: &[u8]) -> Fault
 
 // 15: an output that is too short.
 pub(crate) fn rooms_fault(img: &[u8], nodes: usize, values: usize) -> Fault
-    requires { ⌜ Judged (now img) ⌝ }
+    requires { ⌜ ShapeJudged (now img) ⌝ }
     ensures { λ r. ⌜ r ≡ roomsFault (shapeOf (now (img .entry))) nodes values ⌝ }
 {
     let held = fields::sizes_of(img);

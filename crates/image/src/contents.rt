@@ -4,14 +4,14 @@ ghost use lib.ListN.{length};
 ghost use lib.Seq.{sets};
 ghost use Rattle.image.specs.Image.{floatsAt, nodesIn};
 ghost use Rattle.image.specs.Load.{contentsFault};
-ghost use Rattle.image.specs.Parts.{Judged, Room, NodesRoom, Rooms, Filled};
+ghost use Rattle.image.specs.Scaffolding.{ShapeJudged, AreaRoom, NodesRoom, Rooms, OutputsFilled};
 use crate::fields;
 use answer::Fault;
 use orders::stages;
 
 // Reads so many floats into a part of an output.
 fn read_floats(img: &[u8], at: usize, out: &mut [f64], to: usize, count: usize)
-    requires { ⌜ Room at count to (length (now out)) ⌝ }
+    requires { ⌜ AreaRoom at count to (length (now out)) ⌝ }
     ensures { λ _. ⌜ now (out .exit) ≡ sets (now (out .entry)) to (floatsAt (now (img .entry)) at count) ⌝ }
 {
     let mut i: usize = 0;
@@ -42,7 +42,7 @@ fn read_nodes(img: &[u8], out: &mut [f64])
 // Reads the nodes and the values into the fronts of two outputs.
 pub(crate) fn read(img: &[u8], nodes: &mut [f64], values: &mut [f64])
     requires { ⌜ Rooms (now img) (length (now nodes)) (length (now values)) ⌝ }
-    ensures { λ _. ⌜ Filled (now (img .entry)) (now (nodes .entry)) (now (values .entry)) (now (nodes .exit)) (now (values .exit)) ⌝ }
+    ensures { λ _. ⌜ OutputsFilled (now (img .entry)) (now (nodes .entry)) (now (values .entry)) (now (nodes .exit)) (now (values .exit)) ⌝ }
 {
     read_nodes(img, nodes);
     let held = fields::sizes_of(img);
@@ -64,7 +64,7 @@ fn spaces_fault(img: &[u8], nodes: &mut [f64], values: &mut [f64]) -> Fault
 // The same in spaces of its own, so that nothing lent is written. They begin as ones: zeros would be laid by C's memset, which a board
 // need not have.
 pub(crate) fn contents_fault(img: &[u8]) -> Fault
-    requires { ⌜ Judged (now img) ⌝ }
+    requires { ⌜ ShapeJudged (now img) ⌝ }
     ensures { λ r. ⌜ r ≡ contentsFault (now (img .entry)) ⌝ }
 {
     let mut nodes = [1.0f64; 256];

@@ -3,7 +3,7 @@ ghost use mathlib.Core.Path.{_≡_};
 ghost use Prim.Native.Nat.{_^_, _≤_};
 ghost use Rattle.bytes.specs.Words.{wordAt};
 ghost use Rattle.image.specs.Fields.{axesField, countField, offsetField, valuesField, shapeOf};
-ghost use Rattle.image.specs.Parts.{Number, Judged, Holds};
+ghost use Rattle.image.specs.Scaffolding.{Number, ShapeJudged, Holds};
 use checks::shapes;
 use checks::shapes::Holding;
 use layout::Shape;
@@ -63,7 +63,7 @@ pub(crate) fn shape_of(img: &[u8]) -> Shape
 
 // How many nodes and values an image has whose shape is judged.
 pub(crate) fn sizes_of(img: &[u8]) -> Holding
-    requires { ⌜ Judged (now img) ⌝ }
+    requires { ⌜ ShapeJudged (now img) ⌝ }
     ensures { λ r. ⌜ Holds (now (img .entry)) r ⌝ }
 {
     shapes::sizes(shape_of(img))

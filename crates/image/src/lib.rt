@@ -1,6 +1,7 @@
 // The table image: a header of counts and offsets, then nodes and values as f64 bits, anywhere after it.
 ghost use mathlib.Core.Path.{_≡_};
-ghost use Rattle.image.specs.Load.{loadFault, refusedLoad, Loaded};
+ghost use Rattle.image.specs.Load.{loadFault, Loaded};
+ghost use Rattle.image.specs.Scaffolding.{refusedLoad};
 
 // where the areas lie, and the room that is lent for them
 pub(crate) mod areas;

@@ -5,7 +5,7 @@ ghost use Rattle.answer.specs.Faults.{firstOf};
 ghost use Rattle.checks.specs.Numbers.{fieldFault, shortFault, statedFault, areaFault};
 ghost use Rattle.image.specs.Head.{countRow, offsetRow};
 ghost use Rattle.image.specs.Load.{areaRow};
-ghost use Rattle.image.specs.Parts.{Area, rowOf};
+ghost use Rattle.image.specs.Scaffolding.{Area, rowOf};
 use crate::fields;
 use answer::Fault;
 use checks::counts;

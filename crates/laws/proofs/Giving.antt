@@ -23,7 +23,7 @@ use Rattle.checks.specs.Passed.{Axis}
 use Rattle.checks.proofs.table.Grids.{frame-shape}
 use Rattle.axis.specs.Locations.{axisLocation, uniformLocation}
 use Rattle.axis.proofs.cells.Axes.{climbs}
-use Rattle.rust.specs.Located.{rustLinear}
+use Rattle.rust.proofs.Located.{rustLinear}
 use Rattle.rust.specs.declared.AxisLocation.{AxisLocation}
 use Rattle.rust.specs.Strategies.{linearText, linearUniformText, nearestText, stepText}
 use Rattle.blend.proofs.Bits.{rust-linear}

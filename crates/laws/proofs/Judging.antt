@@ -25,7 +25,7 @@ use Rattle.rust.specs.declared.AxisLocation.{AxisLocation}
 use Rattle.ninterp.specs.Records.{recordSize, recordFault}
 use Rattle.slices.specs.Slices.{ruleSlice, sliceAnswer}
 use Rattle.slices.specs.LinearSlices.{alongFirst, linearValues, linearRest, linearSliceFault, linearUniformSliceFault}
-use Rattle.slices.specs.Ready.{Ready}
+use Rattle.slices.specs.Scaffolding.{Ready}
 use Rattle.slices.proofs.Sliced.{Fronted, nearest-fronted, nearest-ready, step-fronted, step-ready, step-lent, step-directions, linear-fronted, linear-ready, linear-first, uniform-linear, point-taken, point-range}
 use Rattle.slices.proofs.Refusals.{no-shape}
 use Rattle.slices.proofs.Alongs.{length-along}

@@ -31,7 +31,7 @@ use Rattle.checks.proofs.lists.Rows.{readings-finite}
 use Rattle.orders.specs.Orders.{lookupFault, stepFault, linearUniformFault}
 use Rattle.slices.specs.Slices.{shapeWithout}
 use Rattle.laws.specs.Lowered.{lowered, loweredFault}
-use Rattle.slices.specs.Ready.{Ready}
+use Rattle.slices.specs.Scaffolding.{Ready}
 use Rattle.slices.proofs.Sliced.{Fronted}
 use Rattle.laws.proofs.Lowered as low
 use Rattle.ninterp.proofs.Demands.{Accepted}

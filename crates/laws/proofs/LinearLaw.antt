@@ -25,9 +25,10 @@ use Rattle.layout.proofs.Removals.{indices-back, tabulate-insert, length-withou
 use Rattle.orders.specs.Orders.{linearFront, linearUniformFront, pointFault}
 use Rattle.blend.specs.Blend.{sliced, linear, computed}
 use Rattle.rust.specs.declared.AxisLocation.{AxisLocation}
-use Rattle.axis.specs.Locations.{axisLocation, uniformLocation, upperOf}
+use Rattle.axis.specs.Locations.{axisLocation, uniformLocation}
+use Rattle.axis.specs.Scaffolding.{upperOf}
 use Rattle.ninterp.specs.Linears.{locations, interpolated, linearAnswer, linearUniformAnswer}
-use Rattle.ninterp.specs.Locations.{Within}
+use Rattle.ninterp.specs.Scaffolding.{AllWithin}
 use Rattle.slices.specs.Slices.{shapeWithout}
 use Rattle.laws.specs.Lowered.{lowered}
 use Rattle.slices.specs.LinearSlices.{alongFirst, linearValues, linearRest, linearSliceFault, linearUniformSliceFault}
@@ -93,7 +94,7 @@ module _ (rule : List Float → Float → AxisLocation) (fits : (xs : List Float
         (λ a l m. ap₂ rule (sym (over.axis-above cut a l)) (getD-insert-above 0 a p ps nan l (omega arith)))
         ∙ ap (λ (m : ℕ). rule (axisOf s nodes 0) p ∷ tabulate m (λ a. rule (getD (axesOf left nodes') a []) (getD ps a nan))) (sym (length-axes left nodes'))
 
-    within-left : Within (locations rule (axesOf left nodes') ps) left
+    within-left : AllWithin (locations rule (axesOf left nodes') ps) left
     within-left =
         locations-within rule left nodes' ps (over.flat-left cut)
         (λ a l. fits (getD (axesOf left nodes') a []) (getD ps a nan) (over.axis-left cut a l) (g a (omega (arith, n, l))))

@@ -12,7 +12,8 @@ use Rattle.answer.proofs.Orders as orders
 use Rattle.binary64.proofs.Order as order
 use Rattle.binary64.proofs.Held.{Held}
 use Rattle.checks.specs.Nodes.{node}
-use Rattle.checks.specs.Passed.{Axis, Grid}
+use Rattle.checks.specs.Passed.{Axis}
+use Rattle.checks.specs.Scaffolding.{Grid}
 use Rattle.checks.specs.Numbers.{rangeFault, resultFault, resultsFault}
 use Rattle.checks.proofs.numbers.Rows.{result-fine}
 use Rattle.checks.proofs.ranges.Rows.{range-low, range-high}

@@ -18,7 +18,8 @@ use Rattle.answer.proofs.Orders as orders
 use Rattle.answer.proofs.Answers.{then-bad, refused-number}
 use Rattle.binary64.proofs.Order as order
 use Rattle.checks.specs.Nodes.{node}
-use Rattle.checks.specs.Passed.{Axis, Grid}
+use Rattle.checks.specs.Passed.{Axis}
+use Rattle.checks.specs.Scaffolding.{Grid}
 use Rattle.checks.specs.Shapes.{shapeFault}
 use Rattle.checks.specs.Numbers.{lengthFault, rangeFault, rangesFault, valueFault, valuesFault, directionFault, directionsFault, readingsFault, defaultFault, axesUniformFault}
 use Rattle.checks.proofs.lent.Rows.{direction-fine, length-same, length-passed}

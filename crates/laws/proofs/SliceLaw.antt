@@ -29,7 +29,7 @@ use Rattle.orders.specs.Orders.{nearestFront, stepFront, pointFault, nearestSli
 use Rattle.axis.specs.Picks.{nearestRule, stepRule}
 use Rattle.ninterp.specs.Tables.{indices, picked, nearestAnswer, stepAnswer}
 use Rattle.slices.specs.Slices.{shapeWithout, ruleSlice}
-use Rattle.slices.specs.Ready.{Ready}
+use Rattle.slices.specs.Scaffolding.{Ready}
 use Rattle.laws.specs.Lowered.{lowered}
 use Rattle.axis.proofs.picks.Picks.{step-fits, nearest-fits}
 use Rattle.ninterp.proofs.Picks.{list-inside}

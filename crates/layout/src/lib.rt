@@ -2,7 +2,8 @@
 // index lists and flat places (Layouts), one axis put in or left out (Removals), where each axis starts (Walks).
 ghost use mathlib.Core.Path.{_≡_};
 ghost use Prim.Native.Nat.{min};
-ghost use Rattle.layout.specs.Shape.{noShape, Four};
+ghost use Rattle.layout.specs.Shape.{noShape};
+ghost use Rattle.layout.specs.Scaffolding.{Four};
 
 // A lent shape: how many axes, and the count of nodes of each. Counts past the axes are not looked at.
 #[repr(C)]

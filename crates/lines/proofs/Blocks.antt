@@ -10,7 +10,8 @@ use lib.Dec.{ltb}
 use lib.ListN.{length, take, drop, length-append, length-drop}
 use lib.Seq.{drop-drop}
 use borrow.Author.Tests.{lt-ltb, le-ltb, ltb-true, ltb-false}
-use Rattle.lines.specs.Put.{put, Wrote}
+use Rattle.lines.specs.Put.{put}
+use Rattle.lines.specs.Scaffolding.{Wrote}
 use Rattle.lines.specs.Stream.{Rule, linesFirst, countOf, Block}
 use Rattle.lines.proofs.Puts.{then, wrote-none}
 

@@ -8,7 +8,8 @@ use native.Mathlib.Omega.{arith}
 use lib.Dec.{ltb}
 use lib.ListN.{length, set, length-append, length-set}
 use borrow.Author.Tests.{lt-ltb, le-ltb, ltb-true, ltb-false}
-use Rattle.lines.specs.Put.{put, Wrote}
+use Rattle.lines.specs.Put.{put}
+use Rattle.lines.specs.Scaffolding.{Wrote}
 use Rattle.lines.specs.Digit.{glyphOf, digits, places, decimal}
 use Rattle.lines.proofs.Puts.{put-none, put-last}
 

@@ -10,7 +10,8 @@ use lib.ListN.{length, take, drop, getD, set, length-append, length-take, length
 use lib.Seq.{take-suc, set-split, take-set-le, take-at, drop-at, length-take-le, drop-append-add, drop-drop}
 use borrow.Author.Tests.{le-leb}
 use lib.Dec.{leb}
-use Rattle.lines.specs.Put.{put, Wrote, roomFor, allInto}
+use Rattle.lines.specs.Put.{put, roomFor, allInto}
+use Rattle.lines.specs.Scaffolding.{Wrote}
 
 pub put-none : (d : List ℕ) (at : ℕ) → put d at [] ≡ d
 unfolding put

@@ -8,7 +8,8 @@ use native.Mathlib.Omega.{arith}
 use lib.ListN.{length, drop, length-append, length-drop}
 use lib.Seq.{take-append-le, drop-append-le}
 use borrow.Author.Tests.{lt-ltb, le-ltb}
-use Rattle.lines.specs.Stream.{Rule, linesFirst, linesOf, cutLine, Turned}
+use Rattle.lines.specs.Stream.{Rule, linesFirst, linesOf, cutLine}
+use Rattle.lines.specs.Scaffolding.{Turned}
 use Rattle.lines.proofs.Blocks.{drop-size}
 
 module _ (p : Rule) where

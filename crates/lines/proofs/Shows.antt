@@ -11,7 +11,8 @@ use borrow.Author.Tests.{le-leb, eq-eqb, ne-eqb}
 use Rattle.answer.specs.declared.Answer.{Answer}
 use Rattle.lines.specs.Digit.{decimal}
 use Rattle.lines.specs.Line.{okLine, noLine, lineOf, longest}
-use Rattle.lines.specs.Put.{Wrote, roomFor, lineInto, lineEnd}
+use Rattle.lines.specs.Put.{roomFor, lineInto, lineEnd}
+use Rattle.lines.specs.Scaffolding.{Wrote}
 use Rattle.lines.proofs.Digits.{digits-length, decimal-most}
 
 module _ (a : Answer) where

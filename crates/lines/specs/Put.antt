@@ -1,5 +1,4 @@
 -- Bytes put into a buffer.
-use mathlib.Core.Path.{_≡_}
 use mathlib.Core.Bool.{Bool, cond}
 use mathlib.Core.List.{List, _++_}
 use Prim.Native.Nat.{ℕ, _+_}
@@ -11,11 +10,6 @@ use Rattle.lines.specs.Line.{lineOf, longest}
 -- the buffer d with xs at a place, the rest as it was
 unfoldable pub put : List ℕ → ℕ → List ℕ → List ℕ
 put d at xs = take at d ++ (xs ++ drop (at + length xs) d)
-
--- xs was put at a place into the buffer d, which left it as e, and r is the place past it
-pub record Wrote (d : List ℕ) (at : ℕ) (xs e : List ℕ) (r : ℕ) : Type 0 where
-  pub bytes : e ≡ put d at xs
-  pub next : r ≡ at + length xs
 
 -- whether the buffer has n bytes at a place
 unfoldable pub roomFor : ℕ → List ℕ → ℕ → Bool

@@ -1,4 +1,4 @@
--- Lines that come of records: what is printed of an input, of a block of it, and turn by turn. Of any rule.
+-- Lines that come of records: what is printed of an input, and of a block of it. Of any rule.
 use mathlib.Core.Path.{_≡_}
 use mathlib.Core.Bool.{cond}
 use mathlib.Core.List.{List, [], _∷_, _++_}
@@ -48,10 +48,3 @@ pub record Block (p : Rule) (most : ℕ) (input d e : List ℕ) (count written :
   pub many : count ≡ countOf p most input (length d)
   pub long : written ≡ length (linesFirst p count input)
   pub bytes : e ≡ put d 0 (linesFirst p count input)
-
--- ---- turns
-
--- Of the bytes `held`, with `most` records to come, xs is printed and `rest` is left, with `left` records to come. Whatever
--- bytes come next, xs and then what is printed of the rest and them is what is printed of them all.
-pub record Turned (p : Rule) (most : ℕ) (held xs : List ℕ) (left : ℕ) (rest : List ℕ) : Type 0 where
-  pub right : (more : List ℕ) → linesOf p most (held ++ more) ≡ xs ++ linesOf p left (rest ++ more)

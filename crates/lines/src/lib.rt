@@ -5,7 +5,8 @@ ghost use lib.ListN.{length};
 ghost use lib.Dec.{leb};
 ghost use Rattle.lines.specs.Digit.{decimal};
 ghost use Rattle.lines.specs.Line.{okLine, noLine, longest};
-ghost use Rattle.lines.specs.Put.{Wrote, lineInto, lineEnd, allInto};
+ghost use Rattle.lines.specs.Put.{lineInto, lineEnd, allInto};
+ghost use Rattle.lines.specs.Scaffolding.{Wrote};
 
 pub(crate) mod text;
 

@@ -3,7 +3,7 @@ ghost use mathlib.Core.Path.{_≡_};
 ghost use mathlib.Core.List.{[], _∷_};
 ghost use Prim.Native.Nat.{_+_, _<_, _≤_};
 ghost use lib.ListN.{length};
-ghost use Rattle.lines.specs.Put.{Wrote};
+ghost use Rattle.lines.specs.Scaffolding.{Wrote};
 ghost use Rattle.lines.specs.Digit.{glyphOf, digits, places, decimal};
 
 pub(crate) fn put_byte(b: u8, out: &mut [u8], at: usize) -> usize

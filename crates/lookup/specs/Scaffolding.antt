@@ -5,7 +5,8 @@ use mathlib.Core.Logic.{_⊎_}
 use mathlib.Core.List.{List, _++_}
 use Prim.Native.Nat.{ℕ, _+_, _-_, _*_, _≤_, _<_}
 use lib.ListN.{length, take}
-use Rattle.lines.specs.Stream.{Rule, Turned}
+use Rattle.lines.specs.Stream.{Rule}
+use Rattle.lines.specs.Scaffolding.{Turned}
 use Rattle.lookup.specs.declared.feed.Next.{Next}
 
 -- the size of a record; a buffer that holds so many bytes and has room for a record, and an output with room for a line

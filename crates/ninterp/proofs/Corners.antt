@@ -16,19 +16,20 @@ use Rattle.layout.specs.Layout.{place, table, tabulate, Inside}
 use Rattle.layout.proofs.Totals.{ahead, past}
 use Rattle.layout.proofs.Layouts.{place-cons, place-none, size-cons, size-nil, place-below, getD-tabulate}
 use Rattle.blend.specs.Blend.{linear}
-use Rattle.rust.specs.Located.{diffs, butterfly}
-use Rattle.blend.specs.Corners.{cornerAt, moreCorners, cornerPlace}
+use Rattle.rust.specs.Scaffolding.{diffs, butterfly}
+use Rattle.blend.specs.Scaffolding.{cornerAt, moreCorners, cornerPlace}
 use Rattle.rust.specs.declared.AxisLocation.{AxisLocation}
 use Rattle.rust.specs.declared.AxisLocation.the-variants.{Exact, Between}
 use Rattle.rust.proofs.Passes.{power-suc, butterfly-same}
 use Rattle.blend.proofs.Bits.{low-corner, high-corner, fold-linear}
 use Rattle.blend.proofs.Counts.{few-diffs, few-corners, more-power}
-use Rattle.axis.specs.Locations.{locationIndex, upperOf}
+use Rattle.axis.specs.Locations.{locationIndex}
+use Rattle.axis.specs.Scaffolding.{upperOf}
 use Rattle.axis.proofs.Located.{lower-upper}
-use Rattle.ninterp.specs.Locations.{Within}
+use Rattle.ninterp.specs.Scaffolding.{AllWithin}
 
 -- ---- locations on their axes
-pub corner-inside : (ps : List AxisLocation) (cs : List ℕ) (m : ℕ) → Within ps cs → Inside (cornerAt ps m) cs
+pub corner-inside : (ps : List AxisLocation) (cs : List ℕ) (m : ℕ) → AllWithin ps cs → Inside (cornerAt ps m) cs
 corner-inside [] [] m w = tt
 corner-inside [] (c ∷ cs) m w = w
 corner-inside (p ∷ ps) [] m w = absurd w
@@ -37,7 +38,7 @@ corner-inside (Between lower frac ∷ ps) (c ∷ cs) m w =
     let b : m / 2 ^ length (diffs ps) % 2 < 2 = mod-lt (m / 2 ^ length (diffs ps)) (omega arith) in
     (omega (arith, w .0, b), corner-inside ps cs m (w .1))
 
-pub within-positive : (ps : List AxisLocation) (cs : List ℕ) → Within ps cs → 0 < size cs
+pub within-positive : (ps : List AxisLocation) (cs : List ℕ) → AllWithin ps cs → 0 < size cs
 within-positive [] [] w = omega (arith, size-nil)
 within-positive [] (c ∷ cs) w = absurd w
 within-positive (p ∷ ps) [] w = absurd w
@@ -47,7 +48,7 @@ within-positive (p ∷ ps) (c ∷ cs) w =
     let q : 1 * 1 ≤ c * size cs = mul-le-mul a b in
     omega (arith, size-cons c cs, q)
 
-pub within-drop : (d : ℕ) (ps : List AxisLocation) (cs : List ℕ) → Within ps cs → Within (drop d ps) (drop d cs)
+pub within-drop : (d : ℕ) (ps : List AxisLocation) (cs : List ℕ) → AllWithin ps cs → AllWithin (drop d ps) (drop d cs)
 within-drop zero ps cs w = w
 within-drop (suc d) [] [] w = tt
 within-drop (suc d) [] (c ∷ cs) w = absurd w
@@ -55,7 +56,7 @@ within-drop (suc d) (p ∷ ps) [] w = absurd w
 within-drop (suc d) (p ∷ ps) (c ∷ cs) w = within-drop d ps cs (w .1)
 
 -- the axes from one on have no more values than all
-pub suffix-small : (d : ℕ) (ps : List AxisLocation) (cs : List ℕ) → Within ps cs → size (drop d cs) ≤ size cs
+pub suffix-small : (d : ℕ) (ps : List AxisLocation) (cs : List ℕ) → AllWithin ps cs → size (drop d cs) ≤ size cs
 suffix-small zero ps cs w = omega arith
 suffix-small (suc d) [] [] w = omega arith
 suffix-small (suc d) [] (c ∷ cs) w = absurd w
@@ -67,7 +68,7 @@ suffix-small (suc d) (p ∷ ps) (c ∷ cs) w =
 -- ---- one axis more
 module _ (p : AxisLocation) (ps : List AxisLocation) (c : ℕ) (cs : List ℕ) where
   -- what its upper node adds to a place, and so its lower one, is small
-  module _ (w : Within (p ∷ ps) (c ∷ cs)) (small : size (c ∷ cs) ≤ 4096) where
+  module _ (w : AllWithin (p ∷ ps) (c ∷ cs)) (small : size (c ∷ cs) ≤ 4096) where
     pub upper-few : upperOf p ≤ 4096
     upper-few =
         let a : upperOf p ≤ c = omega (arith, w .0) in
@@ -222,7 +223,7 @@ module _ (v₀ v : List ℕ) (count low high i at : ℕ) (few : count + count �
 
 -- ---- the loop over the axes, from the last one on: what is at axis d - 1
 module _ (ls : List AxisLocation) (C : List ℕ) (n d : ℕ) (few : n ≤ 4) (longl : n ≤ length ls) (longc : n ≤ length C) (above : 1 < d) (most : d ≤ n)
-    (small : size (take n C) ≤ 4096) (w : Within (take n ls) (take n C)) where
+    (small : size (take n C) ≤ 4096) (w : AllWithin (take n ls) (take n C)) where
   again : d - 1 + 1 ≡ d
   again = omega arith
 
@@ -232,8 +233,8 @@ module _ (ls : List AxisLocation) (C : List ℕ) (n d : ℕ) (few : n ≤ 4) (lo
   open-c : drop (d - 1) (take n C) ≡ getD C (d - 1) 0 ∷ drop d (take n C)
   open-c = ahead C n (d - 1) 0 (omega arith) longc ∙ ap (λ (k : ℕ). getD C (d - 1) 0 ∷ drop k (take n C)) again
 
-  pub within-at : Within (getD ls (d - 1) (Exact 0) ∷ drop d (take n ls)) (getD C (d - 1) 0 ∷ drop d (take n C))
-  within-at = subst (λ (q : List ℕ). Within (getD ls (d - 1) (Exact 0) ∷ drop d (take n ls)) q) open-c (subst (λ (q : List AxisLocation). Within q (drop (d - 1) (take n C))) open-l (within-drop (d - 1) (take n ls) (take n C) w))
+  pub within-at : AllWithin (getD ls (d - 1) (Exact 0) ∷ drop d (take n ls)) (getD C (d - 1) 0 ∷ drop d (take n C))
+  within-at = subst (λ (q : List ℕ). AllWithin (getD ls (d - 1) (Exact 0) ∷ drop d (take n ls)) q) open-c (subst (λ (q : List AxisLocation). AllWithin q (drop (d - 1) (take n C))) open-l (within-drop (d - 1) (take n ls) (take n C) w))
 
   pub small-at : size (getD C (d - 1) 0 ∷ drop d (take n C)) ≤ 4096
   small-at = omega (arith, ap size open-c, suffix-small (d - 1) (take n ls) (take n C) w, small)
@@ -269,7 +270,7 @@ spread-none ls C n places e = rw (past ls n n (omega arith), past C n n (omega a
     only i b = let z : i ≡ 0 = omega arith in ap (λ (k : ℕ). getD places k 0) z ∙ e ∙ sym place-none
 
 -- ---- the first axis, under whose nodes the corners of the others lie
-module _ (ls : List AxisLocation) (C : List ℕ) (n : ℕ) (some : 1 ≤ n) (longl : n ≤ length ls) (longc : n ≤ length C) (w : Within (take n ls) (take n C)) where
+module _ (ls : List AxisLocation) (C : List ℕ) (n : ℕ) (some : 1 ≤ n) (longl : n ≤ length ls) (longc : n ≤ length C) (w : AllWithin (take n ls) (take n C)) where
   abbrev rest-l : List AxisLocation
   rest-l = drop 1 (take n ls)
 
@@ -282,8 +283,8 @@ module _ (ls : List AxisLocation) (C : List ℕ) (n : ℕ) (some : 1 ≤ n) (lon
   first-c : take n C ≡ getD C 0 0 ∷ rest-c
   first-c = ahead C n 0 0 some longc
 
-  within-first : Within (getD ls 0 (Exact 0) ∷ rest-l) (getD C 0 0 ∷ rest-c)
-  within-first = subst (λ (q : List ℕ). Within (getD ls 0 (Exact 0) ∷ rest-l) q) first-c (subst (λ (q : List AxisLocation). Within q (take n C)) first-l w)
+  within-first : AllWithin (getD ls 0 (Exact 0) ∷ rest-l) (getD C 0 0 ∷ rest-c)
+  within-first = subst (λ (q : List ℕ). AllWithin (getD ls 0 (Exact 0) ∷ rest-l) q) first-c (subst (λ (q : List AxisLocation). AllWithin q (take n C)) first-l w)
 
   pub first-few : size (take n C) ≤ 4096 → upperOf (getD ls 0 (Exact 0)) ≤ 4096
   first-few small = upper-few (getD ls 0 (Exact 0)) rest-l (getD C 0 0) rest-c within-first (omega (arith, ap size first-c, small))

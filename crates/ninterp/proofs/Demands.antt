@@ -29,7 +29,8 @@ use Rattle.checks.proofs.ranges.Rows.{range-inside}
 use Rattle.checks.proofs.table.Grids.{frame-axes, grid-of}
 use Rattle.orders.specs.Orders.{lookupFault, stepFault}
 use Rattle.ninterp.specs.Tables.{indices, picked, nearestAnswer, stepAnswer}
-use Rattle.axis.specs.Picks.{rustStep, nearestRule, stepRule}
+use Rattle.axis.specs.Picks.{nearestRule, stepRule}
+use Rattle.axis.specs.Scaffolding.{rustStep}
 use Rattle.binary64.proofs.Held.{Held}
 use Rattle.axis.proofs.picks.Nodes.{step-rust, nearest-on-node, step-on-node}
 

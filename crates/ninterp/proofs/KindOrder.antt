@@ -26,12 +26,12 @@ use Rattle.checks.proofs.table.Grids.{frame-shape}
 use Rattle.layout.proofs.Layouts.{length-tabulate, getD-tabulate}
 use Rattle.orders.specs.Orders.{lookupFault, stepFault, linearUniformFault}
 use Rattle.blend.specs.Blend.{computed}
-use Rattle.ninterp.specs.Tables.{picked, nearestAnswer, stepAnswer, Judged}
-use Rattle.axis.specs.Picks.{nearestRule, stepRule, pickRule}
+use Rattle.ninterp.specs.Tables.{picked, nearestAnswer, stepAnswer}
+use Rattle.ninterp.specs.Scaffolding.{LookupJudged, tableFault, kindFault, pickOf, fourOf, kindFound}
+use Rattle.axis.specs.Picks.{nearestRule, stepRule}
+use Rattle.axis.specs.Scaffolding.{pickRule, locationBy}
 use Rattle.ninterp.specs.Linears.{interpolated, linearAnswer, linearUniformAnswer}
-use Rattle.axis.specs.Locations.{locationBy}
 use Rattle.ninterp.specs.Records.{allOf, kindAnswer, recordReadings, recordFault, recordAnswer, recordSize}
-use Rattle.ninterp.specs.Kinds.{tableFault, kindFault, pickOf, fourOf, kindFound}
 use Rattle.ninterp.proofs.Located.{take-filled}
 use Rattle.ninterp.proofs.Lookups.{judged, four-at, picks-nearest, picks-step}
 
@@ -197,7 +197,7 @@ module _ (s : Shape) (nodes values readings : List Float) (read : length reading
     pub table-four : s .axes ≤ 4
     table-four = shape-four s (frame-shape s nodes values (orders.first-passed frame (axesFault (countsOf s) nodes or valuesFault values) table))
 
-    pub point-judged : good inside ≡ true → Judged s nodes values readings
+    pub point-judged : good inside ≡ true → LookupJudged s nodes values readings
     point-judged h =
         judged s nodes values readings (orders.first-passed frame (axesFault (countsOf s) nodes or valuesFault values) table) (orders.passed-no-fault (lengthFault 2 (s .axes) (length readings)) (length-same 2 (s .axes) (length readings) read))
         (orders.first-passed (axesFault (countsOf s) nodes) (valuesFault values) (orders.second-passed frame (axesFault (countsOf s) nodes or valuesFault values) table)) h

@@ -24,7 +24,7 @@ use Rattle.checks.proofs.values.Rows.{values-finite}
 use Rattle.checks.proofs.table.Grids.{frame-values, grid-of}
 use Rattle.orders.specs.Orders.{lookupFault, linearUniformFault}
 use Rattle.blend.specs.Blend.{linear, computed}
-use Rattle.rust.specs.Located.{rustLinear}
+use Rattle.rust.proofs.Located.{rustLinear}
 use Rattle.rust.specs.declared.AxisLocation.{AxisLocation}
 use Rattle.rust.specs.declared.AxisLocation.the-variants.{Exact}
 use Rattle.blend.proofs.Bits.{rust-linear}

@@ -9,21 +9,21 @@ use lib.Ieee.{Float, nan}
 use lib.Ieee.Scale.{finite}
 use Rattle.answer.specs.Answer.{answered}
 use Rattle.binary64.proofs.Held.{Held, held-none, held-take, held-drop}
-use Rattle.checks.specs.Passed.{Grid}
+use Rattle.checks.specs.Scaffolding.{Grid}
 use Rattle.checks.proofs.table.Grids.{grid-of}
 use Rattle.layout.specs.Shape.{countsOf}
 use Rattle.layout.specs.Layout.{axesOf, axisOf, place, table, Inside}
 use Rattle.layout.specs.declared.Shape.{Shape}
 use Rattle.layout.proofs.Walks.{length-axes}
-use Rattle.rust.specs.Located.{rustLinear}
-use Rattle.blend.specs.Corners.{cornerAt}
+use Rattle.rust.proofs.Located.{rustLinear}
+use Rattle.blend.specs.Scaffolding.{cornerAt}
 use Rattle.blend.proofs.Bits.{rust-linear}
 use Rattle.blend.proofs.Bounded.{Number, Fairs, location-fair, fairs-tabulate, linear-bounded}
 use Rattle.rust.specs.declared.AxisLocation.{AxisLocation}
 use Rattle.axis.specs.Locations.{axisLocation}
 use Rattle.axis.proofs.Located.{location-fits}
 use Rattle.ninterp.specs.Linears.{locations, linearAnswer}
-use Rattle.ninterp.specs.Locations.{Within}
+use Rattle.ninterp.specs.Scaffolding.{AllWithin}
 use Rattle.ninterp.proofs.Corners.{corner-inside}
 use Rattle.ninterp.proofs.Demands as demands
 use Rattle.ninterp.proofs.Demands.{Accepted, InRange}
@@ -57,7 +57,7 @@ module _ (s : Shape) (nodes values readings : List Float) (t : Accepted s nodes 
       let k : a < s .axes = below-axes a (omega (arith, length-axes (countsOf s) nodes, l)) in
       location-fair (axisOf s nodes a) (getD readings a nan) (demands.axis-at s nodes values readings t r a k) (r .finites a k) (held-axis (countsOf s) nodes kept a) (r .low a k) (r .high a k))
 
-  within : Within located (countsOf s)
+  within : AllWithin located (countsOf s)
   within =
       let g : Grid (countsOf s) nodes = grid-of s nodes values (t .frame) (t .axes) in
       locations-within axisLocation (countsOf s) nodes readings (g .flat)

@@ -14,11 +14,11 @@ use Rattle.rust.specs.declared.AxisLocation.{AxisLocation}
 use Rattle.rust.specs.declared.AxisLocation.the-variants.{Exact, Between}
 use Rattle.blend.specs.Blend.{blended, sliced, linear}
 use Rattle.ninterp.specs.Linears.{locations}
-use Rattle.axis.specs.Locations.{upperOf}
-use Rattle.ninterp.specs.Locations.{Within}
+use Rattle.axis.specs.Scaffolding.{upperOf}
+use Rattle.ninterp.specs.Scaffolding.{AllWithin}
 
 -- ---- on every axis
-within-tabulate : (ns : List ℕ) (n : ℕ) (f : ℕ → AxisLocation) → n ≡ length ns → ((a : ℕ) → a < n → upperOf (f a) < getD ns a 0) → Within (tabulate n f) ns
+within-tabulate : (ns : List ℕ) (n : ℕ) (f : ℕ → AxisLocation) → n ≡ length ns → ((a : ℕ) → a < n → upperOf (f a) < getD ns a 0) → AllWithin (tabulate n f) ns
 within-tabulate [] zero f e h = tt
 within-tabulate [] (suc n) f e h = absurd (omega arith)
 within-tabulate (c ∷ ns) zero f e h = absurd (omega arith)
@@ -31,7 +31,7 @@ module _ (rule : List Float → Float → AxisLocation) (counts : List ℕ) (nod
 
   pub locations-within : length nodes ≡ total counts
       → ((a : ℕ) → a < length counts → upperOf (rule (getD (axesOf counts nodes) a []) (getD readings a nan)) < length (getD (axesOf counts nodes) a []))
-      → Within (locations rule (axesOf counts nodes) readings) counts
+      → AllWithin (locations rule (axesOf counts nodes) readings) counts
   unfolding locations
   locations-within flat fits =
       within-tabulate counts (length (axesOf counts nodes)) (λ a. rule (getD (axesOf counts nodes) a []) (getD readings a nan)) (length-axes counts nodes)
@@ -44,7 +44,7 @@ sliced-same : (p : AxisLocation) (c : ℕ) (cs : List ℕ) (g h : List ℕ → F
 sliced-same (Exact node) c cs g h l e is w = e (node ∷ is) (l, w)
 sliced-same (Between lower frac) c cs g h l e is w = ap₂ (λ (x y : Float). blended x y frac) (e (lower ∷ is) (omega (arith, l), w)) (e ((lower + 1) ∷ is) (l, w))
 
-pub linear-same : (ps : List AxisLocation) (cs : List ℕ) (g h : List ℕ → Float) → Within ps cs → ((is : List ℕ) → Inside is cs → g is ≡ h is) → linear ps g ≡ linear ps h
+pub linear-same : (ps : List AxisLocation) (cs : List ℕ) (g h : List ℕ → Float) → AllWithin ps cs → ((is : List ℕ) → Inside is cs → g is ≡ h is) → linear ps g ≡ linear ps h
 linear-same [] [] g h w e = e [] tt
 linear-same [] (c ∷ cs) g h w e = absurd w
 linear-same (p ∷ ps) [] g h w e = absurd w

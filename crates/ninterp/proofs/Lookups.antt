@@ -22,10 +22,11 @@ use Rattle.checks.proofs.table.Grids.{frame-shape, frame-values, frame-axes, gr
 use Rattle.checks.proofs.lists.Rows.{readings-finite}
 use Rattle.axis.specs.Steps.{stepIndex}
 use Rattle.orders.specs.Orders.{lookupFault, stepFault, linearUniformFault}
-use Rattle.axis.specs.Picks.{nearestRule, stepRule, pickRule}
+use Rattle.axis.specs.Picks.{nearestRule, stepRule}
+use Rattle.axis.specs.Scaffolding.{pickRule}
 use Rattle.axis.proofs.picks.Picks.{is-step, is-nearest}
-use Rattle.ninterp.specs.Tables.{indices, picked, Judged}
-use Rattle.ninterp.specs.Kinds.{fourOf}
+use Rattle.ninterp.specs.Tables.{indices, picked}
+use Rattle.ninterp.specs.Scaffolding.{LookupJudged, fourOf}
 
 -- ---- a judged table and reading
 module _ (s : Shape) (nodes values readings : List Float) where
@@ -41,7 +42,7 @@ module _ (s : Shape) (nodes values readings : List Float) where
   abbrev point-part : Fault
   point-part = readingsFault readings or rangesFault (countsOf s) nodes readings
 
-  pub judged : good frame ≡ true → good reading ≡ true → good nodes-part ≡ true → good point-part ≡ true → Judged s nodes values readings
+  pub judged : good frame ≡ true → good reading ≡ true → good nodes-part ≡ true → good point-part ≡ true → LookupJudged s nodes values readings
   judged f r x p =
       let n : length readings ≡ s .axes = length-passed 2 (s .axes) (length readings) r in
       record {
@@ -54,7 +55,7 @@ module _ (s : Shape) (nodes values readings : List Float) where
         finites = λ a l. readings-finite readings (orders.first-passed (readingsFault readings) (rangesFault (countsOf s) nodes readings) p) a (omega arith);
       }
 
-  pub lookup-judged : good (lookupFault s nodes values readings) ≡ true → Judged s nodes values readings
+  pub lookup-judged : good (lookupFault s nodes values readings) ≡ true → LookupJudged s nodes values readings
   unfolding lookupFault
   lookup-judged h = judged (orders.first-passed frame (reading or after-reading) h) (orders.first-passed reading after-reading h1) (orders.first-passed nodes-part (valuesFault values or point-part) h2) (orders.second-passed (valuesFault values) point-part (orders.second-passed nodes-part (valuesFault values or point-part) h2))
     where
@@ -81,7 +82,7 @@ module _ (s : Shape) (nodes values readings : List Float) where
     u3 : good after-values ≡ true
     u3 = orders.second-passed (valuesFault values) after-values (orders.second-passed nodes-part (valuesFault values or after-values) u2)
 
-    pub linear-uniform-judged : Judged s nodes values readings
+    pub linear-uniform-judged : LookupJudged s nodes values readings
     unfolding linearUniformFault
     linear-uniform-judged =
         judged (orders.first-passed frame (reading or nodes-part or valuesFault values or after-values) h) (orders.first-passed reading (nodes-part or valuesFault values or after-values) u1)
@@ -111,7 +112,7 @@ module _ (s : Shape) (nodes values readings : List Float) where
     h4 : good tail ≡ true
     h4 = orders.second-passed (valuesFault values) tail (orders.second-passed nodes-part (valuesFault values or tail) h3)
 
-    pub step-judged : Judged s nodes values readings
+    pub step-judged : LookupJudged s nodes values readings
     unfolding stepFault
     step-judged =
         judged (orders.first-passed frame (reading or lent or after-lent) h) (orders.first-passed reading (lent or after-lent) h1) (orders.first-passed nodes-part (valuesFault values or tail) h3)

@@ -8,14 +8,15 @@ use lib.ListN.{length, take, drop, getD, length-take, length-drop}
 use lib.Seq.{length-take-le, getD-take}
 use lib.Ieee.{Float, nan}
 use lib.Ieee.Scale.{finite}
-use Rattle.checks.specs.Passed.{Axis, Grid}
+use Rattle.checks.specs.Passed.{Axis}
+use Rattle.checks.specs.Scaffolding.{Grid}
 use Rattle.layout.specs.Shape.{size, total}
 use Rattle.layout.specs.Layout.{axesOf, place, Inside}
 use Rattle.layout.proofs.Walks.{length-axes, Walk, walk-here, walk-axis, walk-on}
 use Rattle.layout.proofs.Layouts.{length-tabulate, getD-tabulate, place-below, place-step, place-fits, place-done, inside-tabulate}
 use Rattle.checks.proofs.table.Grids.{length-axis}
 use Rattle.ninterp.specs.Tables.{indices}
-use Rattle.axis.specs.Picks.{pickIndex, pickFound, pickRule}
+use Rattle.axis.specs.Scaffolding.{pickIndex, pickFound, pickRule}
 use Rattle.axis.proofs.picks.Picks.{pick-fits, pick-found}
 
 -- ---- the index list lies in the table, for any rule whose indexes are of their axes

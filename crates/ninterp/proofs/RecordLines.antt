@@ -12,7 +12,8 @@ use lib.Ieee.{Float}
 use Rattle.answer.specs.declared.Answer.{Answer}
 use Rattle.layout.specs.declared.Shape.{Shape}
 use Rattle.lines.specs.Line.{lineOf, longest}
-use Rattle.lines.specs.Put.{Wrote, lineInto, lineEnd}
+use Rattle.lines.specs.Put.{lineInto, lineEnd}
+use Rattle.lines.specs.Scaffolding.{Wrote}
 use Rattle.lines.specs.Stream.{Block}
 use Rattle.lines.proofs.Shows.{line-wrote}
 use Rattle.lines.proofs.Blocks.{Going, go-start, go-turn, go-done}

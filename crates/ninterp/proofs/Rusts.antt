@@ -14,12 +14,14 @@ use Rattle.layout.proofs.Walks.{length-axes}
 use Rattle.layout.proofs.Layouts.{tabulate-same}
 use Rattle.rust.specs.Utils.{locateAxis, locateStepIndex}
 use Rattle.rust.specs.Strategies.{zipped, linearText, linearUniformText, nearestAt, nearestText, stepText}
-use Rattle.rust.specs.Located.{rustLinear}
+use Rattle.rust.proofs.Located.{rustLinear}
 use Rattle.rust.specs.declared.AxisLocation.{AxisLocation}
 use Rattle.rust.proofs.Linears.{Fitting, uniformAt, linear-located, linear-uniform-located, zipped-tabulate, fitting}
-use Rattle.checks.specs.Passed.{Axis, Grid}
+use Rattle.checks.specs.Passed.{Axis}
+use Rattle.checks.specs.Scaffolding.{Grid}
 use Rattle.checks.proofs.table.Grids.{length-axis, grid-of}
-use Rattle.axis.specs.Locations.{axisLocation, uniformLocation, locationBy}
+use Rattle.axis.specs.Locations.{axisLocation, uniformLocation}
+use Rattle.axis.specs.Scaffolding.{locationBy}
 use Rattle.axis.specs.Picks.{nearestRule, stepRule}
 use Rattle.axis.proofs.Texts.{axis-text, step-index-text, nearest-index-text, uniform-axis-text}
 use Rattle.axis.proofs.Located.{location-fits}
@@ -27,7 +29,7 @@ use Rattle.axis.proofs.picks.Picks.{nearest-fits, step-fits}
 use Rattle.blend.proofs.Bits.{rust-linear}
 use Rattle.ninterp.specs.Tables.{indices, picked}
 use Rattle.ninterp.specs.Linears.{locations, interpolated}
-use Rattle.ninterp.specs.Locations.{Within}
+use Rattle.ninterp.specs.Scaffolding.{AllWithin}
 use Rattle.ninterp.proofs.Located.{locations-within, linear-same}
 use Rattle.ninterp.proofs.Picks.{list-inside}
 use Rattle.ninterp.proofs.Demands as demands
@@ -71,14 +73,14 @@ module _ (s : Shape) (nodes values readings : List Float) (t : Accepted s nodes 
       ∙ same-rule (λ a. locateAxis) (λ a. axisLocation) (λ a l. axis-text (axisOf s nodes a) (getD readings a nan) (good-axis a l) (r .finites a l)) (length (axesOf (countsOf s) nodes)) axes-count
 
   -- a rule that finds a location on each axis reads the table alone
-  read-within : (rule : List Float → Float → AxisLocation) → Within (locations rule (axesOf (countsOf s) nodes) readings) (countsOf s)
+  read-within : (rule : List Float → Float → AxisLocation) → AllWithin (locations rule (axesOf (countsOf s) nodes) readings) (countsOf s)
       → rustLinear (locations rule (axesOf (countsOf s) nodes) readings) g ≡ interpolated rule (countsOf s) nodes values readings
   unfolding interpolated
   read-within rule w =
       rust-linear (locations rule (axesOf (countsOf s) nodes) readings) g
       ∙ linear-same (locations rule (axesOf (countsOf s) nodes) readings) (countsOf s) g (table (countsOf s) values) w same
 
-  within : (uniform : Bool) → Within (locations (locationBy uniform) (axesOf (countsOf s) nodes) readings) (countsOf s)
+  within : (uniform : Bool) → AllWithin (locations (locationBy uniform) (axesOf (countsOf s) nodes) readings) (countsOf s)
   within uniform =
       locations-within (locationBy uniform) (countsOf s) nodes readings (grid .flat)
       (λ a l. location-fits (axisOf s nodes a) (getD readings a nan) (grid .axes a l) (r .finites a (omega (arith, counted, l))) uniform)

@@ -22,7 +22,8 @@ use Rattle.layout.specs.declared.Shape.{Shape}
 use Rattle.axis.specs.Uniform.{uniformIndex, uniformCell}
 use Rattle.axis.specs.Locations.{uniformLocation}
 use Rattle.blend.specs.Blend.{blended}
-use Rattle.rust.specs.Located.{rustLinear, corners, passed, butterfly}
+use Rattle.rust.proofs.Located.{rustLinear, corners}
+use Rattle.rust.specs.Scaffolding.{passed, butterfly}
 use Rattle.ninterp.specs.Linears.{locations, linearUniformAnswer}
 use Rattle.ninterp.proofs.Demands.{Accepted, InRange}
 use Rattle.ninterp.proofs.LinearDemands.{linear-uniform-refuses}

@@ -1,16 +1,12 @@
 -- "The table rules", of the two that never compute a value, and what a lookup by them answers for every input.
-use mathlib.Core.Path.{_≡_}
-use mathlib.Core.Bool.{true}
 use mathlib.Core.List.{List, []}
-use Prim.Native.Nat.{ℕ, _≤_, _<_}
+use Prim.Native.Nat.{ℕ}
 use lib.ListN.{length, getD}
 use lib.Ieee.{Float, nan}
-use lib.Ieee.Scale.{finite}
 use Rattle.answer.specs.Answer.{answered, _then_}
 use Rattle.answer.specs.declared.Answer.{Answer}
-use Rattle.layout.specs.Shape.{countsOf, size}
+use Rattle.layout.specs.Shape.{countsOf}
 use Rattle.layout.specs.Layout.{axesOf, table, tabulate}
-use Rattle.checks.specs.Passed.{Grid}
 use Rattle.layout.specs.declared.Shape.{Shape}
 use Rattle.orders.specs.Orders.{lookupFault, stepFault}
 use Rattle.axis.specs.Picks.{nearestRule, stepRule}
@@ -30,13 +26,3 @@ nearestAnswer s nodes values readings = lookupFault s nodes values readings then
 -- the lookup by Step: its checks, then the stored value at the step index of each axis
 unfoldable pub stepAnswer : Shape → List Float → List Float → List Float → List ℕ → Answer
 stepAnswer s nodes values readings directions = stepFault s nodes values readings directions then answered (picked (stepRule directions) (countsOf s) nodes values readings)
-
--- what follows of a table and a reading passing the checks before a lookup (`lookup-judged`)
-pub record Judged (s : Shape) (nodes values readings : List Float) : Type 0 where
-  pub grid : Grid (countsOf s) nodes
-  pub some : 1 ≤ s .axes
-  pub four : s .axes ≤ 4
-  pub count : length (countsOf s) ≡ s .axes
-  pub stored : length values ≡ size (countsOf s)
-  pub read : length readings ≡ s .axes
-  pub finites : (a : ℕ) → a < s .axes → finite (getD readings a nan) ≡ true

@@ -11,10 +11,8 @@ ghost use Rattle.checks.specs.Numbers.{lengthFault, readingsFault, rangesFault}
 ghost use Rattle.checks.specs.Shapes.{frameFault};
 ghost use Rattle.layout.specs.Layout.{tabulate};
 ghost use Rattle.bytes.specs.Words.{floatAt};
-ghost use Rattle.ninterp.specs.Tables.{Judged};
+ghost use Rattle.ninterp.specs.Scaffolding.{LookupJudged, Known, tableFault, kindFault, pickOf, kindFound};
 ghost use Rattle.ninterp.specs.Records.{recordSize, recordAnswer};
-ghost use Rattle.ninterp.specs.Kernels.{Known};
-ghost use Rattle.ninterp.specs.Kinds.{tableFault, kindFault, pickOf, kindFound};
 
 pub mod block;
 
@@ -76,7 +74,7 @@ fn pick_of(kind: u8) -> u8
 
 // What a known kind comes to where nothing was refused before 12.
 fn found(kind: u8, shape: Shape, nodes: &[f64], values: &[f64], point: &[f64]) -> Answer
-    requires { ⌜ Judged shape (now nodes) (now values) (now point) ⌝ }
+    requires { ⌜ LookupJudged shape (now nodes) (now values) (now point) ⌝ }
     ensures { λ r. ⌜ r ≡ kindFound kind shape (now (nodes .entry)) (now (values .entry)) (now (point .entry)) ⌝ }
 {
     if kind < 2 {

@@ -1,4 +1,3 @@
 pub mod Input
-pub mod Parts
 pub mod Run
-pub mod Turns
+pub mod Scaffolding

@@ -5,7 +5,7 @@ ghost use lib.ListN.{length};
 ghost use Rattle.lines.specs.Line.{lineOf, longest};
 ghost use Rattle.lines.specs.Stream.{linesFirst, linesOf, Block};
 ghost use Rattle.ninterp.specs.Records.{recordRule, recordSize};
-ghost use Rattle.program.specs.Parts.{Placed, Fronted, endOf, textOf};
+ghost use Rattle.program.specs.Scaffolding.{Placed, Fronted, endOf, textOf};
 ghost use Rattle.program.specs.Run.{mostRecords, runOf, Texted};
 use crate::input;
 use answer::Answer;

@@ -1,6 +1,6 @@
 // A turn of a program's buffer: what is left of its bytes once its records are answered is moved to its front.
 ghost use mathlib.Core.Path.{_≡_};
-ghost use Rattle.program.specs.Turns.{shifted};
+ghost use Rattle.program.specs.Scaffolding.{shifted};
 
 // Moves the n bytes at a place to the front, where they are all there.
 pub fn shift(buf: &mut [u8], from: usize, n: usize)

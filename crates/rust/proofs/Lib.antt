@@ -1,2 +1,3 @@
+pub mod Located
 pub mod Passes
 pub mod Linears

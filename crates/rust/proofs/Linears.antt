@@ -14,7 +14,8 @@ use Rattle.layout.specs.Layout.{tabulate, insert}
 use Rattle.layout.proofs.Layouts.{size-cons, size-nil, length-tabulate, tabulate-same}
 use Rattle.rust.specs.Utils.{at, fracOf, locateLowerIndex, exactIndex, matched, locateAxis}
 use Rattle.rust.specs.Strategies.{Reduced, removed, reducedAt, reduced, valsOf, butterflyFrom, blendedFrom, linearText, uniformLower, uniformDiff, zipped, linearUniformText}
-use Rattle.rust.specs.Located.{corner, corners, butterfly, view, lowers, diffs, rustLinear}
+use Rattle.rust.proofs.Located.{corner, corners, view, lowers, rustLinear}
+use Rattle.rust.specs.Scaffolding.{butterfly, diffs}
 use Rattle.rust.proofs.Passes.{blend-text}
 use Rattle.rust.specs.declared.MaybeIndex.{MaybeIndex}
 use Rattle.rust.specs.declared.MaybeIndex.the-variants.{Some, None}

@@ -12,7 +12,8 @@ use Rattle.layout.specs.Layout.{tabulate}
 use Rattle.layout.proofs.Layouts.{length-tabulate, tabulate-same, tabulate-step}
 use Rattle.rust.specs.Utils.{one}
 use Rattle.rust.specs.Strategies.{idxOf, valsOf, reducedBy, passedFrom, butterflyFrom}
-use Rattle.rust.specs.Located.{corner, corners, passed, butterfly}
+use Rattle.rust.proofs.Located.{corner, corners}
+use Rattle.rust.specs.Scaffolding.{passed, butterfly}
 
 -- ---- powers of two
 pub power-above : (k : ℕ) → 0 < 2 ^ k

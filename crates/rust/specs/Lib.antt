@@ -1,3 +1,3 @@
 pub mod Utils
 pub mod Strategies
-pub mod Located
+pub mod Scaffolding

@@ -1,5 +1,5 @@
 // The Rust's own text, as definitions, in specs/: strategy/utils.rs (Utils) and the four N-dimensional strategies of n/strategies.rs
-// (Strategies); the two linears once more over the locations of all axes (Located), which proofs/ shows to be the same. Here are the
+// (Strategies). proofs/ has the two linears once more, over the locations of all axes (Located), and shows them to be the same. Here are the
 // enums that the text and our code share.
 
 // An index, or none: the Rust's Option<usize>.

@@ -17,13 +17,14 @@ use Rattle.layout.specs.Layout.{place, table, tabulate, indicesAt, without, sli
 use Rattle.layout.specs.declared.Shape.{Shape}
 use Rattle.layout.proofs.Layouts.{length-tabulate, getD-tabulate, tabulate-same, size-cons, place-cons, place-below, indices-place, indices-inside}
 use Rattle.blend.specs.Blend.{blended, sliced}
-use Rattle.blend.specs.Runs.{blends, blendedInto}
+use Rattle.blend.specs.Scaffolding.{blends, blendedInto}
 use Rattle.checks.specs.Numbers.{resultsFault, resultFault}
 use Rattle.rust.specs.declared.AxisLocation.{AxisLocation}
 use Rattle.rust.specs.declared.AxisLocation.the-variants.{Exact, Between}
-use Rattle.axis.specs.Locations.{locationIndex, upperOf}
+use Rattle.axis.specs.Locations.{locationIndex}
+use Rattle.axis.specs.Scaffolding.{upperOf}
 use Rattle.slices.specs.LinearSlices.{alongFirst, linearValues}
-use Rattle.slices.specs.Ready.{Ready, Results, Runs, Neighbours, runValues, blendedRuns}
+use Rattle.slices.specs.Scaffolding.{Ready, Results, Runs, Neighbours, runValues, blendedRuns}
 use Rattle.slices.proofs.Slices.{few-values, slice-count, runs-there, runs-written}
 use Rattle.slices.proofs.Sliced.{written}
 

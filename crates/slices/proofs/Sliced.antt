@@ -25,9 +25,9 @@ use Rattle.layout.specs.declared.Shape.{Shape}
 use Rattle.orders.specs.Orders.{nearestFront, stepFront, linearFront, linearUniformFront, pointFault}
 use Rattle.orders.proofs.before_slice.Rows.{axis-many, axis-in, first-many, first-axis}
 use Rattle.rust.specs.declared.AxisLocation.{AxisLocation}
-use Rattle.slices.specs.Slices.{shapeWithout, sliceAnswer, refusedSlice}
+use Rattle.slices.specs.Slices.{shapeWithout, sliceAnswer}
+use Rattle.slices.specs.Scaffolding.{refusedSlice, Ready, Taken, JudgedOutput}
 use Rattle.slices.specs.LinearSlices.{linearRest}
-use Rattle.slices.specs.Ready.{Ready, Taken, Filled}
 use Rattle.slices.specs.declared.SliceAnswer.{SliceAnswer}
 
 -- ---- what each of the four fronts has passed
@@ -141,29 +141,29 @@ module _ (s : Shape) (nodes : List Float) (axis : ℕ) (p : Float) (room : ℕ) 
 
 -- ---- an output, where what was judged is r
 module _ (r f : Fault) (e : r ≡ f) (xs out : List Float) where
-  pub kept : (r .number ≡ 0 → ⊥) → Filled f xs out r out
+  pub kept : (r .number ≡ 0 → ⊥) → JudgedOutput f xs out r out
   unfolding filledInto
   kept h = record { judged = e; output = orders.given-refused r f e (xs ++ drop (length xs) out) out h }
 
-  pub written : r .number ≡ 0 → (n : ℕ) → n ≡ length xs → (after : List Float) → after ≡ xs ++ drop n out → Filled f xs out r after
+  pub written : r .number ≡ 0 → (n : ℕ) → n ≡ length xs → (after : List Float) → after ≡ xs ++ drop n out → JudgedOutput f xs out r after
   unfolding filledInto
   written h n l after q = record { judged = e; output = orders.given-kept r f e (xs ++ drop (length xs) out) out after h (q ∙ ap (λ (k : ℕ). xs ++ drop k out) l) }
 
 -- .. before the rest of the checks, which judge and write
 module _ (r f : Fault) (e : r ≡ f) (rest : Fault) (xs out : List Float) where
-  pub or-kept : (r .number ≡ 0 → ⊥) → Filled (f or rest) xs out r out
+  pub or-kept : (r .number ≡ 0 → ⊥) → JudgedOutput (f or rest) xs out r out
   or-kept h = kept r (f or rest) (orders.or-stops r f e rest h) xs out h
 
-  pub or-filled : r .number ≡ 0 → {q : Fault} {after : List Float} → Filled rest xs out q after → Filled (f or rest) xs out q after
+  pub or-filled : r .number ≡ 0 → {q : Fault} {after : List Float} → JudgedOutput rest xs out q after → JudgedOutput (f or rest) xs out q after
   or-filled h {q = q} w = let same = orders.or-goes-on r f e q rest h (w .judged) in record { judged = same; output = w .output ∙ ap (λ (g : Fault). filledInto g xs out) (orders.or-goes-on r f e rest rest h refl) }
 
 -- .. at the index that the rule takes, and on the axis that was asked for
-pub at-index : {f q : Fault} {out after : List Float} (axis i j : ℕ) (counts : List ℕ) (values : List Float) → i ≡ j → Filled f (sliceValues axis i counts values) out q after → Filled f (sliceValues axis j counts values) out q after
-at-index {f = f} {q = q} {out = out} {after = after} axis i j counts values e w = subst (λ (k : ℕ). Filled f (sliceValues axis k counts values) out q after) e w
+pub at-index : {f q : Fault} {out after : List Float} (axis i j : ℕ) (counts : List ℕ) (values : List Float) → i ≡ j → JudgedOutput f (sliceValues axis i counts values) out q after → JudgedOutput f (sliceValues axis j counts values) out q after
+at-index {f = f} {q = q} {out = out} {after = after} axis i j counts values e w = subst (λ (k : ℕ). JudgedOutput f (sliceValues axis k counts values) out q after) e w
 
 pub on-axis : {q : Fault} {xs out after : List Float} (rule : List Float → Float → AxisLocation) (s : Shape) (nodes values : List Float) (axis : ℕ) (p : Float) (room : ℕ) → axis ≡ 0
-    → Filled (linearRest rule s nodes values 0 p room) xs out q after → Filled (linearRest rule s nodes values axis p room) xs out q after
-on-axis {q = q} {xs = xs} {out = out} {after = after} rule s nodes values axis p room e w = subst (λ (k : ℕ). Filled (linearRest rule s nodes values k p room) xs out q after) (sym e) w
+    → JudgedOutput (linearRest rule s nodes values 0 p room) xs out q after → JudgedOutput (linearRest rule s nodes values axis p room) xs out q after
+on-axis {q = q} {xs = xs} {out = out} {after = after} rule s nodes values axis p room e w = subst (λ (k : ℕ). JudgedOutput (linearRest rule s nodes values k p room) xs out q after) (sym e) w
 
 -- ---- the answer of a slice, of what was judged
 module _ (s : Shape) (axis : ℕ) (f : Fault) where
@@ -177,5 +177,5 @@ module _ (s : Shape) (axis : ℕ) (f : Fault) where
   answer-made h a z p q = ap₂ (λ (b : Answer) (x : Shape). record { answer = b; shape = x }) (then-goes-on f f refl a fine h p) (orders.given-kept f f refl (shapeWithout s axis) noShape z h q)
 
   -- .. and the output with it
-  pub sliced : {r : Fault} {xs out after : List Float} → Filled f xs out r after → (a : SliceAnswer) → a ≡ sliceAnswer r s axis → (a ≡ sliceAnswer f s axis) × (after ≡ filledInto f xs out)
+  pub sliced : {r : Fault} {xs out after : List Float} → JudgedOutput f xs out r after → (a : SliceAnswer) → a ≡ sliceAnswer r s axis → (a ≡ sliceAnswer f s axis) × (after ≡ filledInto f xs out)
   sliced w a e = (e ∙ ap (λ (g : Fault). sliceAnswer g s axis) (w .judged), w .output)

@@ -18,7 +18,7 @@ use Rattle.layout.specs.declared.Shape.{Shape}
 use Rattle.checks.proofs.table.Grids.{length-axis}
 use Rattle.layout.proofs.Layouts.{radix, radix-div, radix-mod, size-suffix, size-cons, size-nil, tabulate-same}
 use Rattle.layout.proofs.Removals.{getD-without, getD-without-below, size-split, size-without, source}
-use Rattle.slices.specs.Ready.{Ready, Runs, runPlace, runValues}
+use Rattle.slices.specs.Scaffolding.{Ready, Runs, runPlace, runValues}
 
 -- ---- the counts of what is left
 past-list : (l : List ℕ) (i : ℕ) → length l ≤ i → getD l i 0 ≡ 0

@@ -1,3 +1,3 @@
 pub mod Slices
 pub mod LinearSlices
-pub mod Ready
+pub mod Scaffolding

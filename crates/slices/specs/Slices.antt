@@ -4,7 +4,7 @@ use Prim.Native.Nat.{ℕ, _-_}
 use lib.ListN.{length, getD}
 use lib.Ieee.{Float}
 use Rattle.answer.specs.Faults.{given, filledInto}
-use Rattle.answer.specs.Answer.{refused, fine, _then_}
+use Rattle.answer.specs.Answer.{fine, _then_}
 use Rattle.answer.specs.declared.Fault.{Fault}
 use Rattle.layout.specs.Shape.{countsOf, noShape}
 use Rattle.layout.specs.Layout.{tabulate, without, sliceValues, axisOf}
@@ -20,10 +20,6 @@ shapeWithout s axis = record { axes = s .axes - 1; counts = tabulate 4 (λ a. ge
 -- what a slice answers: its fault, or success and the new shape; "any .. shape it would give is zero" on a refusal
 unfoldable pub sliceAnswer : Fault → Shape → ℕ → SliceAnswer
 sliceAnswer f s axis = record { answer = f then fine; shape = given f (shapeWithout s axis) noShape }
-
--- the same of a fault that is known to be one
-unfoldable pub refusedSlice : Fault → SliceAnswer
-refusedSlice f = record { answer = refused f; shape = noShape }
 
 -- "Each of its values is what the same rule gives along that axis alone."
 unfoldable pub ruleSlice : (ℕ → List Float → Float → ℕ) → Shape → List Float → List Float → ℕ → Float → List Float

@@ -4,10 +4,10 @@ ghost use mathlib.Core.List.{_++_};
 ghost use lib.ListN.{length, drop};
 ghost use Rattle.layout.specs.Shape.{countsOf, size};
 ghost use Rattle.layout.specs.Layout.{without};
-ghost use Rattle.axis.specs.Locations.{locationBy};
+ghost use Rattle.axis.specs.Scaffolding.{locationBy};
 ghost use Rattle.orders.specs.Orders.{pointFault};
 ghost use Rattle.slices.specs.LinearSlices.{linearValues, linearRest};
-ghost use Rattle.slices.specs.Ready.{Ready, Taken, Filled, Results, pickSlice};
+ghost use Rattle.slices.specs.Scaffolding.{Ready, Taken, JudgedOutput, Results, pickSlice};
 use crate::remaining;
 use crate::written;
 use answer::Fault;
@@ -55,7 +55,7 @@ pub(crate) fn pick_judged(
 ) -> Fault
     requires { ⌜ Ready shape (now nodes) (now values) axis ⌝ }
     ensures { λ r. ⌜
-        Filled (pointFault shape (now (nodes .entry)) axis point (length (now (out .entry))))
+        JudgedOutput (pointFault shape (now (nodes .entry)) axis point (length (now (out .entry))))
         (pickSlice pick shape (now (nodes .entry)) (now (values .entry)) axis point)
         (now (out .entry)) r (now (out .exit))
         ⌝ }
@@ -107,7 +107,7 @@ pub(crate) fn linear_judged(
 ) -> Fault
     requires { ⌜ Ready shape (now nodes) (now values) 0 ⌝ }
     ensures { λ r. ⌜
-        Filled (linearRest (locationBy uniform) shape (now (nodes .entry)) (now (values .entry)) 0 point (length (now (out .entry))))
+        JudgedOutput (linearRest (locationBy uniform) shape (now (nodes .entry)) (now (values .entry)) 0 point (length (now (out .entry))))
         (linearValues (locationBy uniform) shape (now (nodes .entry)) (now (values .entry)) point)
         (now (out .entry)) r (now (out .exit))
         ⌝ }

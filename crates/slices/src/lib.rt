@@ -2,7 +2,8 @@
 ghost use mathlib.Core.Path.{_≡_};
 ghost use Prim.Native.Nat.{_≤_};
 ghost use lib.ListN.{length};
-ghost use Rattle.slices.specs.Slices.{sliceAnswer, refusedSlice, nearestSlice, nearestSliced, stepSlice, stepSliced};
+ghost use Rattle.slices.specs.Slices.{sliceAnswer, nearestSlice, nearestSliced, stepSlice, stepSliced};
+ghost use Rattle.slices.specs.Scaffolding.{refusedSlice};
 ghost use Rattle.slices.specs.LinearSlices.{linearSlice, linearSliced, linearUniformSlice, linearUniformSliced};
 
 pub(crate) mod judged;

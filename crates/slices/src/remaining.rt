@@ -7,7 +7,7 @@ ghost use lib.ListN.{take, drop, getD};
 ghost use Rattle.layout.specs.Shape.{countsOf, size, total};
 ghost use Rattle.layout.specs.Layout.{without};
 ghost use Rattle.slices.specs.Slices.{shapeWithout};
-ghost use Rattle.slices.specs.Ready.{Ready};
+ghost use Rattle.slices.specs.Scaffolding.{Ready};
 ghost use Rattle.orders.specs.Orders.{pointFault};
 use answer::Fault;
 use checks::lent;

@@ -5,7 +5,7 @@ ghost use mathlib.Core.List.{_++_};
 ghost use Prim.Native.Nat.{_+_, _<_, _≤_};
 ghost use lib.Dec.{eqb};
 ghost use lib.ListN.{length, drop};
-ghost use Rattle.slices.specs.Ready.{Results, Runs, Neighbours, runValues, blendedRuns};
+ghost use Rattle.slices.specs.Scaffolding.{Results, Runs, Neighbours, runValues, blendedRuns};
 use answer::Fault;
 use blend::runs;
 

@@ -1,6 +1,6 @@
 // The outputs of the loader and the writer: each place is marked before a call, and all places are summed after it.
 ghost use Prim.Native.Nat.{_<_};
-ghost use Rattle.test_damaged.specs.Sums.{Next};
+ghost use Rattle.test_damaged.specs.Scaffolding.{Next};
 
 // How many places the outputs of the loader have at most.
 pub(crate) const MOST_NODES: usize = 512;

@@ -9,7 +9,7 @@ mod tables;
 ghost use mathlib.Core.Path.{_≡_};
 ghost use Prim.Native.Nat.{_≤_};
 ghost use lib.ListN.{length};
-ghost use Rattle.test_replay.specs.Room.{Room};
+ghost use Rattle.test_replay.specs.Scaffolding.{HoldsTable};
 use layout::Shape;
 use list::Header;
 use tables::Table;
@@ -22,9 +22,9 @@ struct Lent {
 }
 
 fn lend_axis(call: Header, floats: &mut [f64], table: Table) -> Lent
-    requires { ⌜ Room table (now floats) ⌝ }
+    requires { ⌜ HoldsTable table (now floats) ⌝ }
     ensures { λ r. ⌜ r .count ≤ 128 ⌝ }
-    ensures { λ r. ⌜ Room (r .table) (now (floats .exit)) ⌝ }
+    ensures { λ r. ⌜ HoldsTable (r .table) (now (floats .exit)) ⌝ }
 {
     let count = call.a as usize;
     if count > calls::MOST_NODES {
@@ -45,7 +45,7 @@ fn lend_axis(call: Header, floats: &mut [f64], table: Table) -> Lent
 fn lend_table(call: Header, count: usize, floats: &mut [f64]) -> Lent
     requires { ⌜ 128 ≤ length (now floats) ⌝ }
     ensures { λ r. ⌜ r .count ≡ count ⌝ }
-    ensures { λ r. ⌜ Room (r .table) (now (floats .exit)) ⌝ }
+    ensures { λ r. ⌜ HoldsTable (r .table) (now (floats .exit)) ⌝ }
 {
     let table = tables::of_header(call);
     let size = table.nodes + table.values;
@@ -67,9 +67,9 @@ fn lend_table(call: Header, count: usize, floats: &mut [f64]) -> Lent
 // Reads what a record lends, where it lends.
 fn lend(call: Header, floats: &mut [f64], lent: Lent) -> Lent
     requires { ⌜ lent .count ≤ 128 ⌝ }
-    requires { ⌜ Room (lent .table) (now floats) ⌝ }
+    requires { ⌜ HoldsTable (lent .table) (now floats) ⌝ }
     ensures { λ r. ⌜ r .count ≤ 128 ⌝ }
-    ensures { λ r. ⌜ Room (r .table) (now (floats .exit)) ⌝ }
+    ensures { λ r. ⌜ HoldsTable (r .table) (now (floats .exit)) ⌝ }
 {
     let op = call.op;
     match op {
@@ -100,7 +100,7 @@ fn say_by_rule(call: Header, shape: Shape, nodes: &[f64], values: &[f64]) -> boo
 
 // Says what a call answers by the nodes and the values of the table.
 fn say_by_table(call: Header, table: Table, floats: &[f64]) -> bool
-    requires { ⌜ Room table (now floats) ⌝ }
+    requires { ⌜ HoldsTable table (now floats) ⌝ }
 {
     let from = calls::MOST_NODES + table.nodes;
     let to = from + table.values;
@@ -115,7 +115,7 @@ fn say_by_table(call: Header, table: Table, floats: &[f64]) -> bool
 // Says what a record has to say, and tells whether to go on.
 fn say(call: Header, lent: Lent, floats: &[f64]) -> bool
     requires { ⌜ lent .count ≤ 128 ⌝ }
-    requires { ⌜ Room (lent .table) (now floats) ⌝ }
+    requires { ⌜ HoldsTable (lent .table) (now floats) ⌝ }
 {
     let op = call.op;
     match op {

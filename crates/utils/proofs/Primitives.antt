@@ -15,14 +15,15 @@ use Rattle.checks.specs.Numbers.{directionFault, readingFault, resultFault}
 use Rattle.checks.proofs.nodes.Rows.{axis-of}
 use Rattle.checks.proofs.numbers.Rows.{reading-finite}
 use Rattle.checks.proofs.lent.Rows.{direction-passed}
-use Rattle.axis.specs.Locations.{axisLocation, locationFound}
+use Rattle.axis.specs.Locations.{axisLocation}
+use Rattle.axis.specs.Scaffolding.{locationFound, pickFound}
 use Rattle.axis.specs.Steps.{stepIndex}
-use Rattle.axis.specs.Picks.{pickFound}
 use Rattle.rust.specs.declared.AxisLocation.{AxisLocation}
 use Rattle.axis.proofs.Located.{location-found}
 use Rattle.axis.proofs.picks.Picks.{step-found}
 use Rattle.rust.specs.declared.MaybeIndex.{MaybeIndex}
-use Rattle.utils.specs.Calls.{Readable, locationFraction, axisReadingFault, locateFault, directedFault}
+use Rattle.utils.specs.Calls.{locationFraction, axisReadingFault, locateFault, directedFault}
+use Rattle.utils.specs.Scaffolding.{ReadableAxis}
 use Rattle.utils.specs.declared.IndexAnswer.{IndexAnswer}
 use Rattle.utils.specs.declared.ExactAnswer.{ExactAnswer}
 use Rattle.utils.specs.declared.AxisAnswer.{AxisAnswer}
@@ -47,7 +48,7 @@ module _ {A R : Type 0} (make : Answer → A → R) (r f : Fault) (e : r ≡ f) 
 
 -- ---- what is known where the checks were passed
 module _ (nodes : List Float) (p : Float) where
-  pub readable : good (axisReadingFault nodes p) ≡ true → Readable nodes p
+  pub readable : good (axisReadingFault nodes p) ≡ true → ReadableAxis nodes p
   unfolding axisReadingFault
   readable h = record {
     axis = axis-of nodes (orders.first-passed (axisFault nodes) (readingFault 0 p) h);

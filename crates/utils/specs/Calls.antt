@@ -1,20 +1,17 @@
 -- What each of the seven primitives answers, for every input: "The axis rules (utils.rs)", with the checks in front. "Primitives on one axis use 2, 4, 5, 6,
 -- 9 (`locate_step_index`), 10 in that order (4, 5, 6 node by node as above), axis 0, and give clamped answers outside the range, never 11".
-use mathlib.Core.Path.{_≡_}
-use mathlib.Core.Bool.{true, not}
+use mathlib.Core.Bool.{not}
 use mathlib.Core.List.{List}
 use Prim.Native.Nat.{ℕ, _-_}
 use lib.Dec.{ltb}
 use lib.ListN.{length}
 use lib.Ieee.{Float}
-use lib.Ieee.Scale.{finite}
 use Rattle.answer.specs.Faults.{refusal, noFault, when, _or_, given}
 use Rattle.answer.specs.Answer.{plusZero, fine, _then_}
 use Rattle.answer.specs.declared.Fault.{Fault}
 use Rattle.answer.specs.declared.Answer.{Answer}
 use Rattle.checks.specs.Numbers.{countFault, finiteFault, uniformFault, defaultTolerance, lentStepFault, toleranceFault, directionFault, readingFault, resultFault}
 use Rattle.checks.specs.Shapes.{axisFault}
-use Rattle.checks.specs.Passed.{Axis}
 use Rattle.axis.specs.Cells.{lowerIndex}
 use Rattle.axis.specs.Exact.{exactNode}
 use Rattle.axis.specs.Locations.{axisLocation}
@@ -55,11 +52,6 @@ axisReadingFault nodes p = axisFault nodes or readingFault 0 p
 
 unfoldable pub locateLowerIndex : List Float → Float → IndexAnswer
 locateLowerIndex nodes p = indexAnswer (axisReadingFault nodes p) (lowerIndex nodes p)
-
--- what is known of an axis and a reading that passed them
-pub record Readable (nodes : List Float) (p : Float) : Type 0 where
-  pub axis : Axis nodes
-  pub reading : finite p ≡ true
 
 -- ---- `exact_index`: "also answers 2, place 1, after 6, when the lent lower index is not below the count less 1"
 unfoldable pub lowerFault : List Float → ℕ → Fault

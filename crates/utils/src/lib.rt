@@ -4,8 +4,8 @@ ghost use mathlib.Core.Path.{_≡_};
 ghost use Rattle.answer.specs.Answer.{fine, refused};
 ghost use Rattle.rust.specs.declared.AxisLocation.the-variants.{Exact};
 ghost use Rattle.axis.specs.Cells.{lowerIndex};
-ghost use Rattle.utils.specs.Calls.{Readable, locateLowerIndex, exactIndex, locateAxis, locateStepIndex};
-ghost use Rattle.utils.specs.Calls.{locateLowerIndexUniform, validateUniformGrid, validateUniformGridEpsilon};
+ghost use Rattle.utils.specs.Calls.{locateLowerIndex, exactIndex, locateAxis, locateStepIndex, locateLowerIndexUniform, validateUniformGrid, validateUniformGridEpsilon};
+ghost use Rattle.utils.specs.Scaffolding.{ReadableAxis};
 use answer::Answer;
 use answer::Fault;
 use axis::exact;
@@ -74,7 +74,7 @@ fn location_refused(fault: Fault) -> AxisAnswer
 
 // The lower node of the cell that a reading lies in; of the first or the last cell for a reading outside.
 fn lower_index(grid: &[f64], point: f64) -> usize
-    requires { ⌜ Readable (now grid) point ⌝ }
+    requires { ⌜ ReadableAxis (now grid) point ⌝ }
     ensures { λ r. ⌜ r ≡ lowerIndex (now (grid .entry)) point ⌝ }
 {
     let n = grid.len();

@@ -17,7 +17,7 @@ use Rattle.checks.proofs.shapes.Frames.{shape-four, shape-few, shape-size}
 use Rattle.layout.proofs.Layouts.{getD-tabulate, length-tabulate}
 use Rattle.image.proofs.Floats.{total-small}
 use Rattle.writer.specs.Made.{axisAt, valuesAt, imageLength, countIn, offsetIn, headerFields}
-use Rattle.writer.specs.Fields.{pairs, widths}
+use Rattle.writer.specs.Scaffolding.{pairs, widths}
 use Rattle.writer.specs.Write.{plain}
 
 -- the nodes before an axis, and its own

@@ -17,7 +17,8 @@ use Rattle.image.specs.Image.{floatsAt, nodesFrom, nodesIn, valuesIn}
 use Rattle.image.specs.Fields.{axesField, countField, offsetField, valuesField, shapeOf}
 use Rattle.bytes.specs.Words.{wordAt}
 use Rattle.writer.specs.Made.{axisAt, valuesAt, imageLength, countIn, offsetIn, headerFields, fieldBytes, floatBytes, imageOf}
-use Rattle.writer.specs.Write.{Framed, plain}
+use Rattle.writer.specs.Write.{plain}
+use Rattle.writer.specs.Scaffolding.{Framed}
 use Rattle.writer.proofs.Headers.{count-in, next-at, length-small, at-before, values-before, count-in-few}
 use Rattle.writer.proofs.Images.{length-header, length-floats}
 use Rattle.binary64.proofs.Held.{Held}

@@ -11,7 +11,7 @@ use Rattle.bytes.specs.Words.{toBytes}
 use Rattle.bytes.proofs.Bytes.{length-bytes}
 use Rattle.image.proofs.Floats.{sets-append}
 use Rattle.writer.specs.Made.{fieldBytes, floatBytes}
-use Rattle.writer.specs.Fields.{sum, pairs}
+use Rattle.writer.specs.Scaffolding.{sum, pairs}
 
 -- ---- a word, byte by byte
 pub put-start : (s : List ℕ) (at n x : ℕ) → sets s (at + 0) (toBytes (n - 0) x) ≡ sets s at (toBytes n x)

@@ -35,7 +35,8 @@ use Rattle.image.proofs.Heads.{unused-zero}
 use Rattle.image.proofs.Laws.{Loadable, load-means, loaded-shape}
 use Rattle.image.proofs.Tests.{field-right, short-right, stated-right, area-right, count-used, count-unused}
 use Rattle.writer.specs.Made.{axisAt, imageLength, countIn, imageOf}
-use Rattle.writer.specs.Write.{writeFault, writeAnswer, Framed, plain, written}
+use Rattle.writer.specs.Write.{writeFault, writeAnswer, plain}
+use Rattle.writer.specs.Scaffolding.{Framed}
 use Rattle.writer.proofs.Headers.{first-at, next-at, axis-after, at-before, values-after, values-end, values-before, length-small, count-in}
 use Rattle.writer.proofs.Images.{length-image}
 use Rattle.writer.proofs.Laws.{write-means}
@@ -43,6 +44,11 @@ use Rattle.writer.proofs.Writes.{written-frame}
 use Rattle.binary64.proofs.Held.{Held}
 use Rattle.writer.proofs.Back.{floats-held, held-append}
 use Rattle.writer.proofs.Made as made
+
+-- the image that was written: the output's first bytes, as many as the answer says
+abbrev pub written : Shape → List Float → List Float → List ℕ → List ℕ
+written s nodes values out =
+    take (writeAnswer s nodes values (length out) .length) (filledInto (writeFault s nodes values (length out)) (imageOf s nodes values) out)
 
 -- ---- the image of a judged table passes the checks of the header and of the areas
 module _ (s : Shape) (four : length (s .counts) ≡ 4) (nodes values : List Float) (w : Framed s nodes values) where

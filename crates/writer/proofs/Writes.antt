@@ -17,7 +17,8 @@ use Rattle.checks.specs.Shapes.{shapeFault, frameFault}
 use Rattle.checks.specs.Numbers.{lengthFault}
 use Rattle.layout.specs.declared.Shape.{Shape}
 use Rattle.writer.specs.Made.{imageLength, imageOf}
-use Rattle.writer.specs.Write.{writeFault, writeAnswer, refusedWrite, Framed, Roomy}
+use Rattle.writer.specs.Write.{writeFault, writeAnswer}
+use Rattle.writer.specs.Scaffolding.{refusedWrite, Framed, Roomy}
 use Rattle.writer.specs.declared.WriteAnswer.{WriteAnswer}
 use Rattle.writer.proofs.Images.{length-image}
 use Rattle.writer.proofs.Laws.{Writable, write-means}

@@ -1,3 +1,3 @@
 pub mod Made
-pub mod Fields
 pub mod Write
+pub mod Scaffolding

@@ -7,7 +7,7 @@ ghost use lib.Seq.{sets};
 ghost use Rattle.answer.specs.Faults.{good};
 ghost use Rattle.checks.specs.Shapes.{shapeFault};
 ghost use Rattle.writer.specs.Made.{fieldBytes, headerFields};
-ghost use Rattle.writer.specs.Fields.{pairs, Fitting, Axis, Count, Header, HeaderRoom};
+ghost use Rattle.writer.specs.Scaffolding.{pairs, Fitting, HeaderAxis, Count, Header, HeaderRoom};
 use crate::put;
 use checks::shapes;
 use layout::Shape;
@@ -33,7 +33,7 @@ fn put_fields(out: &mut [u8], widths: &[usize], fields: &[u64])
 
 // An axis's count, 0 where there is no such axis.
 fn count_in(shape: Shape, axis: usize) -> u64
-    requires { ⌜ Axis shape axis ⌝ }
+    requires { ⌜ HeaderAxis shape axis ⌝ }
     ensures { λ r. ⌜ Count shape axis r ⌝ }
 {
     let counts = shape.counts;

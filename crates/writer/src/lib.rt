@@ -6,7 +6,8 @@ ghost use lib.Seq.{sets};
 ghost use Rattle.answer.specs.Faults.{good};
 ghost use Rattle.checks.specs.Shapes.{shapeFault};
 ghost use Rattle.writer.specs.Made.{imageLength, imageOf};
-ghost use Rattle.writer.specs.Write.{writeFault, refusedWrite, Written, Roomy};
+ghost use Rattle.writer.specs.Write.{writeFault, Written};
+ghost use Rattle.writer.specs.Scaffolding.{refusedWrite, Roomy};
 
 // the header of a shape
 pub(crate) mod header;

@@ -15,7 +15,8 @@ use Rattle.checks.specs.Passed.{Axis}
 use Rattle.axis.specs.Steps.{lowerStep, upperStep, stepIndex}
 use Rattle.axis.specs.Cells.{lowerIndex}
 use Rattle.rust.specs.Utils.{lowerBy, upperBy}
-use Rattle.axis.specs.Picks.{rustStep, nearer, nearestIndex}
+use Rattle.axis.specs.Picks.{nearer, nearestIndex}
+use Rattle.axis.specs.Scaffolding.{rustStep}
 use Rattle.axis.proofs.cells.Axes.{rises-all}
 use Rattle.axis.proofs.picks.Steps.{lower-step-last, on-upper, on-lower, upper-step-first, past-first}
 use Rattle.binary64.proofs.Held.{Held}

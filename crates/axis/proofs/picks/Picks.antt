@@ -13,7 +13,8 @@ use Rattle.checks.specs.Nodes.{node}
 use Rattle.checks.specs.Passed.{Axis}
 use Rattle.axis.specs.Steps.{byRange, lowerStep, upperStep, stepIndex}
 use Rattle.axis.specs.Cells.{howMany, countBelow, lowerIndex}
-use Rattle.axis.specs.Picks.{rustStep, nearestIndex, pickIndex, pickFound}
+use Rattle.axis.specs.Picks.{nearestIndex}
+use Rattle.axis.specs.Scaffolding.{rustStep, pickIndex, pickFound}
 use Rattle.axis.proofs.picks.Nodes.{step-rust}
 use Rattle.axis.proofs.cells.Cells.{cell-inside}
 use Rattle.axis.proofs.picks.Laws.{few}

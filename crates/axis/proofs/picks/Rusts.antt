@@ -9,7 +9,7 @@ use lib.Ieee.{Float, eq}
 use Rattle.checks.specs.Nodes.{node}
 use Rattle.axis.specs.Cells.{lowerIndex}
 use Rattle.rust.specs.Utils.{lowerBy, upperBy}
-use Rattle.axis.specs.Picks.{rustStep}
+use Rattle.axis.specs.Scaffolding.{rustStep}
 
 module _ (xs : List Float) (p : Float) (r l : ℕ) (e : r ≡ l) where
   pub by-last : eq p (node xs (length xs - 1)) ≡ true → length xs - 1 ≡ lowerBy xs l p

@@ -5,8 +5,8 @@ use Prim.Native.Nat.{ℕ, _+_, _-_, _^_, _≤_, _<_}
 use native.Mathlib.Omega.{arith}
 use lib.ListN.{length, take, drop, getD, length-drop, length-take}
 use Rattle.layout.proofs.Totals.{ahead, past}
-use Rattle.rust.specs.Located.{diffs}
-use Rattle.blend.specs.Corners.{moreCorners}
+use Rattle.rust.specs.Scaffolding.{diffs}
+use Rattle.blend.specs.Scaffolding.{moreCorners}
 use Rattle.rust.specs.declared.AxisLocation.{AxisLocation}
 use Rattle.rust.specs.declared.AxisLocation.the-variants.{Exact}
 use Rattle.blend.proofs.Counts.{more-power, few-corners}

@@ -9,11 +9,11 @@ use Rattle.layout.specs.Layout.{tabulate}
 use Rattle.layout.proofs.Layouts.{length-tabulate, tabulate-step}
 use Rattle.layout.proofs.Totals.{ahead, past}
 use Rattle.blend.specs.Blend.{blended}
-use Rattle.rust.specs.Located.{diffs, passed, butterfly}
+use Rattle.rust.specs.Scaffolding.{diffs, passed, butterfly}
 use Rattle.rust.specs.declared.AxisLocation.{AxisLocation}
 use Rattle.rust.specs.declared.AxisLocation.the-variants.{Exact, Between}
 use Rattle.rust.proofs.Passes.{power-suc, over-at, over-here, front}
-use Rattle.blend.specs.Folds.{passedOver, merged, halfOf, grown}
+use Rattle.blend.specs.Scaffolding.{passedOver, merged, halfOf, grown}
 
 -- one more value of a pass in place
 abbrev pub blendAt : Float → ℕ → List Float → ℕ → Float

@@ -11,7 +11,7 @@ use Rattle.answer.proofs.Orders.{first-same}
 use Rattle.layout.specs.Layout.{tabulate}
 use Rattle.layout.proofs.Layouts.{length-tabulate, getD-tabulate}
 use Rattle.blend.specs.Blend.{blended}
-use Rattle.blend.specs.Runs.{blends}
+use Rattle.blend.specs.Scaffolding.{blends}
 use Rattle.checks.specs.Numbers.{resultsFault, resultFault}
 
 abbrev pub runAt : Float → List Float → List Float → ℕ → Float

@@ -11,7 +11,8 @@ use Rattle.answer.specs.declared.Fault.{Fault}
 use Rattle.answer.proofs.Orders as orders
 use Rattle.checks.specs.Numbers.{axesCountFault, countFault, productFault}
 use Rattle.layout.specs.Shape.{countsOf, size, total}
-use Rattle.checks.specs.Shapes.{Few, shapeFault, sumsOf, sizesOf}
+use Rattle.checks.specs.Shapes.{shapeFault}
+use Rattle.checks.specs.Scaffolding.{Few, sumsOf, sizesOf}
 use Rattle.layout.specs.declared.Shape.{Shape}
 use Rattle.checks.specs.declared.shapes.Holding.{Holding}
 use Rattle.checks.proofs.counts.Rows.{axes-some, axes-four, count-enough, count-few}

@@ -6,7 +6,8 @@ use native.Mathlib.Omega.{arith}
 use lib.ListN.{length, take, drop, getD}
 use Rattle.answer.specs.Faults.{noFault}
 use Rattle.answer.specs.declared.Fault.{Fault}
-use Rattle.layout.specs.Shape.{Four, size, total}
+use Rattle.layout.specs.Shape.{size, total}
+use Rattle.layout.specs.Scaffolding.{Four}
 use Rattle.layout.proofs.Totals.{size-back, size-none, size-bound, total-back, total-none, total-bound}
 use Rattle.checks.specs.declared.shapes.Holding.{Holding}
 

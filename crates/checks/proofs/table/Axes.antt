@@ -8,7 +8,7 @@ use lib.Seq.{length-take-le}
 use Rattle.answer.specs.Faults.{noFault, firstOf}
 use Rattle.answer.specs.declared.Fault.{Fault}
 use Rattle.answer.proofs.Loops as loops
-use Rattle.layout.specs.Shape.{Four}
+use Rattle.layout.specs.Scaffolding.{Four}
 use Rattle.layout.specs.Layout.{axesOf}
 use Rattle.layout.proofs.Totals.{counts-least}
 use Rattle.layout.proofs.Walks.{Walk, walk-axis, walk-on}

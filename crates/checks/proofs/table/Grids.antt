@@ -15,7 +15,7 @@ use Rattle.checks.proofs.nodes.Rows.{nodes-axis}
 use Rattle.layout.specs.Shape.{countsOf, size, total}
 use Rattle.layout.specs.Layout.{axesOf}
 use Rattle.checks.specs.Shapes.{shapeFault, frameFault}
-use Rattle.checks.specs.Passed.{Grid}
+use Rattle.checks.specs.Scaffolding.{Grid}
 use Rattle.layout.specs.declared.Shape.{Shape}
 use Rattle.checks.proofs.shapes.Frames.{shape-four, shape-long, shape-enough, shape-few, shape-size}
 use Rattle.checks.proofs.lent.Rows.{length-passed}

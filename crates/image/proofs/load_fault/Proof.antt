@@ -1,7 +1,7 @@
 use Rattle.answer.specs.Faults.{_or_}
 use Rattle.answer.specs.declared.Fault.{Fault}
 use Rattle.answer.proofs.Orders.{passes, or-stops, or-goes-on}
-use Rattle.image.specs.Parts.{Judged}
+use Rattle.image.specs.Scaffolding.{ShapeJudged}
 use Rattle.image.specs.Load.{areasFault, loadFault}
 use Rattle.image.specs.Head.{headFault}
 use Rattle.image.proofs.Heads.{head-shape}
@@ -17,7 +17,7 @@ abbrev img : tie.After-head-fault → List ℕ
 img f = now (f .before .before .args .img)
 
 -- the shape is a good one, once the header has passed
-known : (d : tie.Else1) → Judged (img (d .before .before))
+known : (d : tie.Else1) → ShapeJudged (img (d .before .before))
 known d = head-shape _ (passes _ _ (d .before .before .head-fault .ensures) (d .if1 .left))
 
 past1 : (d : tie.Else1) (x rest : Fault) → x ≡ rest → x ≡ (headFault (img (d .before .before)) or rest)

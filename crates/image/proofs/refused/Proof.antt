@@ -2,7 +2,7 @@ use mathlib.Core.Path.{ap₂}
 use borrow.Author.Needs.{needs}
 use Rattle.answer.specs.declared.Answer.{Answer}
 use Rattle.layout.specs.declared.Shape.{Shape}
-use Rattle.image.specs.Load.{refusedLoad}
+use Rattle.image.specs.Scaffolding.{refusedLoad}
 use Rattle.image.proofs.refused.Statement.{statement}
 use Rattle.image.proofs.refused.Tie as tie
 

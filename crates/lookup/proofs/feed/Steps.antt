@@ -13,14 +13,14 @@ use lib.Seq.{length-take-le, take-all}
 use Rattle.answer.specs.Faults.{refusal}
 use Rattle.answer.specs.Answer.{refused}
 use Rattle.lines.specs.Line.{lineOf, longest}
-use Rattle.lines.specs.Stream.{Rule, linesFirst, linesOf, Block, Turned}
-use Rattle.lines.specs.Scaffolding.{Filled}
+use Rattle.lines.specs.Stream.{Rule, linesFirst, linesOf, Block}
+use Rattle.lines.specs.Scaffolding.{Turned, Filled}
 use Rattle.lines.proofs.Blocks.{Answered, answered, lines-none}
 use Rattle.lines.proofs.Feeds.{filled-count}
 use Rattle.lines.proofs.Puts.{wrote-take}
 use Rattle.lines.proofs.Runs.{cut-off}
 use Rattle.program.specs.Input.{goesOn, endInto, endSize}
-use Rattle.program.specs.Turns.{shifted}
+use Rattle.program.specs.Scaffolding.{shifted}
 use Rattle.program.proofs.input.Ends.{goes-on-means, stops-means, no-record-left, end-told}
 use Rattle.program.proofs.turns.Turning.{turning}
 use Rattle.lookup.specs.Scaffolding.{Room, Last, Stepped}

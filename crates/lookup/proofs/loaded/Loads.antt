@@ -16,7 +16,7 @@ use Rattle.answer.proofs.Answers.{then-good, then-bad, refused-number}
 use Rattle.answer.proofs.Orders.{clash, given-good}
 use Rattle.answer.proofs.Outputs.{given-front}
 use Rattle.layout.specs.Shape.{noShape}
-use Rattle.checks.specs.Shapes.{sizesOf}
+use Rattle.checks.specs.Scaffolding.{sizesOf}
 use Rattle.checks.specs.declared.shapes.Holding.{Holding}
 use Rattle.checks.proofs.shapes.Frames.{holds-nodes, holds-values}
 use Rattle.image.specs.Fields.{shapeOf}

@@ -12,9 +12,9 @@ use lib.Seq.{length-take-le, take-all, take-append-le, drop-append-le}
 use Rattle.answer.specs.Faults.{refusal}
 use Rattle.answer.specs.Answer.{refused}
 use Rattle.answer.proofs.Orders.{clash}
-use Rattle.lines.specs.Scaffolding.{Filled}
+use Rattle.lines.specs.Scaffolding.{Filled, Wrote}
 use Rattle.lines.specs.Line.{lineOf, longest}
-use Rattle.lines.specs.Put.{Wrote, lineInto, lineEnd}
+use Rattle.lines.specs.Put.{lineInto, lineEnd}
 use Rattle.lines.specs.Stream.{Rule, linesOf}
 use Rattle.lines.proofs.Feeds.{filled-count}
 use Rattle.lines.proofs.Puts.{wrote-take, wrote-length}

@@ -18,7 +18,7 @@ use Rattle.image.proofs.Loads.{out-kept}
 use Rattle.lines.specs.Line.{lineOf}
 use Rattle.lines.specs.Put.{put}
 use Rattle.lines.specs.Stream.{Rule, linesOf}
-use Rattle.program.specs.Parts.{Fronted, textOf}
+use Rattle.program.specs.Scaffolding.{Fronted, textOf}
 use Rattle.program.specs.Run.{mostRecords, textFault, textAnswer, Texted}
 
 module _ (a : Answer) (p : Rule) (records : List ℕ) {d e : List ℕ} {r : ℕ} where

@@ -16,7 +16,7 @@ use Rattle.answer.specs.declared.Answer.{Answer}
 use Rattle.answer.proofs.Orders as orders
 use Rattle.answer.proofs.Answers.{then-good, then-bad, refused-number}
 use Rattle.answer.proofs.Outputs.{given-front}
-use Rattle.checks.specs.Shapes.{sizesOf}
+use Rattle.checks.specs.Scaffolding.{sizesOf}
 use Rattle.checks.specs.declared.shapes.Holding.{Holding}
 use Rattle.checks.proofs.shapes.Frames.{holds-nodes, holds-values}
 use Rattle.layout.specs.Shape.{noShape}
@@ -31,7 +31,7 @@ use Rattle.image.proofs.Floats.{nodes-total, values-size}
 use Rattle.image.proofs.Laws.{loaded-shape}
 use Rattle.ninterp.specs.Records.{recordRule}
 use Rattle.program.specs.Input.{imageSize, imageIn}
-use Rattle.program.specs.Parts.{textOf}
+use Rattle.program.specs.Scaffolding.{textOf}
 use Rattle.program.specs.Run.{mostRecords, ruleOf, runOf, Texted}
 use Rattle.program.specs.declared.run.RunAnswer.{RunAnswer}
 

@@ -11,13 +11,14 @@ use lib.ListN.{length, take, length-append}
 use Rattle.answer.specs.Faults.{refusal}
 use Rattle.answer.specs.Answer.{refused}
 use Rattle.lines.specs.Line.{lineOf, longest}
-use Rattle.lines.specs.Put.{put, Wrote, allInto, lineInto, lineEnd}
+use Rattle.lines.specs.Put.{put, allInto, lineInto, lineEnd}
+use Rattle.lines.specs.Scaffolding.{Wrote}
 use Rattle.lines.specs.Stream.{Rule, linesOf}
 use Rattle.lines.proofs.Puts.{put-none, put-put, all-there, wrote-none, wrote-take}
 use Rattle.lines.proofs.Runs.{cut-off, cut-none, cut-some}
 use Rattle.lines.proofs.Shows.{line-wrote, line-fits}
 use Rattle.program.specs.Input.{nothingMore, endInto, endSize}
-use Rattle.program.specs.Parts.{Placed, Fronted, endOf}
+use Rattle.program.specs.Scaffolding.{Placed, Fronted, endOf}
 
 -- what was written to the front of a chunk, put at a place
 pub placed : {c xs b d e : List ℕ} {n at : ℕ} → Wrote c 0 xs b n → e ≡ allInto (take n b) d at → Placed xs d at e n

@@ -12,7 +12,7 @@ use Rattle.lines.specs.Line.{lineOf}
 use Rattle.lines.specs.Stream.{Rule, linesFirst, linesOf, Block}
 use Rattle.lines.proofs.Blocks.{Answered, answered, lines-none}
 use Rattle.lines.proofs.Runs.{lines-of-add}
-use Rattle.program.specs.Parts.{Placed, Fronted, endOf}
+use Rattle.program.specs.Scaffolding.{Placed, Fronted, endOf}
 use Rattle.program.proofs.run.Places.{Putting, putting-start, putting-step, putting-end, end-said}
 
 -- the records from `at` on are left, of which `left` may still be answered; `total` bytes are put, no more than a chunk for each record answered

@@ -10,7 +10,7 @@ use lib.ListN.{length, take, drop, getD, set, length-take, length-drop, length-s
 use lib.Seq.{drop-drop, take-at, take-suc, take-suc-set, drop-set-lt, getD-drop}
 use borrow.Author.Tests.{le-leb, lt-leb}
 use Rattle.lines.specs.Put.{roomFor}
-use Rattle.program.specs.Turns.{shifted}
+use Rattle.program.specs.Scaffolding.{shifted}
 
 -- on the way: the first i bytes are moved, the rest is as it was
 pub record Shifting (a : List ℕ) (from n i : ℕ) (b : List ℕ) : Type 0 where

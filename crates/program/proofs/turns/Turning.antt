@@ -5,12 +5,13 @@ use Prim.Native.Nat.{ℕ, zero, suc, _+_, _-_, _*_, _≤_}
 use native.Mathlib.Omega.{arith}
 use lib.ListN.{length, take, drop}
 use lib.Seq.{length-take-le, take-nil}
-use Rattle.lines.specs.Stream.{Rule, Block, Turned}
+use Rattle.lines.specs.Stream.{Rule, Block}
+use Rattle.lines.specs.Scaffolding.{Turned}
 use Rattle.lines.proofs.Puts.{wrote-take}
 use Rattle.lines.proofs.Blocks.{Answered, answered}
 use Rattle.lines.proofs.Runs.{turned}
 use Rattle.program.proofs.turns.Shifts.{shifted-front}
-use Rattle.program.specs.Turns.{shifted}
+use Rattle.program.specs.Scaffolding.{shifted}
 
 drop-take : (k n : ℕ) (l : List ℕ) → drop k (take n l) ≡ take (n - k) (drop k l)
 drop-take zero n l = let e : n - 0 ≡ n = omega arith in rw e

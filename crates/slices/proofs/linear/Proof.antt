@@ -7,7 +7,7 @@ use Rattle.answer.specs.Faults.{good}
 use Rattle.answer.proofs.Orders.{passes}
 use Rattle.orders.specs.Orders.{linearFront}
 use Rattle.slices.specs.LinearSlices.{linearSliceFault, linearSlice, linearSliced}
-use Rattle.slices.specs.Ready.{Ready}
+use Rattle.slices.specs.Scaffolding.{Ready}
 use Rattle.slices.proofs.Sliced.{linear-ready, linear-first, or-kept, or-filled, on-axis, answer-refused, sliced}
 use borrow.Author.Needs.{needs}
 use Rattle.slices.proofs.linear.Statement.{statement}

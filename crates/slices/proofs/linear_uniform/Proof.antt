@@ -7,7 +7,7 @@ use Rattle.answer.specs.Faults.{good}
 use Rattle.answer.proofs.Orders.{passes}
 use Rattle.orders.specs.Orders.{linearUniformFront}
 use Rattle.slices.specs.LinearSlices.{linearUniformSliceFault, linearUniformSlice, linearUniformSliced}
-use Rattle.slices.specs.Ready.{Ready}
+use Rattle.slices.specs.Scaffolding.{Ready}
 use Rattle.slices.proofs.Sliced.{linear-ready, linear-first, uniform-linear, or-kept, or-filled, on-axis, answer-refused, sliced}
 use borrow.Author.Needs.{needs}
 use Rattle.slices.proofs.linear_uniform.Statement.{statement}

@@ -6,7 +6,7 @@ use Rattle.answer.proofs.Orders.{passes}
 use Rattle.orders.specs.Orders.{nearestSliceFault}
 use Rattle.axis.proofs.picks.Picks.{is-nearest}
 use Rattle.slices.specs.Slices.{ruleSlice, nearestSlice, nearestSliced}
-use Rattle.slices.specs.Ready.{Ready}
+use Rattle.slices.specs.Scaffolding.{Ready}
 use Rattle.slices.proofs.Sliced.{nearest-ready, or-kept, or-filled, at-index, answer-refused, sliced}
 use borrow.Author.Needs.{needs}
 use Rattle.slices.proofs.nearest.Statement.{statement}

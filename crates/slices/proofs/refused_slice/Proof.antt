@@ -1,7 +1,7 @@
 use mathlib.Core.Path.{ap₂}
 use Rattle.answer.specs.declared.Answer.{Answer}
 use Rattle.layout.specs.declared.Shape.{Shape}
-use Rattle.slices.specs.Slices.{refusedSlice}
+use Rattle.slices.specs.Scaffolding.{refusedSlice}
 use borrow.Author.Needs.{needs}
 use Rattle.slices.proofs.refused_slice.Statement.{statement}
 use Rattle.slices.proofs.refused_slice.Tie as tie

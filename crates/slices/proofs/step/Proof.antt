@@ -9,7 +9,7 @@ use Rattle.answer.proofs.Orders.{passes}
 use Rattle.orders.specs.Orders.{stepFront, stepSliceFault}
 use Rattle.axis.proofs.picks.Picks.{is-step}
 use Rattle.slices.specs.Slices.{ruleSlice, stepSlice, stepSliced}
-use Rattle.slices.specs.Ready.{Ready}
+use Rattle.slices.specs.Scaffolding.{Ready}
 use Rattle.slices.proofs.Sliced.{step-ready, step-lent, step-directions, or-kept, or-filled, at-index, answer-refused, sliced}
 use borrow.Author.Needs.{needs}
 use Rattle.slices.proofs.step.Statement.{statement}

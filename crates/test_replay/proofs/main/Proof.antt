@@ -1,11 +1,11 @@
 use Prim.Native.Nat.{_≤_}
-use Rattle.test_replay.specs.Room.{Room}
+use Rattle.test_replay.specs.Scaffolding.{HoldsTable}
 use borrow.Author.Needs.{needs}
 use Rattle.test_replay.proofs.main.Statement.{statement}
 use Rattle.test_replay.proofs.main.Tie as tie
 
 abbrev Inv-loop : tie.InvT-loop
-Inv-loop floats₀ lent₀ go₀ turns₀ floats lent go turns = (lent .count ≤ 128) × Room (lent .table) floats
+Inv-loop floats₀ lent₀ go₀ turns₀ floats lent go turns = (lent .count ≤ 128) × HoldsTable (lent .table) floats
 
 abbrev μ-loop : tie.MeasureT-loop
 μ-loop floats₀ lent₀ go₀ turns₀ floats lent go turns = turns

@@ -1,7 +1,7 @@
 use mathlib.Core.Path.{ap}
 use borrow.Author.Needs.{needs}
 use Rattle.answer.specs.declared.Answer.{Answer}
-use Rattle.writer.specs.Write.{refusedWrite}
+use Rattle.writer.specs.Scaffolding.{refusedWrite}
 use Rattle.writer.proofs.refused.Statement.{statement}
 use Rattle.writer.proofs.refused.Tie as tie
 

@@ -1,6 +1,6 @@
 use Rattle.layout.proofs.Totals.{counts-least}
 use Rattle.rust.specs.declared.AxisLocation.{AxisLocation}
-use Rattle.rust.specs.Located.{diffs}
+use Rattle.rust.specs.Scaffolding.{diffs}
 use Rattle.blend.proofs.fold.Counts.{count-step, count-none}
 use mathlib.Core.Path.{_≡_, ap, _∙_}
 use mathlib.Core.List.{List}

@@ -4,7 +4,7 @@ use Prim.Native.Nat.{_+_, _-_, _≤_}
 use native.Mathlib.Omega.{arith}
 use lib.ListN.{length, take, drop, getD}
 use Rattle.layout.proofs.Totals.{counts-least}
-use Rattle.rust.specs.Located.{diffs, butterfly}
+use Rattle.rust.specs.Scaffolding.{diffs, butterfly}
 use Rattle.rust.specs.declared.AxisLocation.{AxisLocation}
 use Rattle.rust.specs.declared.AxisLocation.the-variants.{Exact}
 use Rattle.blend.proofs.fold.Counts.{count-few}

@@ -1,14 +1,13 @@
-use lib.ListN.{set, length-set}
+use lib.ListN.{set, length-set, length, drop}
 use mathlib.Core.Path.{_≡_, refl, ap, ap₂, _∙_}
 use mathlib.Core.List.{List, _++_}
 use Prim.Native.Nat.{ℕ, _+_, _-_, _≤_, _<_, min}
 use native.Mathlib.Omega.{arith}
-use lib.ListN.{length, drop}
 use lib.Ieee.{Float}
 use denote.Ref.{now}
 use Rattle.layout.specs.Layout.{tabulate}
 use Rattle.layout.proofs.Layouts.{tabulate-step}
-use Rattle.blend.specs.Runs.{blendedInto}
+use Rattle.blend.specs.Scaffolding.{blendedInto}
 use Rattle.blend.proofs.runs.Blends.{runAt}
 use borrow.Author.Needs.{needs}
 use Rattle.blend.proofs.runs.blend_into.Statement.{statement}

@@ -1,7 +1,8 @@
 use mathlib.Core.Path.{_≡_, ap, _∙_}
 use Prim.Native.Nat.{ℕ}
 use Rattle.answer.proofs.Orders.{passes, or-stops, or-goes-on}
-use Rattle.checks.specs.Shapes.{shapeFault, sizesOf, frameFault}
+use Rattle.checks.specs.Shapes.{shapeFault, frameFault}
+use Rattle.checks.specs.Scaffolding.{sizesOf}
 use Rattle.checks.specs.declared.shapes.Holding.{Holding}
 use Rattle.checks.proofs.shapes.Frames.{holds-nodes, holds-values}
 use Rattle.checks.specs.Numbers.{lengthFault}

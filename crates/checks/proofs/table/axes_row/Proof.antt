@@ -1,6 +1,6 @@
 use Prim.Native.Nat.{_-_}
 use borrow.Author.Needs.{needs}
-use Rattle.checks.specs.Table.{axisRow}
+use Rattle.checks.specs.Scaffolding.{axisRow}
 use Rattle.checks.proofs.table.Axes as axes
 use Rattle.checks.proofs.table.axes_row.Statement.{statement}
 use Rattle.checks.proofs.table.axes_row.Tie as tie

@@ -2,7 +2,7 @@ use mathlib.Core.Bool.{Bool}
 use mathlib.Core.Path.{sym, ap, _∙_}
 use denote.Ref.{now}
 use borrow.Author.Needs.{needs}
-use Rattle.checks.specs.Table.{axisRow}
+use Rattle.checks.specs.Scaffolding.{axisRow}
 use Rattle.checks.proofs.table.axis_row.Statement.{statement}
 use Rattle.checks.proofs.table.axis_row.Tie as tie
 

@@ -2,7 +2,7 @@ use mathlib.Core.Path.{_≡_, ap, _∙_}
 use native.Mathlib.Omega.{arith}
 use borrow.Author.Needs.{needs}
 use denote.Ref.{now}
-use Rattle.checks.specs.Shapes.{sizesOf}
+use Rattle.checks.specs.Scaffolding.{sizesOf}
 use Rattle.checks.proofs.shapes.Frames.{shape-size, holds-nodes, holds-values}
 use Rattle.image.specs.Fields.{shapeOf}
 use Rattle.image.proofs.Floats.{total-small}

@@ -1,7 +1,7 @@
 use mathlib.Core.Path.{sym, ap, _∙_}
 use borrow.Author.Needs.{needs}
 use denote.Ref.{now}
-use Rattle.image.specs.Parts.{rowOf}
+use Rattle.image.specs.Scaffolding.{rowOf}
 use Rattle.image.specs.declared.rows.Rows.{Rows}
 use Rattle.image.proofs.rows.row_fault.Statement.{statement}
 use Rattle.image.proofs.rows.row_fault.Tie as tie

@@ -3,7 +3,7 @@ use Prim.Native.Nat.{_-_}
 use borrow.Author.Needs.{needs}
 use Rattle.answer.specs.Faults.{firstOf}
 use Rattle.answer.proofs.Orders.{passes, fails, first-step, first-stop, first-end}
-use Rattle.image.specs.Parts.{rowOf}
+use Rattle.image.specs.Scaffolding.{rowOf}
 use Rattle.image.proofs.rows.rows_fault.Statement.{statement}
 use Rattle.image.proofs.rows.rows_fault.Tie as tie
 

@@ -5,7 +5,7 @@ use native.Mathlib.Omega.{arith}
 use borrow.Author.Needs.{needs}
 use lib.ListN.{length, take, length-set}
 use lib.Seq.{take-all}
-use Rattle.lines.specs.Put.{Wrote}
+use Rattle.lines.specs.Scaffolding.{Wrote}
 use Rattle.lines.proofs.Puts.{wrote-none, copy-step}
 use Rattle.lines.proofs.text.put_bytes.Statement.{statement}
 use Rattle.lines.proofs.text.put_bytes.Tie as tie

@@ -5,10 +5,9 @@ ghost use lib.ListN.{take};
 ghost use Rattle.layout.specs.Shape.{countsOf};
 ghost use Rattle.layout.specs.Layout.{table};
 ghost use Rattle.blend.specs.Blend.{linear, computed};
-ghost use Rattle.axis.specs.Locations.{locationBy, upperOf};
-ghost use Rattle.ninterp.specs.Tables.{Judged};
+ghost use Rattle.axis.specs.Scaffolding.{locationBy, upperOf};
+ghost use Rattle.ninterp.specs.Scaffolding.{LookupJudged, Cornered, Placeable, Blank, Placed, Spreadable, Spread, Gatherable, Gathered};
 ghost use Rattle.ninterp.specs.Linears.{interpolated};
-ghost use Rattle.ninterp.specs.Kernels.{Cornered, Placeable, Blank, Placed, Spreadable, Spread, Gatherable, Gathered};
 use crate::interpolator::n::locations;
 use answer::Answer;
 use axis::locate;
@@ -121,7 +120,7 @@ pub(crate) fn interpolated(
     values: &[f64],
     point: &[f64],
 ) -> Answer
-    requires { ⌜ Judged shape (now nodes) (now values) (now point) ⌝ }
+    requires { ⌜ LookupJudged shape (now nodes) (now values) (now point) ⌝ }
     ensures { λ r. ⌜ r ≡ computed (interpolated (locationBy uniform) (countsOf shape)
         (now (nodes .entry)) (now (values .entry)) (now (point .entry))) ⌝ }
 {

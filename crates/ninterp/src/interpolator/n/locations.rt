@@ -1,13 +1,13 @@
 // Where a reading lies on each axis, for the two linears: by Linear's rule or by LinearUniform's.
-ghost use Rattle.axis.specs.Locations.{locationBy};
-ghost use Rattle.ninterp.specs.Kernels.{Readable, Located};
+ghost use Rattle.axis.specs.Scaffolding.{locationBy};
+ghost use Rattle.ninterp.specs.Scaffolding.{ReadableTable, Located};
 use axis::locate;
 use layout::Shape;
 use rust::AxisLocation;
 
 // The location on each axis, in axis order.
 pub(crate) fn all(uniform: bool, shape: Shape, nodes: &[f64], point: &[f64]) -> [AxisLocation; 4]
-    requires { ⌜ Readable shape (now nodes) (now point) ⌝ }
+    requires { ⌜ ReadableTable shape (now nodes) (now point) ⌝ }
     ensures { λ r. ⌜ Located (locationBy uniform) shape (now (nodes .entry)) (now (point .entry)) r ⌝ }
 {
     let counts = shape.counts;

@@ -4,16 +4,16 @@ ghost use Prim.Native.Nat.{_≤_};
 ghost use lib.ListN.{length};
 ghost use Rattle.answer.specs.Answer.{answered};
 ghost use Rattle.layout.specs.Shape.{countsOf};
-ghost use Rattle.axis.specs.Picks.{pickRule};
-ghost use Rattle.ninterp.specs.Tables.{picked, Judged};
-ghost use Rattle.ninterp.specs.Kernels.{Readable, PickedAt};
+ghost use Rattle.axis.specs.Scaffolding.{pickRule};
+ghost use Rattle.ninterp.specs.Tables.{picked};
+ghost use Rattle.ninterp.specs.Scaffolding.{LookupJudged, ReadableTable, PickedAt};
 use answer::Answer;
 use axis::picks;
 use layout::Shape;
 
 // The flat place of the index list.
 fn pick_place(shape: Shape, nodes: &[f64], picks: &[u8], point: &[f64]) -> usize
-    requires { ⌜ Readable shape (now nodes) (now point) ⌝ }
+    requires { ⌜ ReadableTable shape (now nodes) (now point) ⌝ }
     requires { ⌜ shape .axes ≤ length (now picks) ⌝ }
     ensures { λ r. ⌜ PickedAt (pickRule (now (picks .entry))) shape (now (nodes .entry)) (now (point .entry)) r ⌝ }
 {
@@ -41,7 +41,7 @@ pub(crate) fn stored(
     picks: &[u8],
     point: &[f64],
 ) -> Answer
-    requires { ⌜ Judged shape (now nodes) (now values) (now point) ⌝ }
+    requires { ⌜ LookupJudged shape (now nodes) (now values) (now point) ⌝ }
     requires { ⌜ shape .axes ≤ length (now picks) ⌝ }
     ensures { λ r. ⌜ r ≡ answered (picked (pickRule (now (picks .entry))) (countsOf shape)
         (now (nodes .entry)) (now (values .entry)) (now (point .entry))) ⌝ }

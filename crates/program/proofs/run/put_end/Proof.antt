@@ -3,8 +3,8 @@ use Prim.Native.Nat.{_≤_}
 use native.Mathlib.Omega.{arith}
 use lib.ListN.{length}
 use lib.Seq.{length-take-le}
-use Rattle.lines.specs.Put.{Wrote}
-use Rattle.program.specs.Parts.{endOf}
+use Rattle.lines.specs.Scaffolding.{Wrote}
+use Rattle.program.specs.Scaffolding.{endOf}
 use Rattle.program.proofs.run.Places.{placed, end-fits, end-wrote}
 use denote.Ref.{now}
 use borrow.Author.Needs.{needs}

@@ -9,7 +9,7 @@ use Rattle.checks.specs.Passed.{Axis}
 use Rattle.layout.specs.Shape.{total}
 use Rattle.layout.specs.Layout.{axisOf}
 use Rattle.rust.specs.declared.AxisLocation.{AxisLocation}
-use Rattle.axis.specs.Locations.{locationBy, upperOf}
+use Rattle.axis.specs.Scaffolding.{locationBy, upperOf}
 use Rattle.axis.proofs.Located.{location-fits, location-found}
 use Rattle.slices.proofs.Slices.{some-at, axis-ends, axis-lies, part-axis, part-index}
 use Rattle.slices.proofs.Alongs.{node-runs, node-results, runs-beside, between-results}

@@ -5,7 +5,7 @@ use native.Mathlib.Omega.{arith}
 use lib.ListN.{take, drop, getD}
 use lib.Ieee.{Float}
 use denote.Ref.{now}
-use Rattle.axis.specs.Picks.{pickIndex}
+use Rattle.axis.specs.Scaffolding.{pickIndex}
 use Rattle.axis.proofs.picks.Picks.{pick-found, pick-fits}
 use Rattle.slices.proofs.Slices.{few-at, few-before, some-at, axis-ends, axis-lies, part-axis, part-index, runs-there, runs-written}
 use borrow.Author.Needs.{needs}

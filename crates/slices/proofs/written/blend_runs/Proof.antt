@@ -6,9 +6,9 @@ use lib.ListN.{length, take, drop, length-drop}
 use lib.Seq.{length-take-le}
 use lib.Ieee.{Float}
 use denote.Ref.{now}
-use Rattle.blend.specs.Runs.{blends, blendedInto}
+use Rattle.blend.specs.Scaffolding.{blends, blendedInto}
 use Rattle.checks.specs.Numbers.{resultsFault}
-use Rattle.slices.specs.Ready.{blendedRuns}
+use Rattle.slices.specs.Scaffolding.{blendedRuns}
 use Rattle.slices.proofs.Sliced.{kept, written}
 use Rattle.slices.proofs.Alongs.{into-blends, length-blends}
 use borrow.Author.Needs.{needs}

@@ -7,7 +7,7 @@ use lib.ListN.{length, drop, getD, length-set, set}
 use lib.Ieee.{Float, nan}
 use denote.Ref.{now}
 use Rattle.layout.proofs.Layouts.{tabulate-step}
-use Rattle.slices.specs.Ready.{runPlace, runValues}
+use Rattle.slices.specs.Scaffolding.{runPlace, runValues}
 use Rattle.slices.proofs.Slices.{next-j, next-place, first-j, first-place}
 use borrow.Author.Needs.{needs}
 use Rattle.slices.proofs.written.fill.Statement.{statement}

@@ -1,6 +1,6 @@
 use lib.Seq.{sets}
 use Rattle.writer.specs.Made.{fieldBytes}
-use Rattle.writer.specs.Fields.{sum, pairs}
+use Rattle.writer.specs.Scaffolding.{sum, pairs}
 use Rattle.writer.proofs.Puts.{sum-more, fields-step, fields-end}
 use mathlib.Core.Path.{_≡_, refl, sym, _∙_}
 use Prim.Native.Nat.{_+_, _-_, _≤_}

@@ -10,12 +10,13 @@ use Rattle.layout.specs.Shape.{size}
 use Rattle.layout.proofs.Totals.{length-ids}
 use Rattle.layout.specs.Layout.{table}
 use Rattle.blend.specs.Blend.{computed}
-use Rattle.rust.specs.Located.{diffs}
-use Rattle.blend.specs.Corners.{cornerAt}
+use Rattle.rust.specs.Scaffolding.{diffs}
+use Rattle.blend.specs.Scaffolding.{cornerAt}
 use Rattle.rust.specs.declared.AxisLocation.{AxisLocation}
 use Rattle.rust.specs.declared.AxisLocation.the-variants.{Exact}
 use Rattle.blend.proofs.Counts.{few-diffs}
-use Rattle.axis.specs.Locations.{locationIndex, upperOf}
+use Rattle.axis.specs.Locations.{locationIndex}
+use Rattle.axis.specs.Scaffolding.{upperOf}
 use Rattle.ninterp.proofs.Corners.{corner-under, at-node, folded}
 use Rattle.axis.proofs.Located.{lower-upper}
 use borrow.Author.Needs.{needs}

@@ -2,7 +2,8 @@ use Rattle.layout.proofs.Layouts.{size-cons}
 use Rattle.ninterp.proofs.Corners.{Spreading, spread-none, spread-step, lower-small, upper-few, upper-small, within-at, small-at, few-at, eight-at, placed-small, closed-at, first-few, first-small}
 use Rattle.axis.proofs.Located.{lower-upper}
 use Rattle.rust.specs.declared.AxisLocation.the-variants.{Exact}
-use Rattle.axis.specs.Locations.{locationIndex, upperOf}
+use Rattle.axis.specs.Locations.{locationIndex}
+use Rattle.axis.specs.Scaffolding.{upperOf}
 use mathlib.Core.Path.{_≡_, refl, sym, ap, ap₂, _∙_, subst}
 use native.Mathlib.Nat.{mul-le-mul-right}
 use Rattle.layout.specs.Shape.{size}

@@ -1,4 +1,4 @@
-use Rattle.axis.specs.Locations.{upperOf}
+use Rattle.axis.specs.Scaffolding.{upperOf}
 use mathlib.Core.Path.{sym, ap}
 use native.Mathlib.Omega.{arith}
 use borrow.Author.Needs.{needs}

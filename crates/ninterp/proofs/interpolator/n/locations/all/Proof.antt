@@ -5,8 +5,8 @@ use Rattle.layout.proofs.Totals.{length-ids}
 use Rattle.layout.proofs.Walks.{length-axes, Walk}
 use Rattle.rust.specs.declared.AxisLocation.the-variants.{Exact}
 use Rattle.ninterp.specs.Linears.{locations}
-use Rattle.axis.specs.Locations.{locationBy}
-use Rattle.ninterp.specs.Locations.{Within}
+use Rattle.axis.specs.Scaffolding.{locationBy}
+use Rattle.ninterp.specs.Scaffolding.{AllWithin}
 use Rattle.ninterp.proofs.Picks.{axis-within, axis-read, axis-good, axis-next}
 use Rattle.ninterp.proofs.Corners.{put-step}
 use Rattle.ninterp.proofs.Located.{take-filled, locations-within}
@@ -119,7 +119,7 @@ returns c =
     let n : length (take (s .args .shape .axes) (C s)) ≡ s .args .shape .axes = length-take-le (s .args .shape .axes) (C s) (long s) in
     record {
       same = filled c;
-      within = subst (λ ps. Within ps cs) (sym (filled c))
+      within = subst (λ ps. AllWithin ps cs) (sym (filled c))
           (locations-within (locationBy (s .args .uniform)) cs (now (s .args .nodes)) (now (s .args .point)) (s .pre .grid .flat)
           (λ a l. location-fits (getD (axesOf cs (now (s .args .nodes))) a []) (getD (now (s .args .point)) a nan) (s .pre .grid .axes a l) (s .pre .finites a (omega (arith, n, l))) (s .args .uniform)));
     }

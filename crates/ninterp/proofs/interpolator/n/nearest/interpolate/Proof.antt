@@ -6,8 +6,8 @@ use Rattle.answer.specs.Answer.{answered}
 use Rattle.answer.proofs.Orders.{passes}
 use Rattle.answer.proofs.Answers.{then-stops, then-goes-on}
 use Rattle.layout.specs.Shape.{countsOf}
-use Rattle.ninterp.specs.Tables.{nearestAnswer, Judged}
-use Rattle.ninterp.specs.Kinds.{fourOf}
+use Rattle.ninterp.specs.Tables.{nearestAnswer}
+use Rattle.ninterp.specs.Scaffolding.{LookupJudged, fourOf}
 use Rattle.ninterp.proofs.Lookups.{lookup-judged, four-at, picks-nearest}
 use borrow.Author.Needs.{needs}
 use Rattle.ninterp.proofs.interpolator.n.nearest.interpolate.Statement.{statement}
@@ -17,7 +17,7 @@ abbrev start : tie.Else1 → tie.Start
 start e = e .before .before .before .before .before .before
 
 -- what is known where nothing was refused
-known : (e : tie.Else1) → Judged (start e .args .shape) (now (start e .args .nodes)) (now (start e .args .values)) (now (start e .args .point))
+known : (e : tie.Else1) → LookupJudged (start e .args .shape) (now (start e .args .nodes)) (now (start e .args .values)) (now (start e .args .point))
 known e = lookup-judged (start e .args .shape) (now (start e .args .nodes)) (now (start e .args .values)) (now (start e .args .point)) (passes _ _ (e .before .before .lookup-fault .ensures) (e .if1 .left))
 
 returns : tie.Need-returns

@@ -11,7 +11,7 @@ use Rattle.layout.proofs.Totals.{length-ids}
 use Rattle.layout.proofs.Walks.{Walk}
 use Rattle.layout.proofs.Layouts.{place-start}
 use Rattle.ninterp.specs.Tables.{indices}
-use Rattle.axis.specs.Picks.{pickRule}
+use Rattle.axis.specs.Scaffolding.{pickRule}
 use Rattle.ninterp.proofs.Picks.{axis-within, axis-next, flat-next, flat-fits, flat-done}
 use Rattle.ninterp.proofs.interpolator.n.pick.pick_place.Statement.{statement}
 use Rattle.ninterp.proofs.interpolator.n.pick.pick_place.Tie as tie

@@ -3,7 +3,7 @@ use native.Mathlib.Omega.{arith}
 use denote.Ref.{now}
 use Rattle.answer.specs.Answer.{answered}
 use Rattle.layout.specs.Shape.{countsOf}
-use Rattle.axis.specs.Picks.{pickRule}
+use Rattle.axis.specs.Scaffolding.{pickRule}
 use Rattle.ninterp.proofs.Lookups.{stored-at}
 use borrow.Author.Needs.{needs}
 use Rattle.ninterp.proofs.interpolator.n.pick.stored.Statement.{statement}

@@ -8,7 +8,8 @@ use Rattle.answer.proofs.Orders.{passes}
 use Rattle.answer.proofs.Answers.{then-stops, then-goes-on}
 use Rattle.layout.specs.Shape.{countsOf}
 use Rattle.orders.specs.Orders.{stepFault}
-use Rattle.ninterp.specs.Tables.{stepAnswer, Judged}
+use Rattle.ninterp.specs.Tables.{stepAnswer}
+use Rattle.ninterp.specs.Scaffolding.{LookupJudged}
 use Rattle.ninterp.proofs.Lookups.{step-judged, step-lent, step-directions, picks-step}
 use mathlib.Core.Bool.{true}
 use borrow.Author.Needs.{needs}
@@ -22,7 +23,7 @@ passed : (e : tie.Else1) → good (stepFault (start e .args .shape) (now (start 
 passed e = passes _ _ (e .before .before .step-fault .ensures) (e .if1 .left)
 
 -- what is known where nothing was refused
-known : (e : tie.Else1) → Judged (start e .args .shape) (now (start e .args .nodes)) (now (start e .args .values)) (now (start e .args .point))
+known : (e : tie.Else1) → LookupJudged (start e .args .shape) (now (start e .args .nodes)) (now (start e .args .values)) (now (start e .args .point))
 known e = step-judged (start e .args .shape) (now (start e .args .nodes)) (now (start e .args .values)) (now (start e .args .point)) (now (start e .args .directions)) (passed e)
 
 lent : (e : tie.Else1) → length (now (start e .args .directions)) ≡ start e .args .shape .axes

@@ -1,14 +1,36 @@
--- The header's fields as the code has them: a list of widths and a list of the numbers that go there, instead of pairs. And what the parts that put them ask for and give.
+-- Not for the reader of the promises: what the functions below the calls ask for and give one another.
+-- The checker holds the code to it, and no promise cites it.
 use mathlib.Core.Path.{_≡_}
 use mathlib.Core.Bool.{true}
 use mathlib.Core.List.{List, [], _∷_}
 use Prim.Native.Nat.{ℕ, _+_, _≤_, _<_}
 use lib.ListN.{length, getD}
+use lib.Ieee.{Float}
+use Rattle.answer.specs.Answer.{refused}
 use Rattle.answer.specs.Faults.{good}
-use Rattle.checks.specs.Shapes.{shapeFault}
-use Rattle.layout.specs.Shape.{countsOf}
+use Rattle.answer.specs.declared.Fault.{Fault}
+use Rattle.layout.specs.Shape.{countsOf, size, total}
 use Rattle.layout.specs.declared.Shape.{Shape}
-use Rattle.writer.specs.Made.{headerFields}
+use Rattle.checks.specs.Shapes.{shapeFault}
+use Rattle.writer.specs.Made.{imageLength, headerFields}
+use Rattle.writer.specs.declared.WriteAnswer.{WriteAnswer}
+
+-- the answer of a fault, with no length
+unfoldable pub refusedWrite : Fault → WriteAnswer
+refusedWrite fault = record { answer = refused fault; length = 0 }
+
+-- a table that passes 1, 2 and 3
+pub record Framed (s : Shape) (nodes values : List Float) : Type 0 where
+  pub judged : good (shapeFault s) ≡ true
+  pub nodes-long : length nodes ≡ total (countsOf s)
+  pub values-long : length values ≡ size (countsOf s)
+
+-- and room for its image
+pub record Roomy (s : Shape) (nodes values : List Float) (room : ℕ) : Type 0 where
+  pub framed : Framed s nodes values
+  pub room-enough : imageLength s ≤ room
+
+-- ---- the header's fields as the code has them: a list of widths and a list of the numbers that go there, instead of pairs
 
 -- the widths of the fourteen fields, in bytes
 abbrev pub widths : List ℕ
@@ -31,7 +53,7 @@ pub record Fitting (widths fields : List ℕ) (room : ℕ) : Type 0 where
   pub enough : sum widths ≤ room
 
 -- an axis that a header has place for, of a judged shape
-pub record Axis (s : Shape) (axis : ℕ) : Type 0 where
+pub record HeaderAxis (s : Shape) (axis : ℕ) : Type 0 where
   pub judged : good (shapeFault s) ≡ true
   pub four : axis < 4
 

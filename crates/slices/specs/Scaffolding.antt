@@ -1,20 +1,27 @@
--- What the slices' kernels ask for and what they leave: the parts of their contracts.
+-- Not for the reader of the promises: what the functions below the calls ask for and give one another.
+-- The checker holds the code to it, and no promise cites it.
 use mathlib.Core.Path.{_≡_}
 use mathlib.Core.Bool.{true}
 use mathlib.Core.List.{List}
 use Prim.Native.Nat.{ℕ, _+_, _*_, _/_, _%_, _≤_, _<_}
-use lib.ListN.{length, take, drop, getD}
+use lib.ListN.{length, getD, take, drop}
 use lib.Ieee.{Float, nan}
 use lib.Ieee.Scale.{finite}
+use Rattle.answer.specs.Answer.{refused}
 use Rattle.answer.specs.Faults.{filledInto}
 use Rattle.answer.specs.declared.Fault.{Fault}
-use Rattle.layout.specs.Shape.{countsOf, size}
-use Rattle.layout.specs.Layout.{tabulate, without, sliceValues, axisOf}
+use Rattle.layout.specs.Shape.{noShape, countsOf, size}
+use Rattle.layout.specs.Layout.{without, sliceValues, axisOf, tabulate}
 use Rattle.layout.specs.declared.Shape.{Shape}
-use Rattle.checks.specs.Passed.{Grid}
+use Rattle.checks.specs.Scaffolding.{Grid}
 use Rattle.checks.specs.Numbers.{resultsFault}
-use Rattle.axis.specs.Picks.{pickIndex}
-use Rattle.blend.specs.Runs.{blends}
+use Rattle.axis.specs.Scaffolding.{pickIndex}
+use Rattle.blend.specs.Scaffolding.{blends}
+use Rattle.slices.specs.declared.SliceAnswer.{SliceAnswer}
+
+-- what a slice answers of a fault that is known to be one
+unfoldable pub refusedSlice : Fault → SliceAnswer
+refusedSlice f = record { answer = refused f; shape = noShape }
 
 -- a table that can be sliced on an axis: what is known where the checks before a slice were passed (`nearest-ready` ..)
 pub record Ready (s : Shape) (nodes values : List Float) (axis : ℕ) : Type 0 where
@@ -32,19 +39,20 @@ pub record Taken (s : Shape) (axis : ℕ) (p : Float) (room : ℕ) : Type 0 wher
   pub enough : size (without axis (countsOf s)) ≤ room
 
 -- what was judged, and the output with it: filled, or as it was
-pub record Filled (fault : Fault) (xs before : List Float) (r : Fault) (after : List Float) : Type 0 where
+pub record JudgedOutput (fault : Fault) (xs before : List Float) (r : Fault) (after : List Float) : Type 0 where
   pub judged : r ≡ fault
   pub output : after ≡ filledInto fault xs before
 
 -- .. where 12 alone is judged
 abbrev pub Results : List Float → List Float → Fault → List Float → Type 0
-Results xs before r after = Filled (resultsFault xs) xs before r after
+Results xs before r after = JudgedOutput (resultsFault xs) xs before r after
 
 -- the slice at the node that a pick takes
 abbrev pub pickSlice : ℕ → Shape → List Float → List Float → ℕ → Float → List Float
 pickSlice pick s nodes values axis p = sliceValues axis (pickIndex pick (axisOf s nodes axis) p) (countsOf s) values
 
 -- ---- values in runs
+
 -- where value t of the slice at node i of an axis with n nodes stands: in runs of `inner` values that lie n runs apart
 abbrev pub runPlace : ℕ → ℕ → ℕ → ℕ → ℕ
 runPlace n inner i t = (t / inner * n + i) * inner + t % inner

@@ -1,15 +1,16 @@
--- What the parts of `run` give and leave: for the contracts of private functions, and no part of what is promised.
+-- Not for the reader of the promises: what the functions below the calls ask for and give one another.
+-- The checker holds the code to it, and no promise cites it.
 use mathlib.Core.Path.{_≡_}
 use mathlib.Core.Bool.{cond}
-use mathlib.Core.List.{List, []}
+use mathlib.Core.List.{List, [], _++_}
 use Prim.Native.Nat.{ℕ, _≤_}
 use lib.Dec.{eqb}
-use lib.ListN.{length}
+use lib.ListN.{length, take, drop}
 use Rattle.answer.specs.Faults.{refusal}
 use Rattle.answer.specs.Answer.{refused}
 use Rattle.answer.specs.declared.Answer.{Answer}
 use Rattle.lines.specs.Line.{lineOf}
-use Rattle.lines.specs.Put.{put, allInto}
+use Rattle.lines.specs.Put.{put, roomFor, allInto}
 use Rattle.lines.specs.Stream.{Rule, linesOf}
 use Rattle.program.specs.Input.{nothingMore}
 use Rattle.program.specs.Run.{mostRecords}
@@ -31,3 +32,7 @@ endOf rest left = cond (nothingMore rest left) [] (lineOf (refused (refusal 3 0 
 -- the text of a load's answer, and of the records that follow
 unfoldable pub textOf : Answer → Rule → List ℕ → List ℕ
 textOf a p records = cond (eqb (a .number) 0) (linesOf p mostRecords records) (lineOf a)
+
+-- the n bytes at a place moved to the front, the rest as it was; where they are not all there, the buffer as it was
+unfoldable pub shifted : List ℕ → ℕ → ℕ → List ℕ
+shifted d from n = cond (roomFor n d from) (take n (drop from d) ++ drop n d) d

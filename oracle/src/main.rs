@@ -1,26 +1,15 @@
 //! The commands of the oracle; README.md says what each is for.
 
-mod answers;
-mod calls;
 mod compare;
 mod describe;
 mod fast;
-mod header;
-mod image;
-mod lookups;
-mod make;
-mod program;
-mod refusals;
-mod rules;
 mod runs;
 mod self_check;
-mod slices;
-mod table;
-mod table_calls;
-mod table_refusals;
 
 use calls::{Call, NAMES};
 use make::awkward::Runs;
+use ninterp::{answers, calls, header, image, lookups, make, program, refusals, rules, slices};
+use ninterp::{table, table_calls, table_refusals};
 use std::fs;
 use std::io::{self, Read, Write};
 use std::path::Path;

@@ -15,7 +15,7 @@ mod list;
 mod located;
 mod looked_up;
 mod near_uniform;
-mod numbers;
+pub mod numbers;
 mod overflow;
 mod points;
 mod readings;

@@ -44,7 +44,7 @@ pub fn below(x: f64) -> f64 {
 pub struct Seed(u64);
 
 impl Seed {
-    pub fn new() -> Seed {
+    pub(crate) fn new() -> Seed {
         Seed(0x9e37_79b9_7f4a_7c15)
     }
 

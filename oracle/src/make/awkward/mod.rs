@@ -2,9 +2,9 @@
 //! each with many records, and images that are damaged.
 
 mod axes;
-mod damage;
-mod readings;
-mod tables;
+pub mod damage;
+pub mod readings;
+pub mod tables;
 
 use super::images;
 use super::numbers::Seed;

@@ -1,0 +1,21 @@
+//! The table image: the loader.
+
+use crate::{ffi, Refusal, Shape};
+
+/// Reads a table out of an image, to the start of `nodes` and of `values`, which may be longer, and gives its shape.
+///
+/// Refusals: 13, 1, 13, 2, 13, 14 of the header and its areas, 15 (place 0 nodes, 1 values), then 4 to 7.
+///
+/// ```
+/// use ngamsothul::{load, Table, MOST_BYTES};
+///
+/// let mut image = [0; MOST_BYTES];
+/// let length = Table::new(&[2], &[0.0, 2.0], &[10.0, 20.0]).write(&mut image)?;
+/// let (mut nodes, mut values) = ([0.0; 64], [0.0; 64]);
+/// let shape = load(&image[..length], &mut nodes, &mut values)?;
+/// assert_eq!(shape.table(&nodes, &values).linear(&[0.5]), Ok(12.5));
+/// # Ok::<(), ngamsothul::Refusal>(())
+/// ```
+pub fn load(image: &[u8], nodes: &mut [f64], values: &mut [f64]) -> Result<Shape, Refusal> {
+    ffi::load(image, nodes, values).judged()
+}

@@ -1,5 +1,5 @@
 // What all programs share: the table image read from standard input, records fed block by block, what is printed at the end. A
-// program is its `main` and what it does with a block. What can be said as an equation is said in `input` and `turns`; what
+// program is its `main` and what it does with a block. What can be said as an equation is said in `input`, `run` and `turns`; what
 // `read` and `write` do, no contract can say.
 
 // what the bytes of an input say, whatever its table: where the image ends, whether to read on, the input's end
@@ -8,8 +8,6 @@ pub mod input;
 pub mod run;
 // the table image and the blocks, read from standard input
 pub mod stdin;
-// lines printed on standard output
-pub mod stdout;
 // a turn of the buffer: what is left of it is moved to its front
 pub mod turns;
 

@@ -5,3 +5,4 @@ pub mod Loads
 pub mod Laws
 pub mod Refusals
 pub mod Examples
+pub mod Fronts

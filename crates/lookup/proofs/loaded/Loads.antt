@@ -13,19 +13,13 @@ use Rattle.answer.specs.Answer.{refused, answered, fine, _then_}
 use Rattle.answer.specs.declared.Fault.{Fault}
 use Rattle.answer.specs.declared.Answer.{Answer}
 use Rattle.answer.proofs.Answers.{then-good, then-bad, refused-number}
-use Rattle.answer.proofs.Orders.{clash, given-good}
-use Rattle.answer.proofs.Outputs.{given-front}
-use Rattle.layout.specs.Shape.{noShape}
+use Rattle.answer.proofs.Orders.{clash}
 use Rattle.checks.specs.Scaffolding.{sizesOf}
 use Rattle.checks.specs.declared.shapes.Holding.{Holding}
-use Rattle.checks.proofs.shapes.Frames.{holds-nodes, holds-values}
-use Rattle.image.specs.Fields.{shapeOf}
-use Rattle.image.specs.Image.{nodesIn, valuesIn}
 use Rattle.image.specs.Load.{loadFault, loadAnswer, Loaded}
 use Rattle.image.specs.declared.LoadAnswer.{LoadAnswer}
-use Rattle.image.proofs.Laws.{loaded-shape}
+use Rattle.image.proofs.Fronts.{front-shape, front-many, front-large, front-nodes, front-values}
 use Rattle.image.proofs.Loads.{nodes-fit, values-fit}
-use Rattle.image.proofs.Floats.{nodes-total, values-size}
 use Rattle.lines.specs.Line.{lineOf}
 use Rattle.program.specs.Input.{imageIn}
 use Rattle.program.specs.Run.{runOf}
@@ -72,29 +66,19 @@ module _ {img : List ℕ} {nodes values nodes′ values′ : List Float} {r : Lo
     given : good (loadFault img (length nodes) (length values)) ≡ true
     given = ap good same ∙ loads
 
-    shaped : r .shape ≡ shapeOf img
-    unfolding loadAnswer
-    shaped = ap (λ (x : LoadAnswer). x .shape) (l .answer) ∙ given-good (loadFault img (length nodes) (length values)) (shapeOf img) noShape given
-
-    many : length (nodesIn img) ≡ z .nodes
-    many = nodes-total img (loaded-shape img 256 4096 loads) ∙ sym (holds-nodes (shapeOf img) (loaded-shape img 256 4096 loads) z (e ∙ ap sizesOf shaped))
-
-    large : length (valuesIn img) ≡ z .values
-    large = values-size img ∙ sym (holds-values (shapeOf img) (loaded-shape img 256 4096 loads) z (e ∙ ap sizesOf shaped))
-
     pub nodes-there : length nodes′ ≡ length nodes → z .nodes ≤ length nodes′
-    nodes-there k = omega (arith, k, n, many, nodes-fit img 256 4096 loads)
+    nodes-there k = omega (arith, k, n, front-many l given z e, nodes-fit img 256 4096 loads)
 
     pub values-there : length values′ ≡ length values → z .values ≤ length values′
-    values-there k = omega (arith, k, v, large, values-fit img 256 4096 loads)
+    values-there k = omega (arith, k, v, front-large l given z e, values-fit img 256 4096 loads)
 
     -- the table stands at the fronts of both outputs
     pub table : TableOf img (r .shape) (take (z .nodes) nodes′) (take (z .values) values′)
     table = record {
       loads = loads;
-      shape-is = shaped;
-      nodes-are = ap₂ take (sym many) (l .nodes-out) ∙ given-front (loadFault img (length nodes) (length values)) (nodesIn img) nodes given;
-      values-are = ap₂ take (sym large) (l .values-out) ∙ given-front (loadFault img (length nodes) (length values)) (valuesIn img) values given;
+      shape-is = front-shape l given;
+      nodes-are = front-nodes l given z e;
+      values-are = front-values l given z e;
     }
 
 pub refused-whole : (img : List ℕ) (printed : ℕ) (ok : Bool) → good (loadFault img 256 4096) ≡ false → printed ≡ length (runOf img)

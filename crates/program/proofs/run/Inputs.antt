@@ -1,5 +1,5 @@
 -- From an input to the table and the records of its run. Assumes nothing.
-use mathlib.Core.Path.{_≡_, refl, sym, ap, ap₂, _∙_, subst}
+use mathlib.Core.Path.{_≡_, refl, sym, ap, _∙_, subst}
 use mathlib.Core.Bool.{Bool, true, false, cond}
 use mathlib.Core.Logic.{_⊎_, inl, inr}
 use mathlib.Core.List.{List}
@@ -15,20 +15,14 @@ use Rattle.answer.specs.declared.Fault.{Fault}
 use Rattle.answer.specs.declared.Answer.{Answer}
 use Rattle.answer.proofs.Orders as orders
 use Rattle.answer.proofs.Answers.{then-good, then-bad, refused-number}
-use Rattle.answer.proofs.Outputs.{given-front}
 use Rattle.checks.specs.Scaffolding.{sizesOf}
 use Rattle.checks.specs.declared.shapes.Holding.{Holding}
-use Rattle.checks.proofs.shapes.Frames.{holds-nodes, holds-values}
-use Rattle.layout.specs.Shape.{noShape}
 use Rattle.layout.proofs.Totals.{take-there}
 use Rattle.lines.specs.Line.{lineOf}
 use Rattle.lines.specs.Stream.{linesOf}
-use Rattle.image.specs.Image.{nodesIn, valuesIn}
-use Rattle.image.specs.Fields.{shapeOf}
 use Rattle.image.specs.Load.{loadFault, loadAnswer, Loaded}
 use Rattle.image.specs.declared.LoadAnswer.{LoadAnswer}
-use Rattle.image.proofs.Floats.{nodes-total, values-size}
-use Rattle.image.proofs.Laws.{loaded-shape}
+use Rattle.image.proofs.Fronts.{front-shape, front-nodes, front-values}
 use Rattle.ninterp.specs.Records.{recordRule}
 use Rattle.program.specs.Input.{imageSize, imageIn}
 use Rattle.program.specs.Scaffolding.{textOf}
@@ -37,6 +31,9 @@ use Rattle.program.specs.declared.run.RunAnswer.{RunAnswer}
 
 -- ---- the table that stands at the fronts of what was loaded
 
+least-front : (n m : ℕ) (xs : List Float) → n ≡ min m (length xs) → take n xs ≡ take m xs
+least-front n m xs q = ap (λ (k : ℕ). take k xs) q ∙ take-there m xs
+
 module _ {img : List ℕ} {ns vs ns′ vs′ : List Float} {r : LoadAnswer} (l : Loaded img ns vs ns′ vs′ r) where
   abbrev fault : Fault
   fault = loadFault img (length ns) (length vs)
@@ -44,29 +41,6 @@ module _ {img : List ℕ} {ns vs ns′ vs′ : List Float} {r : LoadAnswer} (l :
   told : r .answer ≡ (fault then fine)
   unfolding loadAnswer
   told = ap (λ (a : LoadAnswer). a .answer) (l .answer)
-
-  module _ (g : good fault ≡ true) where
-    shape : r .shape ≡ shapeOf img
-    unfolding loadAnswer
-    shape = ap (λ (a : LoadAnswer). a .shape) (l .answer) ∙ orders.given-good fault (shapeOf img) noShape g
-
-    module _ (h : Holding) (e : h ≡ sizesOf (r .shape)) where
-      held : h ≡ sizesOf (shapeOf img)
-      held = e ∙ ap sizesOf shape
-
-      nodes : (n : ℕ) → n ≡ min (h .nodes) (length ns′) → take n ns′ ≡ nodesIn img
-      nodes n q =
-          ap (λ (k : ℕ). take k ns′) q
-          ∙ take-there (h .nodes) ns′
-          ∙ ap₂ (λ (k : ℕ) (xs : List Float). take k xs) (holds-nodes (shapeOf img) (loaded-shape img (length ns) (length vs) g) h held ∙ sym (nodes-total img (loaded-shape img (length ns) (length vs) g))) (l .nodes-out)
-          ∙ given-front fault (nodesIn img) ns g
-
-      values : (n : ℕ) → n ≡ min (h .values) (length vs′) → take n vs′ ≡ valuesIn img
-      values n q =
-          ap (λ (k : ℕ). take k vs′) q
-          ∙ take-there (h .values) vs′
-          ∙ ap₂ (λ (k : ℕ) (xs : List Float). take k xs) (holds-values (shapeOf img) (loaded-shape img (length ns) (length vs) g) h held ∙ sym (values-size img)) (l .values-out)
-          ∙ given-front fault (valuesIn img) vs g
 
   -- its text, by what the load answered
   pub text-loaded : (h : Holding) → h ≡ sizesOf (r .shape) → (n v : ℕ) → n ≡ min (h .nodes) (length ns′) → v ≡ min (h .values) (length vs′) → (records : List ℕ)
@@ -77,7 +51,7 @@ module _ {img : List ℕ} {ns vs ns′ vs′ : List Float} {r : LoadAnswer} (l :
       go : (b : Bool) → good fault ≡ b → textOf (r .answer) (recordRule (r .shape) (take n ns′) (take v vs′)) records ≡ cond b (linesOf (ruleOf img) mostRecords records) (lineOf (refused fault))
       go true g =
           ap (λ (a : Answer). textOf a (recordRule (r .shape) (take n ns′) (take v vs′)) records) (told ∙ then-good fault fine g)
-          ∙ rw (shape g, nodes g h e n q, values g h e v u)
+          ∙ rw (front-shape l g, least-front n (h .nodes) ns′ q ∙ front-nodes l g h e, least-front v (h .values) vs′ u ∙ front-values l g h e)
       go false g =
           ap (λ (a : Answer). textOf a (recordRule (r .shape) (take n ns′) (take v vs′)) records) (told ∙ then-bad fault fine g)
           ∙ ap (λ (b : Bool). cond b (linesOf (recordRule (r .shape) (take n ns′) (take v vs′)) mostRecords records) (lineOf (refused fault))) (refused-number fault ∙ g)

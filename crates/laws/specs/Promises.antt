@@ -1,6 +1,5 @@
--- THE PAGE OF PROMISES: the three demands, sentence by sentence, over what the calls answer and leave. Nothing but statements; `demand-1`, `demand-2` and
--- `demand-3` (laws/proofs/Promises.antt) inhabit the three records at the end, so that no statement of them can be left out. What a call is lent and what it
--- answers: Calls.antt.
+-- THE PAGE OF PROMISES: the three demands, sentence by sentence, over what the calls (Calls.antt) answer and leave. Nothing but statements; `demand-1`,
+-- `demand-2` and `demand-3` (laws/proofs/Promises.antt) inhabit the three records at the end, so that no statement of them can be left out.
 use mathlib.Core.Path.{_≡_}
 use mathlib.Core.Bool.{true, false}
 use mathlib.Core.List.{List, [], _∷_, _++_}
@@ -63,8 +62,8 @@ Uniform t = validateLinearUniform (axesOf (counts t) (t .nodes .list)) ≡ ok
 
 -- ==== What is said of any of them
 
--- "The first fault found is answered": a fault of an order of checks (orders/specs/Orders.antt), whose rows are the table of numbers
--- (checks/specs/Numbers.antt), is the answer. Rows and orders are the paper's own words, and are read with this page.
+-- "The first fault found is answered": by an order of checks (orders/specs/Orders.antt) over the rows of the table of numbers (checks/specs/Numbers.antt),
+-- which are the paper's own sentences and are read with this page
 abbrev pub Refuses : Fault → Answer → Type 0
 Refuses f a = good f ≡ false → a ≡ refused f
 
@@ -86,7 +85,6 @@ pub record Sliceable (t : Table) (k : ℕ) (p : Float) (out : List Float) : Type
   pub inside : Within t k p
   pub room : size (without k (counts t)) ≤ length out
 
--- ---- the Rust beside them
 -- values that are the table's at its own index lists, and anything at all elsewhere: a text that gives one number for all of these reads nothing else
 pub record Elements (t : Table) (g : List ℕ → Float) : Type 0 where
   pub same : (is : List ℕ) → Inside is (counts t) → g is ≡ stored t is
@@ -102,7 +100,6 @@ rustOf text t g ps = text (counts t) g (axesOf (counts t) (t .nodes .list)) (ps 
 abbrev pub along : Text → Table → ℕ → Float → List ℕ → Float
 along text t k p is = text (getD (counts t) k 0 ∷ []) (λ js. stored t (insert k (getD js 0 0) is)) (axis t k ∷ []) (p ∷ [])
 
--- ---- a slice, then another call
 -- what a slice on axis k leaves, lent as a table: the shape that it answers, the nodes of the other axes, the first places of its output
 pub record After (t : Table) (k : ℕ) (made : SliceAnswer × List Float) (t' : Table) : Type 0 where
   pub shape : t' .shape ≡ made .0 .shape
@@ -134,7 +131,7 @@ Commute slice left = (t one other : Table) (k m : ℕ) (p q : Float) (out out' a
     × ((nodesWithout m (counts one) (one .nodes .list) ≡ nodesWithout k (counts other) (other .nodes .list))
     × (axes t ≡ 2 → left k one m q again .0 .answer ≡ refused (refusal 16 0 0)))
 
--- ---- a table that a load left: the shape that it answers, and the fronts of its outputs
+-- a table that a load left: the shape that it answers, and the fronts of its outputs
 pub record Loaded (loaded : LoadAnswer × (List Float × List Float)) (t : Table) : Type 0 where
   pub shape : t .shape ≡ loaded .0 .shape
   pub nodes : t .nodes .list ≡ take (total (counts t)) (loaded .1 .0)
@@ -154,7 +151,7 @@ pub record OnNodes (t : Table) (ps : Floats) (at : ℕ → ℕ) : Type 0 where
   pub there : (a : ℕ) → a < axes t → at a < length (axis t a)
   pub on : (a : ℕ) → a < axes t → eq (node (axis t a) (at a)) (getD (ps .list) a nan) ≡ true
 
--- ---- witnesses: a table on which LinearUniform refuses 12; an accepted table of two axes
+-- witnesses: a table on which LinearUniform refuses 12; an accepted table of two axes
 pub record Overflows : Type 0 where
   pub t : Table
   pub ps : Floats
@@ -213,8 +210,7 @@ pub record Demand2 : Type 0 where
   pub linear-gives : (t : Table) (ps : Floats) (g : List ℕ → Float) → Accepted t → InRange t ps → Elements t g
       → (linear t ps ≡ answered (rustOf linearText t g ps)) × (finite (rustOf linearText t g ps) ≡ true)
   pub nearest-gives : (t : Table) (ps : Floats) (g : List ℕ → Float) → Accepted t → InRange t ps → Elements t g → nearest t ps ≡ answered (rustOf nearestText t g ps)
-  pub step-gives : (t : Table) (ps : Floats) (g : List ℕ → Float) (ds : List ℕ) → Accepted t → InRange t ps → Elements t g → Directed t ds
-      → step ds t ps ≡ answered (rustOf (stepText ds) t g ps)
+  pub step-gives : (t : Table) (ps : Floats) (g : List ℕ → Float) (ds : List ℕ) → Accepted t → InRange t ps → Elements t g → Directed t ds → step ds t ps ≡ answered (rustOf (stepText ds) t g ps)
   -- LinearUniform ".. or refusal 12 exactly where those bits are not finite", which does happen
   pub linear-uniform-gives : (t : Table) (ps : Floats) (g : List ℕ → Float) → Accepted t → Uniform t → InRange t ps → Elements t g
       → (finite (rustOf linearUniformText t g ps) ≡ true → linearUniform t ps ≡ answered (rustOf linearUniformText t g ps))
@@ -236,8 +232,7 @@ pub record Demand3 : Type 0 where
   pub step-slices : (t : Table) (k : ℕ) (p : Float) (out : List Float) (ds : List ℕ) → Sliceable t k p out → Directed t ds → sliceStep ds t k p out .0 .answer ≡ fine
   -- .. LinearUniform's where its values are finite, and else it is refused 12 at the first place of the slice where one is not
   pub linear-uniform-slices : (t : Table) (p : Float) (out : List Float) → Sliceable t 0 p out → Uniform t
-      → ((i : ℕ) → i < size (without 0 (counts t)) → finite (along linearUniformText t 0 p (indicesAt (without 0 (counts t)) i)) ≡ true)
-      → sliceLinearUniform t 0 p out .0 .answer ≡ fine
+      → ((i : ℕ) → i < size (without 0 (counts t)) → finite (along linearUniformText t 0 p (indicesAt (without 0 (counts t)) i)) ≡ true) → sliceLinearUniform t 0 p out .0 .answer ≡ fine
   pub linear-uniform-slice-overflows : (t : Table) (p : Float) (out : List Float) (i : ℕ) → Sliceable t 0 p out → Uniform t → i < size (without 0 (counts t))
       → ((j : ℕ) → j < i → finite (along linearUniformText t 0 p (indicesAt (without 0 (counts t)) j)) ≡ true)
       → finite (along linearUniformText t 0 p (indicesAt (without 0 (counts t)) i)) ≡ false → sliceLinearUniform t 0 p out .0 .answer ≡ refused (refusal 12 0 i)

@@ -8,7 +8,8 @@ use writer::WriteAnswer;
 // Reads a table out of an image into two outputs, which may be longer.
 #[no_mangle]
 pub extern "C" fn ng_load(img: &[u8], nodes: &mut [f64], values: &mut [f64]) -> LoadAnswer
-    ensures { λ r. ⌜ Loaded (now (img .entry)) (now (nodes .entry)) (now (values .entry)) (now (nodes .exit)) (now (values .exit)) r ⌝ }
+    ensures { λ r. ⌜ Loaded (now (img .entry)) (now (nodes .entry)) (now (values .entry))
+        (now (nodes .exit)) (now (values .exit)) r ⌝ }
 {
     image::load(img, nodes, values)
 }

@@ -42,7 +42,8 @@ fn read_nodes(img: &[u8], out: &mut [f64])
 // Reads the nodes and the values into the fronts of two outputs.
 pub(crate) fn read(img: &[u8], nodes: &mut [f64], values: &mut [f64])
     requires { ⌜ Rooms (now img) (length (now nodes)) (length (now values)) ⌝ }
-    ensures { λ _. ⌜ OutputsFilled (now (img .entry)) (now (nodes .entry)) (now (values .entry)) (now (nodes .exit)) (now (values .exit)) ⌝ }
+    ensures { λ _. ⌜ OutputsFilled (now (img .entry)) (now (nodes .entry)) (now (values .entry))
+        (now (nodes .exit)) (now (values .exit)) ⌝ }
 {
     read_nodes(img, nodes);
     let held = fields::sizes_of(img);

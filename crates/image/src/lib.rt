@@ -62,7 +62,8 @@ fn refused(fault: Fault) -> LoadAnswer
 
 // Reads a table out of an image into two outputs, which may be longer.
 pub fn load(img: &[u8], nodes: &mut [f64], values: &mut [f64]) -> LoadAnswer
-    ensures { λ r. ⌜ Loaded (now (img .entry)) (now (nodes .entry)) (now (values .entry)) (now (nodes .exit)) (now (values .exit)) r ⌝ }
+    ensures { λ r. ⌜ Loaded (now (img .entry)) (now (nodes .entry)) (now (values .entry))
+        (now (nodes .exit)) (now (values .exit)) r ⌝ }
 {
     let fault = load_fault(img, nodes.len(), values.len());
     if fault.number != 0 {

@@ -57,7 +57,8 @@ pub fn nearest(
     out: &mut [f64],
 ) -> SliceAnswer
     ensures { λ r. ⌜ r ≡ nearestSlice shape (now (nodes .entry)) (now (values .entry)) axis point (length (now (out .entry))) ⌝ }
-    ensures { λ r. ⌜ now (out .exit) ≡ nearestSliced shape (now (nodes .entry)) (now (values .entry)) axis point (now (out .entry)) ⌝ }
+    ensures { λ r. ⌜ now (out .exit) ≡ nearestSliced shape (now (nodes .entry)) (now (values .entry)) axis point
+        (now (out .entry)) ⌝ }
 {
     let fault = before_slice::nearest_front(shape, nodes, values, axis);
     if fault.number != 0 {
@@ -105,7 +106,8 @@ pub fn linear(
     out: &mut [f64],
 ) -> SliceAnswer
     ensures { λ r. ⌜ r ≡ linearSlice shape (now (nodes .entry)) (now (values .entry)) axis point (length (now (out .entry))) ⌝ }
-    ensures { λ r. ⌜ now (out .exit) ≡ linearSliced shape (now (nodes .entry)) (now (values .entry)) axis point (now (out .entry)) ⌝ }
+    ensures { λ r. ⌜ now (out .exit) ≡ linearSliced shape (now (nodes .entry)) (now (values .entry)) axis point
+        (now (out .entry)) ⌝ }
 {
     let fault = before_slice::linear_front(shape, nodes, values, axis);
     if fault.number != 0 {
@@ -124,7 +126,8 @@ pub fn linear_uniform(
     point: f64,
     out: &mut [f64],
 ) -> SliceAnswer
-    ensures { λ r. ⌜ r ≡ linearUniformSlice shape (now (nodes .entry)) (now (values .entry)) axis point (length (now (out .entry))) ⌝ }
+    ensures { λ r. ⌜ r ≡ linearUniformSlice shape (now (nodes .entry)) (now (values .entry)) axis point
+        (length (now (out .entry))) ⌝ }
     ensures { λ r. ⌜
         now (out .exit) ≡ linearUniformSliced shape (now (nodes .entry)) (now (values .entry)) axis point (now (out .entry))
         ⌝ }

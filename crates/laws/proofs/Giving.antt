@@ -35,13 +35,14 @@ use Rattle.ninterp.proofs.LinearFinite.{held-axis, linear-always, linear-given}
 use Rattle.ninterp.proofs.Rusts.{linear-text, linear-uniform-text, nearest-text, step-text}
 use Rattle.image.specs.Load.{loadAnswer}
 use Rattle.image.specs.declared.LoadAnswer.{LoadAnswer}
-use Rattle.writer.specs.Made.{valuesAt, imageLength}
+use Rattle.writer.specs.Made.{valuesAt, imageLength, countIn}
 use Rattle.writer.specs.Write.{writeFault, writeAnswer, plain}
 use Rattle.writer.proofs.Headers.{count-in}
 use Rattle.writer.proofs.Laws.{write-accepts}
 use Rattle.writer.proofs.Trip.{answer-back, nodes-returned, values-returned}
 use Rattle.laws.specs.Calls.{Floats, Table, axes, counts, axis, stored, linear, linearUniform, nearest, step, write, load}
 use Rattle.laws.specs.Promises.{Accepted, Within, InRange, Directed, Uniform, Elements, rustOf, Returns, OnNodes}
+use Rattle.laws.proofs.Leaving.{zeros-past}
 use Rattle.laws.proofs.Premises.{counted, passes, readings-pass, uniform-passes}
 
 -- ---- the Rust's bits
@@ -93,6 +94,7 @@ image-back t out ns vs a room n v = (
     answer = ap (λ (x : LoadAnswer). x .answer) loaded;
     axes-back = ap (λ (x : LoadAnswer). x .shape .axes) loaded ∙ plain-axes;
     counts-back = ap (λ (x : LoadAnswer). countsOf (x .shape)) loaded ∙ count-in s (frame-shape s nodes values (passes t a .frame)) (t .four);
+    zeros-past = λ b h. ap (λ (x : LoadAnswer). getD (x .shape .counts) b 0) loaded ∙ plain-zeros b (omega (arith, ap (λ (x : LoadAnswer). x .shape .axes) loaded ∙ plain-axes, h));
     nodes-back = nodes-returned s (t .four) nodes values (t .nodes .held) (t .values .held) out g ns vs ln lv;
     values-back = values-returned s (t .four) nodes values (t .nodes .held) (t .values .held) out g ns vs ln lv;
   },
@@ -121,6 +123,9 @@ image-back t out ns vs a room n v = (
 
     loaded : loadAnswer (take (write t out .0 .length) (write t out .1)) (length ns) (length vs) ≡ record { answer = fine; shape = plain (t .shape) }
     loaded = answer-back s (t .four) nodes values (t .nodes .held) (t .values .held) out g ns vs ln lv
+
+    plain-zeros : (b : ℕ) → axes t ≤ b → getD (plain (t .shape) .counts) b 0 ≡ 0
+    plain-zeros b h = unfold plain countIn in zeros-past (counts t) b (omega (arith, h, counted t (a .few)))
 
     plain-axes : plain (t .shape) .axes ≡ axes t
     plain-axes = unfold plain in refl

@@ -1,5 +1,5 @@
 -- Demand 1 of the page of promises: every call judges, tells and keeps. Assumes nothing.
-use mathlib.Core.Path.{_≡_, refl, sym, ap, _∙_, subst}
+use mathlib.Core.Path.{_≡_, refl, sym, ap, ap₂, _∙_, subst}
 use mathlib.Core.Bool.{Bool, true, false}
 use mathlib.Core.List.{List}
 use Prim.Native.Nat.{ℕ, _≤_}
@@ -250,6 +250,10 @@ module _ (img : List ℕ) (ns vs : List Float) where
       (keeps fault (nodesIn img) ns _ (λ g. (node-count g, node-room g)), keeps fault (valuesIn img) vs _ (λ g. (value-count g, value-room g))),
     ),
   )
+
+  pub load-given : good fault ≡ true → load img ns vs .0 ≡ record { answer = fine; shape = shapeOf img }
+  unfolding loadAnswer
+  load-given g = ap₂ (λ (a : Answer) (s : Shape). record { answer = a; shape = s }) (then-good fault fine g) (shape-given g)
 
   -- the table that stands at the fronts of the outputs
   pub load-judged : (t : Table) → load img ns vs .0 .answer .number ≡ 0 → Loaded (load img ns vs) t → Accepted t

@@ -1,12 +1,13 @@
 -- Demand 3 of the page of promises: what a slice leaves is an accepted table, with the values that its rule gives along the axis alone; where a slice by
 -- LinearUniform is refused 12. Assumes nothing.
 use mathlib.Core.Path.{_≡_, refl, sym, ap, _∙_, subst}
-use mathlib.Core.Bool.{true, false}
+use mathlib.Core.Bool.{Bool, true, false}
 use mathlib.Core.List.{List, [], _∷_}
 use Prim.Native.Nat.{ℕ, zero, suc, _+_, _-_, _≤_, _<_}
 use native.Mathlib.Omega.{arith}
-use lib.Dec.{T}
-use lib.ListN.{length, take, drop, getD}
+use borrow.Author.Tests.{ltb-true, ltb-false}
+use lib.Dec.{T, ltb}
+use lib.ListN.{length, take, drop, getD, List·getD-eq-default}
 use lib.Ieee.{Float, nan, binary64, mul, sub, fits}
 use lib.Ieee.Scale.{finite}
 use lib.Ieee.Fits.{nan-fits, add-fits}
@@ -20,7 +21,7 @@ use Rattle.binary64.proofs.Held.{Held, held-take, held-drop}
 use Rattle.layout.specs.Shape.{countsOf, size}
 use Rattle.layout.specs.Layout.{place, table, tabulate, indicesAt, Inside, insert, without, sliceValues, nodesWithout}
 use Rattle.layout.specs.declared.Shape.{Shape}
-use Rattle.layout.proofs.Layouts.{getD-tabulate}
+use Rattle.layout.proofs.Layouts.{getD-tabulate, length-tabulate}
 use Rattle.layout.proofs.Removals.{slice-law}
 use Rattle.checks.specs.Passed.{Axis}
 use Rattle.checks.specs.Numbers.{rangeFault, resultFault, resultsFault}
@@ -43,7 +44,7 @@ use Rattle.slices.proofs.Refusals.{made-shape}
 use Rattle.slices.proofs.Alongs.{length-along}
 use Rattle.writer.proofs.Back.{held-append}
 use Rattle.laws.specs.Calls.{Table, axes, counts, axis, stored, sliceLinear, sliceLinearUniform, sliceNearest, sliceStep}
-use Rattle.laws.specs.Promises.{Sliceable, Uniform, along, After, Left, Values}
+use Rattle.laws.specs.Promises.{Sliceable, Uniform, along, ZerosPast, After, Left, Values}
 use Rattle.laws.proofs.Left as over
 use Rattle.laws.proofs.Left.{Cut}
 use Rattle.laws.proofs.SliceLaw as law
@@ -84,9 +85,21 @@ four-counts : (s : Shape) (k : ℕ) → length (shapeWithout s k .counts) ≡ 4
 unfolding shapeWithout
 four-counts s k = refl
 
+-- counts past the axes are zeros where a list of no more counts is laid into four places
+pub zeros-past : (xs : List ℕ) (a : ℕ) → length xs ≤ a → getD (tabulate 4 (λ b. getD xs b 0)) a 0 ≡ 0
+zeros-past xs a h = go (ltb a 4) (ltb-true a 4) (ltb-false a 4)
+  where
+    go : (b : Bool) → (b ≡ true → a < 4) → (b ≡ false → 4 ≤ a) → getD (tabulate 4 (λ b. getD xs b 0)) a 0 ≡ 0
+    go true y n = getD-tabulate 4 a (λ b. getD xs b 0) 0 (y refl) ∙ List·getD-eq-default xs 0 {n = a} h
+    go false y n = List·getD-eq-default (tabulate 4 (λ b. getD xs b 0)) 0 {n = a} (omega (arith, n refl, length-tabulate 4 (λ b. getD xs b 0)))
+
+zeros-left : (s : Shape) (k : ℕ) → s .axes ≡ suc (length (without k (countsOf s))) → ZerosPast (shapeWithout s k)
+unfolding shapeWithout
+zeros-left s k e a h = zeros-past (without k (countsOf s)) a (omega (arith, e, h))
+
 leaves : (t : Table) (k : ℕ) (p : Float) (xs : List Float) → Cut (t .shape) (t .nodes .list) (t .values .list) k p xs → Held xs → (f : Fault) (out : List Float) → good f ≡ true
     → Left t k (sliceAnswer f (t .shape) k, filledInto f xs out)
-leaves t k p xs cut held f out g = record { t' = rest; after = after; accepted = accepted rest (over.slice-accepted cut) }
+leaves t k p xs cut held f out g = record { t' = rest; after = after; accepted = accepted rest (over.slice-accepted cut); zeros = zeros-left (t .shape) k (over.count-left cut) }
   where
     rest : Table
     rest = record {

@@ -9,9 +9,9 @@ pub mod Commutes
 pub mod Premises
 pub mod Primitives
 pub mod Judging
-pub mod Giving
 pub mod Slicing
 pub mod Leaving
+pub mod Giving
 pub mod Square
 pub mod Commuting
 pub mod Promises

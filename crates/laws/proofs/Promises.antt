@@ -78,8 +78,10 @@ demand-1 = record {
   record-tells = λ t rec. judging.tells (record-told (t .shape) (t .nodes .list) (t .values .list) rec);
   lookups-refuse = λ t ps. ((λ h. then-bad _ _ h, λ h. then-bad _ _ h), (λ h. then-bad _ _ h, λ ds h. then-bad _ _ h));
   slices-refuse = λ t k p out. ((λ h. then-bad _ fine h, λ h. then-bad _ fine h), (λ h. then-bad _ fine h, λ ds h. then-bad _ fine h));
+  record-refuses = λ t rec h. then-bad _ _ h;
   load-refuses = λ img ns vs h. then-bad _ fine h;
   write-refuses = λ t out h. then-bad _ fine h;
+  load-gives = judging.load-given;
   slices-keep = (
     λ t k p out. judging.slice-keeps _ (t .shape) k _ out _ (judging.linear-fits t k p out),
     (

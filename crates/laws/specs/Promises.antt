@@ -9,25 +9,26 @@ use lib.Ieee.{Float, nan, le, eq}
 use lib.Ieee.Scale.{finite}
 use Rattle.answer.specs.Faults.{refusal, good}
 use Rattle.answer.specs.Answer.{refused, answered, fine}
-use Rattle.answer.specs.declared.Fault.{Fault}
 use Rattle.answer.specs.declared.Answer.{Answer}
 use Rattle.layout.specs.Shape.{countsOf, size, total, noShape}
 use Rattle.layout.specs.Layout.{axesOf, tabulate, indicesAt, Inside, insert, without, nodesWithout}
+use Rattle.layout.specs.declared.Shape.{Shape}
 use Rattle.checks.specs.Nodes.{node}
 use Rattle.checks.specs.Passed.{Axis}
 use Rattle.orders.specs.Orders.{lookupFault, stepFault, linearUniformFault, nearestSliceFault, stepSliceFault}
 use Rattle.bytes.specs.Words.{floatAt}
 use Rattle.rust.specs.Utils.{ok}
 use Rattle.rust.specs.Strategies.{linearText, linearUniformText, nearestText, stepText, validateLinearUniform}
-use Rattle.ninterp.specs.Records.{kindAnswer}
+use Rattle.ninterp.specs.Records.{kindAnswer, recordFault}
 use Rattle.slices.specs.LinearSlices.{linearSliceFault, linearUniformSliceFault}
 use Rattle.slices.specs.declared.SliceAnswer.{SliceAnswer}
+use Rattle.image.specs.Fields.{shapeOf}
 use Rattle.image.specs.Load.{loadFault}
 use Rattle.image.specs.declared.LoadAnswer.{LoadAnswer}
 use Rattle.writer.specs.Write.{writeFault}
 use Rattle.laws.specs.Lowered.{lowered}
 use Rattle.laws.specs.Calls.{Floats, Table, axes, counts, axis, stored, on, Lookup, linear, linearUniform, nearest, step, EveryLookup, Slice, sliceLinear, sliceLinearUniform, sliceNearest, sliceStep, EverySlice, load, write, record-of}
-use Rattle.laws.specs.Primitives.{Tells, Primitives}
+use Rattle.laws.specs.Primitives.{Tells, Refuses, Primitives}
 
 -- ==== What is asked of a table and a reading
 
@@ -62,11 +63,6 @@ Uniform t = validateLinearUniform (axesOf (counts t) (t .nodes .list)) ≡ ok
 
 -- ==== What is said of any of them
 
--- "The first fault found is answered": by an order of checks (orders/specs/Orders.antt) over the rows of the table of numbers (checks/specs/Numbers.antt),
--- which are the paper's own sentences and are read with this page
-abbrev pub Refuses : Fault → Answer → Type 0
-Refuses f a = good f ≡ false → a ≡ refused f
-
 -- "(+0.0 where a call gives none)"
 abbrev pub Plain : Answer → Type 0
 Plain a = Tells a × (a .number ≡ 0 → a ≡ fine)
@@ -100,6 +96,10 @@ rustOf text t g ps = text (counts t) g (axesOf (counts t) (t .nodes .list)) (ps 
 abbrev pub along : Text → Table → ℕ → Float → List ℕ → Float
 along text t k p is = text (getD (counts t) k 0 ∷ []) (λ js. stored t (insert k (getD js 0 0) is)) (axis t k ∷ []) (p ∷ [])
 
+-- the counts past its axes in a shape that a call gives
+abbrev pub ZerosPast : Shape → Type 0
+ZerosPast s = (a : ℕ) → s .axes ≤ a → getD (s .counts) a 0 ≡ 0
+
 -- what a slice on axis k leaves, lent as a table: the shape that it answers, the nodes of the other axes, the first places of its output
 pub record After (t : Table) (k : ℕ) (made : SliceAnswer × List Float) (t' : Table) : Type 0 where
   pub shape : t' .shape ≡ made .0 .shape
@@ -111,6 +111,7 @@ pub record Left (t : Table) (k : ℕ) (made : SliceAnswer × List Float) : Type 
   pub t' : Table
   pub after : After t k made t'
   pub accepted : Accepted t'
+  pub zeros : ZerosPast (t' .shape)
 
 -- "Each of its values is what the same rule gives along that axis alone."
 abbrev pub Values : (ℕ → Text) → Slice → Type 0
@@ -137,11 +138,12 @@ pub record Loaded (loaded : LoadAnswer × (List Float × List Float)) (t : Table
   pub nodes : t .nodes .list ≡ take (total (counts t)) (loaded .1 .0)
   pub values : t .values .list ≡ take (size (counts t)) (loaded .1 .1)
 
--- the table comes back from an image; counts past its axes, which are not looked at, as zeros
+-- the table comes back from an image
 pub record Returns (t : Table) (ns vs : List Float) (loaded : LoadAnswer × (List Float × List Float)) : Type 0 where
   pub answer : loaded .0 .answer ≡ fine
   pub axes-back : loaded .0 .shape .axes ≡ axes t
   pub counts-back : countsOf (loaded .0 .shape) ≡ counts t
+  pub zeros-past : ZerosPast (loaded .0 .shape)
   pub nodes-back : loaded .1 .0 ≡ t .nodes .list ++ drop (length (t .nodes .list)) ns
   pub values-back : loaded .1 .1 ≡ t .values .list ++ drop (length (t .values .list)) vs
 
@@ -164,6 +166,7 @@ pub record TwoAxes : Type 0 where
   pub t : Table
   pub two : axes t ≡ 2
   pub accepted : Accepted t
+  pub uniform : Uniform t
 
 -- ==== The demands
 
@@ -192,8 +195,10 @@ pub record Demand1 : Type 0 where
       × Refuses (on t linearUniformSliceFault k p (length out)) (sliceLinearUniform t k p out .0 .answer))
       × (Refuses (on t nearestSliceFault k p (length out)) (sliceNearest t k p out .0 .answer)
       × ((ds : List ℕ) → Refuses (on t stepSliceFault ds k p (length out)) (sliceStep ds t k p out .0 .answer)))
+  pub record-refuses : (t : Table) (rec : List ℕ) → Refuses (on t recordFault rec) (record-of t rec)
   pub load-refuses : (img : List ℕ) (ns vs : List Float) → Refuses (loadFault img (length ns) (length vs)) (load img ns vs .0 .answer)
   pub write-refuses : (t : Table) (out : List ℕ) → Refuses (on t writeFault (length out)) (write t out .0 .answer)
+  pub load-gives : (img : List ℕ) (ns vs : List Float) → good (loadFault img (length ns) (length vs)) ≡ true → load img ns vs .0 ≡ record { answer = fine; shape = shapeOf img }
   -- "and every lent buffer stays as it was"
   pub slices-keep : EverySlice (λ slice. (t : Table) (k : ℕ) (p : Float) (out : List Float) → Plain (slice t k p out .0 .answer)
       × (((slice t k p out .0 .answer .number ≡ 0 → ⊥) → slice t k p out .0 .shape ≡ noShape)

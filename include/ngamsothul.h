@@ -8,7 +8,8 @@
  * - A buffer that a call writes (a pointer that is not const) overlaps no other buffer of the same call. These are the pairs: in a slice,
  *   out with nodes, values and directions; in ng_load, nodes with values, and each of the two with image; in ng_write, image with nodes
  *   and with values. Buffers that are only read may overlap, or be one. While a call runs nobody else writes what it is lent.
- * - The machine rounds to nearest and keeps subnormal numbers, as a C program begins. A program linked with -ffast-math may not.
+ * - The machine rounds to nearest, keeps subnormal numbers and has floating-point exceptions masked, as a C program begins. A program
+ *   linked with -ffast-math may flush them; after feenableexcept a sum that overflows, which a call judges, would stop the program.
  * - The stack has NG_STACK_BYTES left, or NG_LOAD_STACK_BYTES for ng_load. These two were measured, with room to spare; no proof has them.
  *
  * The archive is for x86-64 and C's own calling convention there. It needs no library.

@@ -4,7 +4,7 @@
 //!
 //! - A pointer with its length is a buffer: here each is a slice's. That of an empty slice leads nowhere, which the header allows.
 //! - A buffer that is written overlaps no other of the call: here it is a `&mut` slice.
-//! - The machine rounds to nearest and keeps subnormal numbers: Rust asks for the same.
+//! - The machine rounds to nearest, keeps subnormal numbers and has floating-point exceptions masked: Rust asks for the same.
 //! - There is stack left: where there is not, the program ends at the guard page, as in a Rust function. The one call that takes more than
 //!   a page, `ng_load`, touches its pages in turn.
 #![allow(unsafe_code)]
@@ -13,7 +13,7 @@ use crate::answers::{Answer, AxisAnswer, ExactAnswer, IndexAnswer, ShapeAnswer, 
 use crate::{Direction, Shape, Table};
 
 // Without SSE2 floats are passed in other registers.
-#[cfg(not(all(target_arch = "x86_64", target_pointer_width = "64", target_feature = "sse2", not(windows), not(target_os = "uefi"))))]
+#[cfg(not(all(target_arch = "x86_64", target_pointer_width = "64", target_feature = "sse2", not(windows), not(target_os = "uefi"), not(target_vendor = "apple"))))]
 compile_error!("libngamsothul.a is for x86-64 with SSE2 and the calling convention of Linux");
 
 type Floats = *const f64;

@@ -4,7 +4,8 @@ use crate::{ffi, Refusal, Shape};
 
 /// Reads a table out of an image, to the start of `nodes` and of `values`, which may be longer, and gives its shape.
 ///
-/// Refusals: 13, 1, 13, 2, 13, 14 of the header and its areas, 15 (place 0 nodes, 1 values), then 4 to 7.
+/// Refusals, in this order: under 40 bytes and byte 0 (13), byte 1 (1), bytes 2-3 and the length (13), counts axis by axis (2, or 13 if
+/// unused), their product (2), unused offsets and bytes 36-39 (13), areas (14), room (15, place 0 nodes, 1 values), then 4 to 7.
 ///
 /// ```
 /// use ngamsothul::{load, Table, MOST_BYTES};

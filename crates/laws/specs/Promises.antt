@@ -187,14 +187,11 @@ pub record Demand1 : Type 0 where
   -- "A refusal gives its number, axis and place, with value +0.0"
   pub lookups-tell : EveryLookup (λ lookup. (t : Table) (ps : Floats) → Tells (lookup t ps))
   pub record-tells : (t : Table) (rec : List ℕ) → Tells (record-of t rec)
-  pub lookups-refuse : (t : Table) (ps : Floats)
-      → (Refuses (on t lookupFault (ps .list)) (linear t ps) × Refuses (on t lookupFault (ps .list)) (nearest t ps))
+  pub lookups-refuse : (t : Table) (ps : Floats) → (Refuses (on t lookupFault (ps .list)) (linear t ps) × Refuses (on t lookupFault (ps .list)) (nearest t ps))
       × (Refuses (on t linearUniformFault (ps .list)) (linearUniform t ps) × ((ds : List ℕ) → Refuses (on t stepFault (ps .list) ds) (step ds t ps)))
-  pub slices-refuse : (t : Table) (k : ℕ) (p : Float) (out : List Float)
-      → (Refuses (on t linearSliceFault k p (length out)) (sliceLinear t k p out .0 .answer)
-      × Refuses (on t linearUniformSliceFault k p (length out)) (sliceLinearUniform t k p out .0 .answer))
-      × (Refuses (on t nearestSliceFault k p (length out)) (sliceNearest t k p out .0 .answer)
-      × ((ds : List ℕ) → Refuses (on t stepSliceFault ds k p (length out)) (sliceStep ds t k p out .0 .answer)))
+  pub slices-refuse : (t : Table) (k : ℕ) (p : Float) (out : List Float) → let room = length out in
+      (Refuses (on t linearSliceFault k p room) (sliceLinear t k p out .0 .answer) × Refuses (on t linearUniformSliceFault k p room) (sliceLinearUniform t k p out .0 .answer))
+      × (Refuses (on t nearestSliceFault k p room) (sliceNearest t k p out .0 .answer) × ((ds : List ℕ) → Refuses (on t stepSliceFault ds k p room) (sliceStep ds t k p out .0 .answer)))
   pub record-refuses : (t : Table) (rec : List ℕ) → Refuses (on t recordFault rec) (record-of t rec)
   pub load-refuses : (img : List ℕ) (ns vs : List Float) → Refuses (loadFault img (length ns) (length vs)) (load img ns vs .0 .answer)
   pub write-refuses : (t : Table) (out : List ℕ) → Refuses (on t writeFault (length out)) (write t out .0 .answer)
@@ -212,8 +209,7 @@ pub record Demand1 : Type 0 where
 
 pub record Demand2 : Type 0 where
   -- "On each accepted table, for finite readings in range, Linear, .. Nearest and Step give the Rust's bits in N dimensions": these three always
-  pub linear-gives : (t : Table) (ps : Floats) (g : List ℕ → Float) → Accepted t → InRange t ps → Elements t g
-      → (linear t ps ≡ answered (rustOf linearText t g ps)) × (finite (rustOf linearText t g ps) ≡ true)
+  pub linear-gives : (t : Table) (ps : Floats) (g : List ℕ → Float) → Accepted t → InRange t ps → Elements t g → (linear t ps ≡ answered (rustOf linearText t g ps)) × (finite (rustOf linearText t g ps) ≡ true)
   pub nearest-gives : (t : Table) (ps : Floats) (g : List ℕ → Float) → Accepted t → InRange t ps → Elements t g → nearest t ps ≡ answered (rustOf nearestText t g ps)
   pub step-gives : (t : Table) (ps : Floats) (g : List ℕ → Float) (ds : List ℕ) → Accepted t → InRange t ps → Elements t g → Directed t ds → step ds t ps ≡ answered (rustOf (stepText ds) t g ps)
   -- LinearUniform ".. or refusal 12 exactly where those bits are not finite", which does happen

@@ -40,11 +40,12 @@ use Rattle.blend.specs.Blend.{one, blended, sliced}
 use Rattle.blend.proofs.Bits.{rust-linear}
 use Rattle.slices.specs.Slices.{shapeWithout, sliceAnswer, ruleSlice, nearestSlice, nearestSliced, stepSlice, stepSliced}
 use Rattle.slices.specs.LinearSlices.{alongFirst, linearValues, linearSliceFault, linearUniformSliceFault, linearSlice, linearSliced, linearUniformSlice, linearUniformSliced}
+use Rattle.slices.specs.declared.SliceAnswer.{SliceAnswer}
 use Rattle.slices.proofs.Refusals.{made-shape}
 use Rattle.slices.proofs.Alongs.{length-along}
 use Rattle.writer.proofs.Back.{held-append}
 use Rattle.laws.specs.Calls.{Table, axes, counts, axis, stored, sliceLinear, sliceLinearUniform, sliceNearest, sliceStep}
-use Rattle.laws.specs.Promises.{Sliceable, Uniform, along, ZerosPast, After, Left, Values}
+use Rattle.laws.specs.Promises.{Sliceable, Uniform, Text, along, ZerosPast, After, Left, Values}
 use Rattle.laws.proofs.Left as over
 use Rattle.laws.proofs.Left.{Cut}
 use Rattle.laws.proofs.SliceLaw as law
@@ -52,7 +53,7 @@ use Rattle.laws.proofs.LinearLaw.{along-law, linear-cut, linear-uniform
 use Rattle.laws.proofs.Makes.{linear-uniform-slice-made}
 use Rattle.laws.proofs.LinearMakes.{results-good}
 use Rattle.laws.proofs.Premises.{accepted, passes, range-passes, uniform-passes}
-use Rattle.laws.proofs.Slicing.{slice-good, left-is}
+use Rattle.laws.proofs.Slicing.{slice-good, left-is, only-first}
 
 -- ---- the numbers that a slice gives are numbers of the format
 held-tabulate : (n : ℕ) (h : ℕ → Float) → ((i : ℕ) → T (fits binary64 (h i))) → Held (tabulate n h)
@@ -129,31 +130,30 @@ module _ (t : Table) (k : ℕ) (p : Float) (out : List Float) where
       let g = slice-good _ (t .shape) k h in
       leaves t k p _ (law.cut (law.step-made (t .shape) (t .nodes .list) (t .values .list) ds k p (length out) g)) (held-slice k (stepRule ds k (axis t k) p) (counts t) (t .values .list) (t .values .held)) _ out g
 
-  pub linear-leaves : sliceLinear t k p out .0 .answer .number ≡ 0 → Left t k (sliceLinear t k p out)
-  unfolding linearSlice linearSliced linearValues
-  linear-leaves h =
-      let g : good (linearSliceFault (t .shape) (t .nodes .list) (t .values .list) k p (length out)) ≡ true = slice-good _ (t .shape) k h in
-      leaves t k p _ (subst (λ (a : ℕ). Cut (t .shape) (t .nodes .list) (t .values .list) a p (linearValues axisLocation (t .shape) (t .nodes .list) (t .values .list) p)) (sym (first g)) (linear-cut (t .shape) (t .nodes .list) (t .values .list) p (length out) (at-first g)))
-      (held-along (axisLocation (axis t 0) p) (counts t) (t .values .list) (t .values .held)) _ out g
-    where
-      first : good (linearSliceFault (t .shape) (t .nodes .list) (t .values .list) k p (length out)) ≡ true → k ≡ 0
-      first g = linear-first-only (t .shape) (t .nodes .list) (t .values .list) k p (length out) g
+-- ---- the two linears: a rule whose slices are made on the first axis alone, by an order of checks for each axis
+module _ (rule : List Float → Float → AxisLocation) (t : Table) (p : Float) (out : List Float) (fault : ℕ → Fault) (first : (a : ℕ) → good (fault a) ≡ true → a ≡ 0)
+    (cut : good (fault 0) ≡ true → Cut (t .shape) (t .nodes .list) (t .values .list) 0 p (linearValues rule (t .shape) (t .nodes .list) (t .values .list) p)) where
+  abbrev values' : List Float
+  values' = linearValues rule (t .shape) (t .nodes .list) (t .values .list) p
 
-      at-first : good (linearSliceFault (t .shape) (t .nodes .list) (t .values .list) k p (length out)) ≡ true → good (linearSliceFault (t .shape) (t .nodes .list) (t .values .list) 0 p (length out)) ≡ true
-      at-first g = subst (λ (a : ℕ). good (linearSliceFault (t .shape) (t .nodes .list) (t .values .list) a p (length out)) ≡ true) (first g) g
+  abbrev made : ℕ → SliceAnswer × List Float
+  made a = (sliceAnswer (fault a) (t .shape) a, filledInto (fault a) (linearValues rule (t .shape) (t .nodes .list) (t .values .list) p) out)
 
-  pub linear-uniform-leaves : sliceLinearUniform t k p out .0 .answer .number ≡ 0 → Left t k (sliceLinearUniform t k p out)
-  unfolding linearUniformSlice linearUniformSliced linearValues
-  linear-uniform-leaves h =
-      let g : good (linearUniformSliceFault (t .shape) (t .nodes .list) (t .values .list) k p (length out)) ≡ true = slice-good _ (t .shape) k h in
-      leaves t k p _ (subst (λ (a : ℕ). Cut (t .shape) (t .nodes .list) (t .values .list) a p (linearValues uniformLocation (t .shape) (t .nodes .list) (t .values .list) p)) (sym (first g)) (linear-uniform-cut (t .shape) (t .nodes .list) (t .values .list) p (length out) (at-first g)))
-      (held-along (uniformLocation (axis t 0) p) (counts t) (t .values .list) (t .values .held)) _ out g
-    where
-      first : good (linearUniformSliceFault (t .shape) (t .nodes .list) (t .values .list) k p (length out)) ≡ true → k ≡ 0
-      first g = linear-uniform-first-only (t .shape) (t .nodes .list) (t .values .list) k p (length out) g
+  first-leaves : (k : ℕ) → good (fault k) ≡ true → Left t k (sliceAnswer (fault k) (t .shape) k, filledInto (fault k) (linearValues rule (t .shape) (t .nodes .list) (t .values .list) p) out)
+  unfolding linearValues
+  first-leaves = only-first fault first (λ a. Left t a (made a)) (λ g. leaves t 0 p values' (cut g) (held-along (rule (axis t 0) p) (counts t) (t .values .list) (t .values .held)) (fault 0) out g)
 
-      at-first : good (linearUniformSliceFault (t .shape) (t .nodes .list) (t .values .list) k p (length out)) ≡ true → good (linearUniformSliceFault (t .shape) (t .nodes .list) (t .values .list) 0 p (length out)) ≡ true
-      at-first g = subst (λ (a : ℕ). good (linearUniformSliceFault (t .shape) (t .nodes .list) (t .values .list) a p (length out)) ≡ true) (first g) g
+pub linear-leaves : (t : Table) (k : ℕ) (p : Float) (out : List Float) → sliceLinear t k p out .0 .answer .number ≡ 0 → Left t k (sliceLinear t k p out)
+unfolding linearSlice linearSliced
+linear-leaves t k p out h =
+    first-leaves axisLocation t p out (λ a. linearSliceFault (t .shape) (t .nodes .list) (t .values .list) a p (length out)) (λ a. linear-first-only (t .shape) (t .nodes .list) (t .values .list) a p (length out))
+    (linear-cut (t .shape) (t .nodes .list) (t .values .list) p (length out)) k (slice-good _ (t .shape) k h)
+
+pub linear-uniform-leaves : (t : Table) (k : ℕ) (p : Float) (out : List Float) → sliceLinearUniform t k p out .0 .answer .number ≡ 0 → Left t k (sliceLinearUniform t k p out)
+unfolding linearUniformSlice linearUniformSliced
+linear-uniform-leaves t k p out h =
+    first-leaves uniformLocation t p out (λ a. linearUniformSliceFault (t .shape) (t .nodes .list) (t .values .list) a p (length out)) (λ a. linear-uniform-first-only (t .shape) (t .nodes .list) (t .values .list) a p (length out))
+    (linear-uniform-cut (t .shape) (t .nodes .list) (t .values .list) p (length out)) k (slice-good _ (t .shape) k h)
 
 -- ---- its values are those of the rule along the axis alone
 -- a location on the first axis, at an index list of the others
@@ -213,43 +213,37 @@ step-values ds t t' k p out h after is w =
     ∙ slice-law k (stepRule ds k (axis t k) p) (counts t) is (t .values .list) (inside-left c _ out g after is w)
     ∙ ap (λ (i : ℕ). stored t (insert k i is)) (sym (step-index-text (axis t k) p (good-axis c _ out g after is w) (c .finite-point) (getD ds k 0)))
 
--- ---- the two linears, which are made on the first axis alone
-module _ (t t' : Table) (p : Float) (out : List Float) (is : List ℕ) (w : Inside is (counts t')) where
-  linear-value-at : (k : ℕ) → k ≡ 0 → good (linearSliceFault (t .shape) (t .nodes .list) (t .values .list) k p (length out)) ≡ true → After t k (sliceLinear t k p out) t' → stored t' is ≡ along linearText t k p is
-  unfolding linearSlice linearSliced linearValues
-  linear-value-at k z = subst (λ (a : ℕ). good (linearSliceFault (t .shape) (t .nodes .list) (t .values .list) a p (length out)) ≡ true → After t a (sliceLinear t a p out) t' → stored t' is ≡ along linearText t a p is) (sym z) first
-    where
-      first : good (linearSliceFault (t .shape) (t .nodes .list) (t .values .list) 0 p (length out)) ≡ true → After t 0 (sliceLinear t 0 p out) t' → stored t' is ≡ along linearText t 0 p is
-      first g after =
-          let c = linear-cut (t .shape) (t .nodes .list) (t .values .list) p (length out) g in
-          let ax : Axis (axis t 0) = good-axis c _ out g after is w in
-          let n : 2 ≤ length (axis t 0) = ax .enough in
-          stored-left c _ out g after is w
-          ∙ along-law (axisLocation (axis t 0) p) (counts t) is (t .values .list) (inside-left c _ out g after is w)
-          ∙ sym (linear-along t p is ax (c .finite-point) (omega (arith, n, length-axis (counts t) (t .nodes .list) (c .ready .grid .flat) 0 (over.in-cs c))))
-
-  uniform-value-at : (k : ℕ) → k ≡ 0 → good (linearUniformSliceFault (t .shape) (t .nodes .list) (t .values .list) k p (length out)) ≡ true → After t k (sliceLinearUniform t k p out) t' → stored t' is ≡ along linearUniformText t k p is
-  unfolding linearUniformSlice linearUniformSliced linearValues
-  uniform-value-at k z = subst (λ (a : ℕ). good (linearUniformSliceFault (t .shape) (t .nodes .list) (t .values .list) a p (length out)) ≡ true → After t a (sliceLinearUniform t a p out) t' → stored t' is ≡ along linearUniformText t a p is) (sym z) first
-    where
-      first : good (linearUniformSliceFault (t .shape) (t .nodes .list) (t .values .list) 0 p (length out)) ≡ true → After t 0 (sliceLinearUniform t 0 p out) t' → stored t' is ≡ along linearUniformText t 0 p is
-      first g after =
-          let c = linear-uniform-cut (t .shape) (t .nodes .list) (t .values .list) p (length out) g in
-          stored-left c _ out g after is w
-          ∙ along-law (uniformLocation (axis t 0) p) (counts t) is (t .values .list) (inside-left c _ out g after is w)
-          ∙ sym (uniform-along t p is)
+-- of a rule whose slices are made on the first axis alone, and whose text along it is known
+module _ (rule : List Float → Float → AxisLocation) (text : Text) (t t' : Table) (p : Float) (out : List Float) (fault : ℕ → Fault) (first : (a : ℕ) → good (fault a) ≡ true → a ≡ 0)
+    (cut : good (fault 0) ≡ true → Cut (t .shape) (t .nodes .list) (t .values .list) 0 p (linearValues rule (t .shape) (t .nodes .list) (t .values .list) p)) (is : List ℕ) (w : Inside is (counts t'))
+    (known : good (fault 0) ≡ true → along text t 0 p is ≡ sliced (rule (axis t 0) p) (stored t) is) where
+  first-value : (k : ℕ) → good (fault k) ≡ true → After t k (sliceAnswer (fault k) (t .shape) k, filledInto (fault k) (linearValues rule (t .shape) (t .nodes .list) (t .values .list) p) out) t' → stored t' is ≡ along text t k p is
+  unfolding linearValues
+  first-value =
+      only-first fault first (λ a. After t a (made rule t p out fault first cut a) t' → stored t' is ≡ along text t a p is)
+      (λ g after.
+      stored-left (cut g) (fault 0) out g after is w
+      ∙ along-law (rule (axis t 0) p) (counts t) is (t .values .list) (inside-left (cut g) (fault 0) out g after is w)
+      ∙ sym (known g))
 
 pub linear-values : Values (λ k. linearText) sliceLinear
-unfolding linearSlice
+unfolding linearSlice linearSliced
 linear-values t t' k p out h after is w =
-    let g : good (linearSliceFault (t .shape) (t .nodes .list) (t .values .list) k p (length out)) ≡ true = slice-good _ (t .shape) k h in
-    linear-value-at t t' p out is w k (linear-first-only (t .shape) (t .nodes .list) (t .values .list) k p (length out) g) g after
+    first-value axisLocation linearText t t' p out (λ a. linearSliceFault (t .shape) (t .nodes .list) (t .values .list) a p (length out)) (λ a. linear-first-only (t .shape) (t .nodes .list) (t .values .list) a p (length out))
+    (linear-cut (t .shape) (t .nodes .list) (t .values .list) p (length out)) is w known k (slice-good _ (t .shape) k h) after
+  where
+    known : good (linearSliceFault (t .shape) (t .nodes .list) (t .values .list) 0 p (length out)) ≡ true → along linearText t 0 p is ≡ sliced (axisLocation (axis t 0) p) (stored t) is
+    known g =
+        let c = linear-cut (t .shape) (t .nodes .list) (t .values .list) p (length out) g in
+        let ax : Axis (axis t 0) = c .ready .grid .axes 0 (over.in-cs c) in
+        let n : 2 ≤ length (axis t 0) = ax .enough in
+        linear-along t p is ax (c .finite-point) (omega (arith, n, length-axis (counts t) (t .nodes .list) (c .ready .grid .flat) 0 (over.in-cs c)))
 
 pub linear-uniform-values : Values (λ k. linearUniformText) sliceLinearUniform
-unfolding linearUniformSlice
+unfolding linearUniformSlice linearUniformSliced
 linear-uniform-values t t' k p out h after is w =
-    let g : good (linearUniformSliceFault (t .shape) (t .nodes .list) (t .values .list) k p (length out)) ≡ true = slice-good _ (t .shape) k h in
-    uniform-value-at t t' p out is w k (linear-uniform-first-only (t .shape) (t .nodes .list) (t .values .list) k p (length out) g) g after
+    first-value uniformLocation linearUniformText t t' p out (λ a. linearUniformSliceFault (t .shape) (t .nodes .list) (t .values .list) a p (length out)) (λ a. linear-uniform-first-only (t .shape) (t .nodes .list) (t .values .list) a p (length out))
+    (linear-uniform-cut (t .shape) (t .nodes .list) (t .values .list) p (length out)) is w (λ g. uniform-along t p is) k (slice-good _ (t .shape) k h) after
 
 -- ---- where a slice by LinearUniform is refused 12
 module _ (t : Table) (p : Float) (out : List Float) (s : Sliceable t 0 p out) (u : Uniform t) where

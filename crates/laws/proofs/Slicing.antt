@@ -19,7 +19,7 @@ use Rattle.slices.specs.Slices.{shapeWithout, sliceAnswer, ruleSlice, nearestSl
 use Rattle.slices.specs.LinearSlices.{linearSliceFault, linearUniformSliceFault, linearSlice, linearSliced, linearUniformSlice, linearUniformSliced}
 use Rattle.slices.proofs.Refusals.{made-shape}
 use Rattle.laws.specs.Lowered.{lowered}
-use Rattle.laws.specs.Calls.{Floats, Table, counts, linear, linearUniform, nearest, step, sliceLinear, sliceLinearUniform, sliceNearest, sliceStep}
+use Rattle.laws.specs.Calls.{Table, counts, linear, linearUniform, nearest, step, sliceLinear, sliceLinearUniform, sliceNearest, sliceStep}
 use Rattle.laws.specs.Promises.{After, Answers}
 use Rattle.laws.proofs.Left as over
 use Rattle.laws.proofs.Left.{Cut}
@@ -67,34 +67,28 @@ step-answers ds t t' k p out h after ps all e =
     ∙ law.step-slice-law (t .shape) (t .nodes .list) (t .values .list) ds k p (length out) g (ps .list)
     ∙ ap (λ (l : List Float). lowered k (stepAnswer (t .shape) (t .nodes .list) (t .values .list) l ds)) (sym e)
 
--- ---- the two linears, which are made on the first axis alone
-module _ (t t' : Table) (p : Float) (out : List Float) (ps all : Floats) where
-  linear-at : (k : ℕ) → k ≡ 0 → good (linearSliceFault (t .shape) (t .nodes .list) (t .values .list) k p (length out)) ≡ true → After t k (sliceLinear t k p out) t'
-      → all .list ≡ insert k p (ps .list) → linear t' ps ≡ lowered k (linear t all)
-  unfolding linearSlice linearSliced
-  linear-at k z = subst (λ (a : ℕ). good (linearSliceFault (t .shape) (t .nodes .list) (t .values .list) a p (length out)) ≡ true → After t a (sliceLinear t a p out) t' → all .list ≡ insert a p (ps .list) → linear t' ps ≡ lowered a (linear t all)) (sym z)
-      (λ g after e.
-      left-is (linear-cut (t .shape) (t .nodes .list) (t .values .list) p (length out) g) _ out g after (λ s ns vs. linearAnswer s ns vs (ps .list))
-      ∙ linear-slice-law (t .shape) (t .nodes .list) (t .values .list) p (length out) g (ps .list)
-      ∙ ap (λ (l : List Float). lowered 0 (linearAnswer (t .shape) (t .nodes .list) (t .values .list) l)) (sym e))
-
-  uniform-at : (k : ℕ) → k ≡ 0 → good (linearUniformSliceFault (t .shape) (t .nodes .list) (t .values .list) k p (length out)) ≡ true → After t k (sliceLinearUniform t k p out) t'
-      → all .list ≡ insert k p (ps .list) → linearUniform t' ps ≡ lowered k (linearUniform t all)
-  unfolding linearUniformSlice linearUniformSliced
-  uniform-at k z = subst (λ (a : ℕ). good (linearUniformSliceFault (t .shape) (t .nodes .list) (t .values .list) a p (length out)) ≡ true → After t a (sliceLinearUniform t a p out) t' → all .list ≡ insert a p (ps .list) → linearUniform t' ps ≡ lowered a (linearUniform t all)) (sym z)
-      (λ g after e.
-      left-is (linear-uniform-cut (t .shape) (t .nodes .list) (t .values .list) p (length out) g) _ out g after (λ s ns vs. linearUniformAnswer s ns vs (ps .list))
-      ∙ linear-uniform-slice-law (t .shape) (t .nodes .list) (t .values .list) p (length out) g (ps .list)
-      ∙ ap (λ (l : List Float). lowered 0 (linearUniformAnswer (t .shape) (t .nodes .list) (t .values .list) l)) (sym e))
+-- ---- the two linears, which are made on the first axis alone: what holds there holds on every axis that is sliced
+pub only-first : (fault : ℕ → Fault) → ((a : ℕ) → good (fault a) ≡ true → a ≡ 0) → (P : ℕ → Type 0) → (good (fault 0) ≡ true → P 0) → (k : ℕ) → good (fault k) ≡ true → P k
+only-first fault first P h k g = subst P (sym (first k g)) (h (subst (λ (a : ℕ). good (fault a) ≡ true) (first k g) g))
 
 pub linear-answers : Answers linear (λ k. linear) sliceLinear
-unfolding linearSlice
+unfolding linearSlice linearSliced
 linear-answers t t' k p out h after ps all e =
-    let g : good (linearSliceFault (t .shape) (t .nodes .list) (t .values .list) k p (length out)) ≡ true = slice-good _ (t .shape) k h in
-    linear-at t t' p out ps all k (linear-first-only (t .shape) (t .nodes .list) (t .values .list) k p (length out) g) g after e
+    only-first (λ a. linearSliceFault (t .shape) (t .nodes .list) (t .values .list) a p (length out)) (λ a. linear-first-only (t .shape) (t .nodes .list) (t .values .list) a p (length out))
+    (λ a. After t a (sliceLinear t a p out) t' → all .list ≡ insert a p (ps .list) → linear t' ps ≡ lowered a (linear t all))
+    (λ g left q.
+    left-is (linear-cut (t .shape) (t .nodes .list) (t .values .list) p (length out) g) _ out g left (λ s ns vs. linearAnswer s ns vs (ps .list))
+    ∙ linear-slice-law (t .shape) (t .nodes .list) (t .values .list) p (length out) g (ps .list)
+    ∙ ap (λ (l : List Float). lowered 0 (linearAnswer (t .shape) (t .nodes .list) (t .values .list) l)) (sym q))
+    k (slice-good _ (t .shape) k h) after e
 
 pub uniform-answers : Answers linearUniform (λ k. linearUniform) sliceLinearUniform
-unfolding linearUniformSlice
+unfolding linearUniformSlice linearUniformSliced
 uniform-answers t t' k p out h after ps all e =
-    let g : good (linearUniformSliceFault (t .shape) (t .nodes .list) (t .values .list) k p (length out)) ≡ true = slice-good _ (t .shape) k h in
-    uniform-at t t' p out ps all k (linear-uniform-first-only (t .shape) (t .nodes .list) (t .values .list) k p (length out) g) g after e
+    only-first (λ a. linearUniformSliceFault (t .shape) (t .nodes .list) (t .values .list) a p (length out)) (λ a. linear-uniform-first-only (t .shape) (t .nodes .list) (t .values .list) a p (length out))
+    (λ a. After t a (sliceLinearUniform t a p out) t' → all .list ≡ insert a p (ps .list) → linearUniform t' ps ≡ lowered a (linearUniform t all))
+    (λ g left q.
+    left-is (linear-uniform-cut (t .shape) (t .nodes .list) (t .values .list) p (length out) g) _ out g left (λ s ns vs. linearUniformAnswer s ns vs (ps .list))
+    ∙ linear-uniform-slice-law (t .shape) (t .nodes .list) (t .values .list) p (length out) g (ps .list)
+    ∙ ap (λ (l : List Float). lowered 0 (linearUniformAnswer (t .shape) (t .nodes .list) (t .values .list) l)) (sym q))
+    k (slice-good _ (t .shape) k h) after e

@@ -12,7 +12,7 @@ use Rattle.layout.specs.declared.Shape.{Shape}
 use Rattle.image.specs.Load.{loadFault}
 use Rattle.lines.specs.Stream.{linesOf}
 use Rattle.program.specs.Run.{mostRecords, ruleOf, runOf}
-use Rattle.program.proofs.turns.Laws.{run-loaded}
+use Rattle.program.proofs.run.Laws.{run-loaded}
 use Rattle.lookup.specs.Whole.{TableOf, Whole}
 use Rattle.lookup.proofs.feed.Loops.{Feeding, feed-ends}
 

@@ -23,7 +23,7 @@ use Rattle.image.proofs.Loads.{nodes-fit, values-fit}
 use Rattle.lines.specs.Line.{lineOf}
 use Rattle.program.specs.Input.{imageIn}
 use Rattle.program.specs.Run.{runOf}
-use Rattle.program.proofs.turns.Laws.{run-refused}
+use Rattle.program.proofs.run.Laws.{run-refused}
 use Rattle.lookup.specs.Whole.{TableOf, Whole}
 
 -- an answer's number is 0 exactly where nothing is wrong

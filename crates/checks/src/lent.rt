@@ -1,6 +1,6 @@
-// The rows of the table of numbers that judge what is lent, one function each: a length, a direction, room.
+// The rows of the table of numbers that judge what is lent, one function each: a length, a direction, room, a tally.
 ghost use mathlib.Core.Path.{_≡_};
-ghost use Rattle.checks.specs.Numbers.{lengthFault, directionFault, roomFault};
+ghost use Rattle.checks.specs.Numbers.{lengthFault, directionFault, roomFault, limitFault};
 use answer::Fault;
 
 // 3: a lent length that differs from what the shape says.
@@ -22,4 +22,11 @@ pub fn room_fault(place: usize, wanted: usize, room: usize) -> Fault
     ensures { λ r. ⌜ r ≡ roomFault place wanted room ⌝ }
 {
     answer::row(room < wanted, 15, 0, place)
+}
+
+// 17: so many records were read already that no more are.
+pub fn limit_fault(read: u32) -> Fault
+    ensures { λ r. ⌜ r ≡ limitFault read ⌝ }
+{
+    answer::row(read >= 1000000, 17, 0, 0)
 }

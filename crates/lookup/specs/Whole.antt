@@ -12,7 +12,8 @@ use Rattle.layout.specs.declared.Shape.{Shape}
 use Rattle.image.specs.Fields.{shapeOf}
 use Rattle.image.specs.Image.{nodesIn, valuesIn}
 use Rattle.image.specs.Load.{loadFault}
-use Rattle.program.specs.Run.{mostRecords, ruleOf, runOf}
+use Rattle.program.specs.Run.{ruleOf, runOf}
+use Rattle.checks.specs.Numbers.{mostRecords}
 use Rattle.lookup.specs.declared.feed.Counts.{Counts}
 
 -- the table of an image that no check refuses: the shape, the nodes and the values are the image's

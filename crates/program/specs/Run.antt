@@ -7,7 +7,7 @@ use lib.ListN.{length, drop}
 use Rattle.answer.specs.Faults.{good, given, filledInto}
 use Rattle.answer.specs.Answer.{refused, fine, _then_}
 use Rattle.answer.specs.declared.Fault.{Fault}
-use Rattle.checks.specs.Numbers.{roomFault}
+use Rattle.checks.specs.Numbers.{mostRecords, roomFault}
 use Rattle.lines.specs.Line.{lineOf}
 use Rattle.lines.specs.Stream.{Rule, linesOf}
 use Rattle.program.specs.Input.{imageSize, imageIn}
@@ -16,10 +16,6 @@ use Rattle.image.specs.Image.{nodesIn, valuesIn}
 use Rattle.image.specs.Fields.{shapeOf}
 use Rattle.image.specs.Load.{loadFault}
 use Rattle.ninterp.specs.Records.{recordRule}
-
--- "the first 1,000,000 records"
-abbrev pub mostRecords : ℕ
-mostRecords = 1000000
 
 -- what is printed of the records that follow an image
 abbrev pub ruleOf : List ℕ → Rule

@@ -13,7 +13,7 @@ use Rattle.lines.specs.Line.{lineOf}
 use Rattle.lines.specs.Put.{put, roomFor, allInto}
 use Rattle.lines.specs.Stream.{Rule, linesOf}
 use Rattle.program.specs.Input.{nothingMore}
-use Rattle.program.specs.Run.{mostRecords}
+use Rattle.checks.specs.Numbers.{mostRecords}
 
 -- xs was put at a place of the output d, where all of it has room, which left it as e; r is the length of xs, put or not
 pub record Placed (xs d : List ℕ) (at : ℕ) (e : List ℕ) (r : ℕ) : Type 0 where

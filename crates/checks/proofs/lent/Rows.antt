@@ -3,12 +3,12 @@ use mathlib.Core.Path.{_≡_, ap}
 use mathlib.Core.Bool.{true, not}
 use Prim.Native.Nat.{ℕ, _≤_, _<_}
 use native.Mathlib.Omega.{arith}
-use borrow.Author.Tests.{eq-eqb, eqb-true, le-ltb, ltb-false}
-use lib.Dec.{eqb, ltb}
-use Rattle.answer.specs.Faults.{noFault, good}
+use borrow.Author.Tests.{eq-eqb, eqb-true, le-ltb, ltb-false, leb-false, le-leb, lt-leb}
+use lib.Dec.{eqb, ltb, leb}
+use Rattle.answer.specs.Faults.{refusal, noFault, good}
 use Rattle.answer.proofs.Orders as orders
 use Rattle.answer.proofs.Tests.{not-false}
-use Rattle.checks.specs.Numbers.{lengthFault, directionFault, roomFault}
+use Rattle.checks.specs.Numbers.{lengthFault, directionFault, roomFault, mostRecords, limitFault}
 
 -- ---- 3
 module _ (place wanted lent : ℕ) where
@@ -39,3 +39,17 @@ module _ (place wanted room : ℕ) where
   pub room-passed : good (roomFault place wanted room) ≡ true → wanted ≤ room
   unfolding roomFault
   room-passed h = ltb-false room wanted (orders.row-good (ltb room wanted) 14 0 place h)
+
+-- ---- 17
+module _ (read : ℕ) where
+  pub limit-ahead : read < mostRecords → noFault ≡ limitFault read
+  unfolding limitFault
+  limit-ahead h = orders.row-passed (leb mostRecords read) 16 0 0 (lt-leb mostRecords read h)
+
+  pub limit-passed : good (limitFault read) ≡ true → read < mostRecords
+  unfolding limitFault
+  limit-passed h = leb-false mostRecords read (orders.row-good (leb mostRecords read) 16 0 0 h)
+
+  pub limit-reached : mostRecords ≤ read → refusal 17 0 0 ≡ limitFault read
+  unfolding limitFault
+  limit-reached h = orders.row-met (leb mostRecords read) 16 0 0 (le-leb mostRecords read h)

@@ -12,7 +12,8 @@ use lib.Ieee.{Float}
 use Rattle.answer.proofs.Orders.{clash}
 use Rattle.layout.specs.declared.Shape.{Shape}
 use Rattle.lines.specs.Stream.{Rule, linesOf}
-use Rattle.program.specs.Run.{mostRecords, ruleOf}
+use Rattle.program.specs.Run.{ruleOf}
+use Rattle.checks.specs.Numbers.{mostRecords}
 use Rattle.lookup.specs.Whole.{TableOf}
 use Rattle.lookup.specs.declared.feed.Next.{Next}
 use Rattle.lookup.specs.Scaffolding.{Room, Last, Stepped}

@@ -11,7 +11,8 @@ use Rattle.answer.proofs.Orders.{clash}
 use Rattle.layout.specs.declared.Shape.{Shape}
 use Rattle.image.specs.Load.{loadFault}
 use Rattle.lines.specs.Stream.{linesOf}
-use Rattle.program.specs.Run.{mostRecords, ruleOf, runOf}
+use Rattle.program.specs.Run.{ruleOf, runOf}
+use Rattle.checks.specs.Numbers.{mostRecords}
 use Rattle.program.proofs.run.Laws.{run-loaded}
 use Rattle.lookup.specs.Whole.{TableOf, Whole}
 use Rattle.lookup.proofs.feed.Loops.{Feeding, feed-ends}

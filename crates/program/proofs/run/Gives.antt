@@ -12,14 +12,14 @@ use Rattle.answer.specs.declared.Fault.{Fault}
 use Rattle.answer.specs.declared.Answer.{Answer}
 use Rattle.answer.proofs.Orders as orders
 use Rattle.answer.proofs.Answers.{then-stops, then-goes-on}
-use Rattle.checks.specs.Numbers.{roomFault}
+use Rattle.checks.specs.Numbers.{mostRecords, roomFault}
 use Rattle.checks.proofs.lent.Rows.{room-passed}
 use Rattle.image.proofs.Loads.{out-kept}
 use Rattle.lines.specs.Line.{lineOf}
 use Rattle.lines.specs.Put.{put}
 use Rattle.lines.specs.Stream.{Rule, linesOf}
 use Rattle.program.specs.Scaffolding.{Fronted, textOf}
-use Rattle.program.specs.Run.{mostRecords, textFault, textAnswer, Texted}
+use Rattle.program.specs.Run.{textFault, textAnswer, Texted}
 
 module _ (a : Answer) (p : Rule) (records : List ℕ) {d e : List ℕ} {r : ℕ} where
   pub line-fronted : (a .number ≡ 0 → ⊥) → Fronted (lineOf a) d e r → Fronted (textOf a p records) d e r

@@ -26,7 +26,8 @@ use Rattle.image.proofs.Fronts.{front-shape, front-nodes, front-values}
 use Rattle.ninterp.specs.Records.{recordRule}
 use Rattle.program.specs.Input.{imageSize, imageIn}
 use Rattle.program.specs.Scaffolding.{textOf}
-use Rattle.program.specs.Run.{mostRecords, ruleOf, runOf, Texted}
+use Rattle.program.specs.Run.{ruleOf, runOf, Texted}
+use Rattle.checks.specs.Numbers.{mostRecords}
 use Rattle.program.specs.declared.run.RunAnswer.{RunAnswer}
 
 -- ---- the table that stands at the fronts of what was loaded

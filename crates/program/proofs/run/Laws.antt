@@ -20,7 +20,8 @@ use Rattle.image.proofs.Laws.{load-means}
 use Rattle.ninterp.specs.Records.{recordRule}
 use Rattle.program.specs.Input.{imageSize, imageIn}
 use Rattle.program.proofs.input.Ends.{head-enough, size-stated}
-use Rattle.program.specs.Run.{mostRecords, runOf}
+use Rattle.program.specs.Run.{runOf}
+use Rattle.checks.specs.Numbers.{mostRecords}
 
 -- an image that loads is as long as it states, so what follows it is records
 module _ (img more : List ℕ) (g : good (loadFault img 256 4096) ≡ true) where

@@ -5,7 +5,7 @@ use native.Mathlib.Omega.{arith}
 use lib.ListN.{length}
 use borrow.Author.Tests.{leb-true, leb-false}
 use Rattle.ninterp.specs.Records.{recordRule, recordSize}
-use Rattle.program.specs.Run.{mostRecords}
+use Rattle.checks.specs.Numbers.{mostRecords}
 use Rattle.program.proofs.run.Walks.{Walking, Took, walk-start, took, walk-step, walk-end}
 use denote.Ref.{now}
 use borrow.Author.Needs.{needs}

@@ -1,16 +1,13 @@
 -- The table of an image. Assumes nothing.
 use mathlib.Core.Path.{_≡_, ap, ap₂, _∙_, subst}
 use mathlib.Core.List.{List}
-use Prim.Native.Nat.{ℕ, _≤_}
-use native.Mathlib.Omega.{arith}
+use Prim.Native.Nat.{ℕ}
 use lib.Ieee.{Float}
 use Rattle.layout.specs.declared.Shape.{Shape}
-use Rattle.checks.proofs.shapes.Frames.{shape-four}
-use Rattle.image.proofs.Laws.{loaded-shape}
 use Rattle.lines.specs.Stream.{Rule, Block}
 use Rattle.ninterp.specs.Records.{recordRule}
 use Rattle.program.specs.Run.{ruleOf}
-use Rattle.lookup.specs.Whole.{TableOf}
+use Rattle.program.specs.Whole.{TableOf}
 
 module _ {img : List ℕ} {shape : Shape} {nodes values : List Float} (t : TableOf img shape nodes values) where
   rule-is : recordRule shape nodes values ≡ ruleOf img
@@ -20,6 +17,3 @@ module _ {img : List ℕ} {shape : Shape} {nodes values : List Float} (t : Table
   pub of-image : {most : ℕ} {input d e : List ℕ} {count written : ℕ}
       → Block (recordRule shape nodes values) most input d e count written → Block (ruleOf img) most input d e count written
   of-image {most} {input} {d} {e} {count} {written} k = subst (λ (p : Rule). Block p most input d e count written) rule-is k
-
-  pub four-axes : shape .axes ≤ 4
-  four-axes = omega (arith, ap (λ (s : Shape). s .axes) (t .shape-is), shape-four _ (loaded-shape img 256 4096 (t .loads)))

@@ -5,12 +5,14 @@ ghost use lib.ListN.{length};
 ghost use Rattle.lines.specs.Line.{longest};
 ghost use Rattle.lines.specs.Stream.{linesOf};
 ghost use Rattle.program.specs.Run.{ruleOf};
-ghost use Rattle.lookup.specs.Whole.{TableOf, Whole};
+ghost use Rattle.program.specs.Whole.{TableOf};
+ghost use Rattle.lookup.specs.Whole.{Whole};
 ghost use Rattle.lookup.specs.Scaffolding.{Room, Last, Stepped};
 use crate::print;
 use crate::print::Printed;
 use layout::Shape;
 use ninterp::records::block;
+use program::Counts;
 use program::input;
 use program::stdin;
 use program::turns;
@@ -25,14 +27,6 @@ struct Next {
     printed: usize,
     go: bool,
     ok: bool,
-}
-
-// Of what follows the image, how many bytes were asked for and how many read; how many were printed, and whether every write went well.
-pub struct Counts {
-    pub asked: usize,
-    pub read: usize,
-    pub printed: usize,
-    pub ok: bool,
 }
 
 // Reads on after the bytes that are held, answers the whole records, prints their lines, and moves what is left to the front.

@@ -10,11 +10,11 @@ ghost use Rattle.program.specs.Input.{imageIn};
 ghost use Rattle.program.specs.Run.{runOf};
 ghost use Rattle.lookup.specs.Whole.{Whole};
 use crate::feed;
-use crate::feed::Counts;
 use crate::print;
 use crate::print::Printed;
 use answer::Answer;
 use checks::shapes;
+use program::Counts;
 
 // Puts the line of a refused image and prints it.
 fn put_refusal(img: &[u8], answer: Answer, out: &mut [u8]) -> Printed

@@ -11,7 +11,7 @@ ghost use mathlib.Core.Path.{_≡_};
 ghost use lib.ListN.{length, take};
 ghost use Rattle.program.specs.Input.{imageIn};
 ghost use Rattle.lookup.specs.Whole.{Whole};
-use feed::Counts;
+use program::Counts;
 use program::stdin;
 
 // How many bytes of the input were taken for the image, and what was counted after it.

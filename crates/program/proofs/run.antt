@@ -1,4 +1,5 @@
 pub mod Laws
+pub mod Loads
 pub mod Places
 pub mod Walks
 pub mod Gives

@@ -1,3 +1,4 @@
 pub mod Input
 pub mod Run
+pub mod Whole
 pub mod Scaffolding

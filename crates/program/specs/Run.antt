@@ -21,12 +21,19 @@ use Rattle.ninterp.specs.Records.{recordRule}
 abbrev pub ruleOf : List ℕ → Rule
 ruleOf img = recordRule (shapeOf img) (nodesIn img) (valuesIn img)
 
--- "A refused image prints one line and ends"; "then records until input ends"; "Of a longer input it answers the first 1,000,000 records and ends."
-unfoldable pub runOf : List ℕ → List ℕ
-runOf input =
+-- "A refused image prints one line and ends"; else a program prints a text of the image and of the records that follow it
+unfoldable pub runBy : (List ℕ → List ℕ → List ℕ) → List ℕ → List ℕ
+runBy text input =
     cond (good (loadFault (imageIn input) 256 4096))
-    (linesOf (ruleOf (imageIn input)) mostRecords (drop (imageSize input) input))
+    (text (imageIn input) (drop (imageSize input) input))
     (lineOf (refused (loadFault (imageIn input) 256 4096)))
+
+-- "then records until input ends"; "Of a longer input it answers the first 1,000,000 records and ends."
+abbrev pub linesBy : List ℕ → List ℕ → List ℕ
+linesBy img records = linesOf (ruleOf img) mostRecords records
+
+abbrev pub runOf : List ℕ → List ℕ
+runOf input = runBy linesBy input
 
 -- ---- a call that puts a text into an output
 

@@ -13,3 +13,11 @@ pub mod turns;
 
 // Of a longer input so many records are answered.
 pub const MOST_RECORDS: usize = 1000000;
+
+// Of what follows the image, how many bytes were asked for and how many read; how many were printed, and whether every write went well.
+pub struct Counts {
+    pub asked: usize,
+    pub read: usize,
+    pub printed: usize,
+    pub ok: bool,
+}

@@ -14,10 +14,10 @@ use Rattle.layout.specs.declared.Shape.{Shape}
 use Rattle.lines.specs.Stream.{Rule, linesOf}
 use Rattle.program.specs.Run.{ruleOf}
 use Rattle.checks.specs.Numbers.{mostRecords}
-use Rattle.lookup.specs.Whole.{TableOf}
+use Rattle.program.specs.Whole.{TableOf}
+use Rattle.program.proofs.run.Loads.{four-axes}
 use Rattle.lookup.specs.declared.feed.Next.{Next}
 use Rattle.lookup.specs.Scaffolding.{Room, Last, Stepped}
-use Rattle.lookup.proofs.Tables.{four-axes}
 
 -- For some bytes, as many as were read so far, and some text, as long as what was printed: `rest` is held and `left` records may
 -- still come, and whatever bytes come next, the text and what is printed of the rest and them is what is printed of all.

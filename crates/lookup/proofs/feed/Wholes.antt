@@ -11,10 +11,11 @@ use Rattle.answer.proofs.Orders.{clash}
 use Rattle.layout.specs.declared.Shape.{Shape}
 use Rattle.image.specs.Load.{loadFault}
 use Rattle.lines.specs.Stream.{linesOf}
-use Rattle.program.specs.Run.{ruleOf, runOf}
+use Rattle.program.specs.Run.{ruleOf, linesBy, runOf}
 use Rattle.checks.specs.Numbers.{mostRecords}
 use Rattle.program.proofs.run.Laws.{run-loaded}
-use Rattle.lookup.specs.Whole.{TableOf, Whole}
+use Rattle.program.specs.Whole.{TableOf}
+use Rattle.lookup.specs.Whole.{Whole}
 use Rattle.lookup.proofs.feed.Loops.{Feeding, feed-ends}
 
 module _ {img : List ℕ} {shape : Shape} {nodes values : List Float} (t : TableOf img shape nodes values)
@@ -45,7 +46,7 @@ module _ {img : List ℕ} {shape : Shape} {nodes values : List Float} (t : Table
     where
       all : runOf (img ++ g .reached .bytes) ≡ g .reached .text ++ linesOf (ruleOf img) left (take held buf)
       all =
-          run-loaded img (g .reached .bytes) (t .loads)
+          run-loaded img (g .reached .bytes) (t .loads) linesBy
           ∙ ap (linesOf (ruleOf img) mostRecords) (sym (append-nil (g .reached .bytes)))
           ∙ g .reached .right []
           ∙ ap (λ (l : List ℕ). g .reached .text ++ linesOf (ruleOf img) left l) (append-nil (take held buf))

@@ -33,7 +33,7 @@ use Rattle.axis.specs.Picks.{nearestIndex}
 use Rattle.ninterp.specs.Tables.{indices, picked, nearestAnswer}
 use Rattle.ninterp.specs.Linears.{locations, interpolated, linearAnswer}
 use Rattle.ninterp.specs.Records.{kindAnswer, recordReadings, recordFault, recordAnswer, recordRule}
-use Rattle.program.specs.Run.{runOf, textFault, textAnswer, runAnswer}
+use Rattle.program.specs.Run.{linesBy, runOf, textFault, textAnswer, runAnswer}
 use Rattle.program.proofs.run.Laws.{run-loaded}
 
 -- kind 0 at 0.5, kind 2 at 1.0, kind 0 at 3.0
@@ -63,7 +63,7 @@ nothing = cut-none rule 999997 [] (inr (omega (arith, size-nine))) refl
 
 pub example-run : runOf (img ++ three) ≡ printed
 example-run =
-    run-loaded img three loads
+    run-loaded img three loads linesBy
     ∙ lines-of-add rule 3 999997 three (omega (arith, size-nine))
     ∙ rest
   where

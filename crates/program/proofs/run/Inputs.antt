@@ -26,7 +26,7 @@ use Rattle.image.proofs.Fronts.{front-shape, front-nodes, front-values}
 use Rattle.ninterp.specs.Records.{recordRule}
 use Rattle.program.specs.Input.{imageSize, imageIn}
 use Rattle.program.specs.Scaffolding.{textOf}
-use Rattle.program.specs.Run.{ruleOf, runOf, Texted}
+use Rattle.program.specs.Run.{ruleOf, runBy, runOf, Texted}
 use Rattle.checks.specs.Numbers.{mostRecords}
 use Rattle.program.specs.declared.run.RunAnswer.{RunAnswer}
 
@@ -74,5 +74,5 @@ module _ (input : List ℕ) (size : ℕ) (e : size ≡ min (imageSize input) (le
   pub run-texted : {ns vs ns′ vs′ : List Float} {r : LoadAnswer} → Loaded (take size input) ns vs ns′ vs′ r → length ns ≡ 256 → length vs ≡ 4096
       → (h : Holding) → h ≡ sizesOf (r .shape) → (n v : ℕ) → n ≡ min (h .nodes) (length ns′) → v ≡ min (h .values) (length vs′) → {d f : List ℕ} {a : RunAnswer}
       → Texted (textOf (r .answer) (recordRule (r .shape) (take n ns′) (take v vs′)) (take (length input - size) (drop size input))) d f a → Texted (runOf input) d f a
-  unfolding runOf
+  unfolding runBy
   run-texted {ns} {vs} {ns′} {vs′} {r} l x y h q n v i j {d} {f} {a} t = subst (λ (xs : List ℕ). Texted xs d f a) (text-loaded l h q n v i j (take (length input - size) (drop size input)) ∙ rw (x, y, image, records)) t

@@ -9,19 +9,14 @@ use lib.Seq.{take-at, drop-at}
 use Rattle.answer.specs.Faults.{good}
 use Rattle.answer.specs.Answer.{refused}
 use Rattle.lines.specs.Line.{lineOf}
-use Rattle.lines.specs.Stream.{linesOf}
 use Rattle.bytes.specs.Words.{wordAt}
-use Rattle.image.specs.Image.{nodesIn, valuesIn}
-use Rattle.image.specs.Fields.{shapeOf}
 use Rattle.image.specs.Load.{loadFault}
 use Rattle.image.specs.Head.{headFault}
 use Rattle.image.proofs.Heads.{stated-length}
 use Rattle.image.proofs.Laws.{load-means}
-use Rattle.ninterp.specs.Records.{recordRule}
 use Rattle.program.specs.Input.{imageSize, imageIn}
 use Rattle.program.proofs.input.Ends.{head-enough, size-stated}
-use Rattle.program.specs.Run.{runOf}
-use Rattle.checks.specs.Numbers.{mostRecords}
+use Rattle.program.specs.Run.{runBy}
 
 -- an image that loads is as long as it states, so what follows it is records
 module _ (img more : List ℕ) (g : good (loadFault img 256 4096) ≡ true) where
@@ -37,13 +32,16 @@ module _ (img more : List ℕ) (g : good (loadFault img 256 4096) ≡ true) wher
   image : imageIn (img ++ more) ≡ img
   image = ap (λ (n : ℕ). take n (img ++ more)) size ∙ take-at img more (length img) refl
 
-  pub run-loaded : runOf (img ++ more) ≡ linesOf (recordRule (shapeOf img) (nodesIn img) (valuesIn img)) mostRecords more
-  unfolding runOf
-  run-loaded =
-      ap₂ (λ (i r : List ℕ). cond (good (loadFault i 256 4096)) (linesOf (recordRule (shapeOf i) (nodesIn i) (valuesIn i)) mostRecords r) (lineOf (refused (loadFault i 256 4096)))) image (ap (λ (n : ℕ). drop n (img ++ more)) size ∙ drop-at img more (length img) refl)
-      ∙ ap (λ (b : Bool). cond b (linesOf (recordRule (shapeOf img) (nodesIn img) (valuesIn img)) mostRecords more) (lineOf (refused (loadFault img 256 4096)))) g
+  pub run-loaded : (text : List ℕ → List ℕ → List ℕ) → runBy text (img ++ more) ≡ text img more
+  unfolding runBy
+  run-loaded text =
+      ap₂ (λ (i r : List ℕ). cond (good (loadFault i 256 4096)) (text i r) (lineOf (refused (loadFault i 256 4096))))
+      image (ap (λ (n : ℕ). drop n (img ++ more)) size ∙ drop-at img more (length img) refl)
+      ∙ ap (λ (b : Bool). cond b (text img more) (lineOf (refused (loadFault img 256 4096)))) g
 
 -- what was read of an image that is refused is one line, whatever follows it
-pub run-refused : (input : List ℕ) → good (loadFault (imageIn input) 256 4096) ≡ false → runOf input ≡ lineOf (refused (loadFault (imageIn input) 256 4096))
-unfolding runOf
-run-refused input h = ap (λ (b : Bool). cond b (linesOf (recordRule (shapeOf (imageIn input)) (nodesIn (imageIn input)) (valuesIn (imageIn input))) mostRecords (drop (imageSize input) input)) (lineOf (refused (loadFault (imageIn input) 256 4096)))) h
+pub run-refused : (text : List ℕ → List ℕ → List ℕ) (input : List ℕ) → good (loadFault (imageIn input) 256 4096) ≡ false
+    → runBy text input ≡ lineOf (refused (loadFault (imageIn input) 256 4096))
+unfolding runBy
+run-refused text input h =
+    ap (λ (b : Bool). cond b (text (imageIn input) (drop (imageSize input) input)) (lineOf (refused (loadFault (imageIn input) 256 4096)))) h

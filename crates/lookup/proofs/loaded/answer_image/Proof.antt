@@ -1,5 +1,6 @@
 use lib.Seq.{length-take-le}
-use Rattle.lookup.proofs.loaded.Loads.{refusal, nodes-there, values-there, table}
+use Rattle.program.specs.Run.{linesBy}
+use Rattle.program.proofs.run.Loads.{refusal, nodes-there, values-there, table}
 use mathlib.Core.Path.{sym}
 use Prim.Native.Nat.{_≤_}
 use native.Mathlib.Omega.{arith}
@@ -18,7 +19,7 @@ refuse-requires : tie.Need-refuse-requires
 refuse-requires c κs =
     let l = load (c .before) in
     let s = start l in
-    refusal (l .load .ensures) (s .pre .0 .0) (s .pre .0 .1) (c .if1 .taken) (s .pre .1)
+    refusal (l .load .ensures) (s .pre .0 .0) (s .pre .0 .1) (c .if1 .taken) (s .pre .1) linesBy
 
 abbrev passed : tie.After-sizes → tie.Else1
 passed c = c .before .before

@@ -14,17 +14,20 @@ use Rattle.answer.specs.declared.Fault.{Fault}
 use Rattle.answer.specs.declared.Answer.{Answer}
 use Rattle.answer.proofs.Answers.{then-good, then-bad, refused-number}
 use Rattle.answer.proofs.Orders.{clash}
+use Rattle.layout.specs.declared.Shape.{Shape}
 use Rattle.checks.specs.Scaffolding.{sizesOf}
 use Rattle.checks.specs.declared.shapes.Holding.{Holding}
+use Rattle.checks.proofs.shapes.Frames.{shape-four}
 use Rattle.image.specs.Load.{loadFault, loadAnswer, Loaded}
 use Rattle.image.specs.declared.LoadAnswer.{LoadAnswer}
 use Rattle.image.proofs.Fronts.{front-shape, front-many, front-large, front-nodes, front-values}
 use Rattle.image.proofs.Loads.{nodes-fit, values-fit}
+use Rattle.image.proofs.Laws.{loaded-shape}
 use Rattle.lines.specs.Line.{lineOf}
 use Rattle.program.specs.Input.{imageIn}
-use Rattle.program.specs.Run.{runOf}
+use Rattle.program.specs.Run.{runBy}
+use Rattle.program.specs.Whole.{TableOf, Ran}
 use Rattle.program.proofs.run.Laws.{run-refused}
-use Rattle.lookup.specs.Whole.{TableOf, Whole}
 
 -- an answer's number is 0 exactly where nothing is wrong
 number-good : (f : Fault) (a : Answer) → a ≡ (f then fine) → eqb (a .number) 0 ≡ good f
@@ -48,10 +51,10 @@ module _ {img : List ℕ} {nodes values nodes′ values′ : List Float} {r : Lo
   told = ap (λ (x : LoadAnswer). x .answer) (l .answer) ∙ ap (λ (f : Fault). f then fine) same
 
   -- what is printed of an image that is refused
-  pub refusal : (r .answer .number ≡ 0 → ⊥) → imageIn img ≡ img → (good (loadFault img 256 4096) ≡ false) × (runOf img ≡ lineOf (r .answer))
-  refusal h i = (
+  pub refusal : (r .answer .number ≡ 0 → ⊥) → imageIn img ≡ img → (text : List ℕ → List ℕ → List ℕ) → (good (loadFault img 256 4096) ≡ false) × (runBy text img ≡ lineOf (r .answer))
+  refusal h i text = (
     bad,
-    run-refused img (ap (λ (x : List ℕ). good (loadFault x 256 4096)) i ∙ bad)
+    run-refused text img (ap (λ (x : List ℕ). good (loadFault x 256 4096)) i ∙ bad)
         ∙ ap (λ (x : List ℕ). lineOf (refused (loadFault x 256 4096))) i
         ∙ ap lineOf (sym (told ∙ then-bad (loadFault img 256 4096) fine bad)),
   )
@@ -81,12 +84,16 @@ module _ {img : List ℕ} {nodes values nodes′ values′ : List Float} {r : Lo
       values-are = front-values l given z e;
     }
 
-pub refused-whole : (img : List ℕ) (printed : ℕ) (ok : Bool) → good (loadFault img 256 4096) ≡ false → printed ≡ length (runOf img)
-    → Whole img (record { asked = 0; read = 0; printed = printed; ok = ok })
-refused-whole img printed ok h e = record {
+pub refused-ran : (text : List ℕ → List ℕ → List ℕ) (enough : ℕ) (img : List ℕ) (printed : ℕ) (ok : Bool) → good (loadFault img 256 4096) ≡ false
+    → printed ≡ length (runBy text img) → Ran text enough img (record { asked = 0; read = 0; printed = printed; ok = ok })
+refused-ran text enough img printed ok h e = record {
   records = [];
   all-read = refl;
-  all-printed = λ _. e ∙ ap (λ (l : List ℕ). length (runOf l)) (sym (append-nil img));
+  all-printed = λ _. e ∙ ap (λ (l : List ℕ). length (runBy text l)) (sym (append-nil img));
   refused-ends = λ _. refl;
   input-ends = λ t. clash (good (loadFault img 256 4096)) t h;
 }
+
+-- the table of an image has at most four axes
+pub four-axes : {img : List ℕ} {shape : Shape} {nodes values : List Float} → TableOf img shape nodes values → shape .axes ≤ 4
+four-axes {img} t = omega (arith, ap (λ (s : Shape). s .axes) (t .shape-is), shape-four _ (loaded-shape img 256 4096 (t .loads)))

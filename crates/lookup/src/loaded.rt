@@ -13,8 +13,8 @@ use crate::feed;
 use crate::print;
 use crate::print::Printed;
 use answer::Answer;
-use checks::shapes;
 use program::Counts;
+use program::front;
 
 // Puts the line of a refused image and prints it.
 fn put_refusal(img: &[u8], answer: Answer, out: &mut [u8]) -> Printed
@@ -46,14 +46,12 @@ pub(crate) fn answer_image(img: &[u8], nodes: &mut [f64], values: &mut [f64]) ->
     requires { ⌜ imageIn (now img) ≡ now img ⌝ }
     ensures { λ r. ⌜ Whole (now (img .entry)) r ⌝ }
 {
-    let loaded = image::load(img, nodes, values);
+    let loaded = front::load(img, nodes, values);
     let answer = loaded.answer;
     if answer.number != 0 {
         return refuse(img, answer);
     }
-    let shape = loaded.shape;
-    let sizes = shapes::sizes(shape);
-    let n = sizes.nodes;
-    let v = sizes.values;
-    feed::answer_all(img, shape, &nodes[..n], &values[..v])
+    let n = loaded.nodes;
+    let v = loaded.values;
+    feed::answer_all(img, loaded.shape, &nodes[..n], &values[..v])
 }

@@ -5,15 +5,27 @@ use mathlib.Core.Bool.{cond}
 use mathlib.Core.List.{List, [], _++_}
 use Prim.Native.Nat.{ℕ, _≤_}
 use lib.Dec.{eqb}
+use lib.Ieee.{Float}
 use lib.ListN.{length, take, drop}
 use Rattle.answer.specs.Faults.{refusal}
-use Rattle.answer.specs.Answer.{refused}
+use Rattle.answer.specs.Answer.{refused, fine, _then_}
 use Rattle.answer.specs.declared.Answer.{Answer}
 use Rattle.lines.specs.Line.{lineOf}
 use Rattle.lines.specs.Put.{put, roomFor, allInto}
 use Rattle.lines.specs.Stream.{Rule, linesOf}
-use Rattle.program.specs.Input.{nothingMore}
+use Rattle.image.specs.Load.{loadFault}
+use Rattle.program.specs.Input.{imageSize, imageIn, nothingMore}
+use Rattle.program.specs.Whole.{TableOf}
+use Rattle.program.specs.declared.front.Front.{Front}
 use Rattle.checks.specs.Numbers.{mostRecords}
+
+-- The image at the front of an input was loaded into outputs that were left so. It is refused, or its table stands at their fronts, and
+-- what follows it are the records.
+pub record Loads (input : List ℕ) (nodes values : List Float) (f : Front) : Type 0 where
+  pub image-is : take (f .size) input ≡ imageIn input
+  pub rest-is : drop (f .size) input ≡ drop (imageSize input) input
+  pub told : f .answer ≡ (loadFault (imageIn input) 256 4096 then fine)
+  pub table : f .answer .number ≡ 0 → TableOf (imageIn input) (f .shape) (take (f .nodes) nodes) (take (f .values) values)
 
 -- xs was put at a place of the output d, where all of it has room, which left it as e; r is the length of xs, put or not
 pub record Placed (xs d : List ℕ) (at : ℕ) (e : List ℕ) (r : ℕ) : Type 0 where

@@ -4,6 +4,8 @@
 
 // what the bytes of an input say, whatever its table: where the image ends, whether to read on, the input's end
 pub mod input;
+// the image at the front of an input, loaded
+pub mod front;
 // one whole run as a call: an input in memory, its lines in an output
 pub mod run;
 // the table image and the blocks, read from standard input

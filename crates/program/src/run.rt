@@ -8,10 +8,10 @@ ghost use Rattle.ninterp.specs.Records.{recordRule, recordSize};
 ghost use Rattle.program.specs.Scaffolding.{Placed, Fronted, endOf, textOf};
 ghost use Rattle.program.specs.Run.{runOf, Texted};
 ghost use Rattle.checks.specs.Numbers.{mostRecords};
+use crate::front;
 use crate::input;
 use answer::Answer;
 use checks::lent;
-use checks::shapes;
 use layout::Shape;
 use ninterp::records::block;
 use ninterp::records::block::Done;
@@ -171,11 +171,10 @@ fn run_in(
     requires { ⌜ (length (now nodes) ≡ 256) × ((length (now values) ≡ 4096) × (length (now chunk) ≡ 4096)) ⌝ }
     ensures { λ r. ⌜ Texted (runOf (now (input .entry))) (now (out .entry)) (now (out .exit)) r ⌝ }
 {
-    let size = layout::least(input::image_size(input), input.len());
-    let loaded = image::load(&input[..size], nodes, values);
-    let held = shapes::sizes(loaded.shape);
-    let n = layout::least(held.nodes, nodes.len());
-    let v = layout::least(held.values, values.len());
+    let loaded = front::load(input, nodes, values);
+    let n = loaded.nodes;
+    let v = loaded.values;
+    let size = loaded.size;
     give_text(
         loaded.answer,
         loaded.shape,

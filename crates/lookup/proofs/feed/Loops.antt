@@ -15,7 +15,7 @@ use Rattle.lines.specs.Stream.{Rule, linesOf}
 use Rattle.program.specs.Run.{ruleOf}
 use Rattle.checks.specs.Numbers.{mostRecords}
 use Rattle.program.specs.Whole.{TableOf}
-use Rattle.program.proofs.run.Loads.{four-axes}
+use Rattle.program.proofs.front.Loads.{four-axes}
 use Rattle.lookup.specs.declared.feed.Next.{Next}
 use Rattle.lookup.specs.Scaffolding.{Room, Last, Stepped}
 

@@ -1,6 +1,6 @@
 use lib.Seq.{length-take-le}
 use Rattle.program.specs.Run.{ruleOf}
-use Rattle.program.proofs.run.Loads.{four-axes}
+use Rattle.program.proofs.front.Loads.{four-axes}
 use Rattle.lookup.proofs.feed.Loops.{Feeding, turnsLeft, feed-start, feed-room, feed-step, feed-last, fewer}
 use Rattle.lookup.proofs.feed.Wholes.{failed-whole, ended-whole}
 use mathlib.Core.Path.{sym}

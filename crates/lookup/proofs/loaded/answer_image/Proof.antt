@@ -1,10 +1,7 @@
 use lib.Seq.{length-take-le}
 use Rattle.program.specs.Run.{linesBy}
-use Rattle.program.proofs.run.Loads.{refusal, nodes-there, values-there, table}
+use Rattle.program.proofs.front.Loads.{image-refused, image-table}
 use mathlib.Core.Path.{sym}
-use Prim.Native.Nat.{_≤_}
-use native.Mathlib.Omega.{arith}
-use lib.ListN.{length}
 use borrow.Author.Needs.{needs}
 use Rattle.lookup.proofs.loaded.answer_image.Statement.{statement}
 use Rattle.lookup.proofs.loaded.answer_image.Tie as tie
@@ -19,39 +16,20 @@ refuse-requires : tie.Need-refuse-requires
 refuse-requires c κs =
     let l = load (c .before) in
     let s = start l in
-    refusal (l .load .ensures) (s .pre .0 .0) (s .pre .0 .1) (c .if1 .taken) (s .pre .1) linesBy
-
-abbrev passed : tie.After-sizes → tie.Else1
-passed c = c .before .before
-
--- both outputs have room for what is lent of them
-fronts : (c : tie.After-sizes)
-    → (c .sizes .result .nodes ≤ length (load (passed c .before) .load .last .1 .0)) × (c .sizes .result .values ≤ length (load (passed c .before) .load .last .1 .1 .0))
-fronts c =
-    let l = load (passed c .before) in
-    let s = start l in (
-      nodes-there (l .load .ensures) (s .pre .0 .0) (s .pre .0 .1) (passed c .if1 .left) (c .sizes .result) (c .sizes .ensures) (l .load .kept .1 .0),
-      values-there (l .load .ensures) (s .pre .0 .0) (s .pre .0 .1) (passed c .if1 .left) (c .sizes .result) (c .sizes .ensures) (l .load .kept .1 .1 .0),
-    )
-
-slice-reshare-prefix-answer-all : tie.Need-slice-reshare-prefix-answer-all
-slice-reshare-prefix-answer-all c = omega (arith, fronts c)
+    image-refused (l .load .ensures .0 (s .pre .0 .0) (s .pre .0 .1)) (s .pre .1) (c .if1 .taken) linesBy
 
 slice-aggregate-answer-all : tie.Need-slice-aggregate-answer-all
-slice-aggregate-answer-all c = sym (length-take-le _ _ (omega (arith, fronts (c .before))))
-
-slice-reshare-prefix-answer-all-2 : tie.Need-slice-reshare-prefix-answer-all-2
-slice-reshare-prefix-answer-all-2 c = omega (arith, fronts (c .before))
+slice-aggregate-answer-all c = sym (length-take-le _ _ (search needs))
 
 slice-aggregate-answer-all-2 : tie.Need-slice-aggregate-answer-all-2
-slice-aggregate-answer-all-2 c = sym (length-take-le _ _ (omega (arith, fronts (c .before .before))))
+slice-aggregate-answer-all-2 c = sym (length-take-le _ _ (search needs))
 
 answer-all-requires : tie.Need-answer-all-requires
 answer-all-requires c κs =
     let z = c .before .before in
-    let l = load (passed z .before) in
+    let l = load (z .before) in
     let s = start l in
-    table (l .load .ensures) (s .pre .0 .0) (s .pre .0 .1) (passed z .if1 .left) (z .sizes .result) (z .sizes .ensures)
+    image-table (l .load .ensures .0 (s .pre .0 .0) (s .pre .0 .1)) (s .pre .1) (z .if1 .left)
 
 pub answer-image-spec : {M : Type 1} → statement M
 answer-image-spec =
@@ -62,10 +40,9 @@ answer-image-spec =
     (λ c. search needs)
     (λ c. search needs)
     (λ c. search needs)
-    (λ c κs. search needs)
-    slice-reshare-prefix-answer-all
+    (λ c. search needs)
     slice-aggregate-answer-all
-    slice-reshare-prefix-answer-all-2
+    (λ c. search needs)
     slice-aggregate-answer-all-2
     answer-all-requires
     (λ c. search needs)

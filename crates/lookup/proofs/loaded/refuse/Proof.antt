@@ -1,4 +1,4 @@
-use Rattle.program.proofs.run.Loads.{refused-ran}
+use Rattle.program.proofs.front.Loads.{refused-ran}
 use borrow.Author.Needs.{needs}
 use Rattle.lookup.proofs.loaded.refuse.Statement.{statement}
 use Rattle.lookup.proofs.loaded.refuse.Tie as tie

@@ -1,19 +1,24 @@
 #!/usr/bin/env python3
-"""Makes the demos: for each NAME the input NAME.bin of the program `lookup`, and the lines NAME.out that it prints.
+"""Makes the demos: for each NAME the input NAME.bin of a program, and the lines NAME.out that it prints. The program is `lookup`, for
+the demo coverage `coverage`.
 
     python3 demo/make.py           writes them
     python3 demo/make.py --check   compares with the files that are there
 
 README.md says what each shows. Python 3 alone is needed.
 """
+import math
 import struct
 import sys
 from pathlib import Path
 
-sys.dont_write_bytecode = True
-import lines
-
 HERE = Path(__file__).resolve().parent
+
+sys.dont_write_bytecode = True
+sys.path.append(str(HERE.parent / 'vectors'))
+from lines import lines
+from report import report
+from tables import lay, table
 
 LINEAR, LINEAR_UNIFORM, NEAREST, STEP_LOWER, STEP_UPPER = range(5)
 
@@ -27,17 +32,25 @@ def halves(first, second):
     return tuple(a[:4] + b[4:] for a, b in zip(first, second))
 
 
-def image(nodes, values):
-    """A table of one axis, as document 01's writer places it."""
-    values_at = 40 + 8 * len(nodes)
-    length = values_at + 8 * len(values)
-    head = struct.pack('<BBHI4H4III', 1, 1, 0, length, len(nodes), 0, 0, 0, 40, 0, 0, 0, values_at, 0)
-    return head + struct.pack(f'<{len(nodes) + len(values)}d', *nodes, *values)
+def recording(axes, values, *records):
+    """An image, as document 01's writer places it, and records of a kind and a reading for each axis."""
+    return lay(table(axes, values)) + b''.join(struct.pack(f'<B{len(axes)}d', *record) for record in records)
 
 
 def demo(nodes, values, *records):
-    """An image, and records of a kind and a reading."""
-    return image(nodes, values) + b''.join(struct.pack('<Bd', *record) for record in records)
+    """A table of one axis, and records."""
+    return recording([nodes], values, *records)
+
+
+def site():
+    """What a site recorded: volts and hertz; it lives in two corners of the table."""
+    volts, hertz = [180, 200, 220, 240, 260], [48, 49.5, 50.5, 52]
+    day = [(LINEAR, 182 + i, 48.25 + i / 16) for i in range(18)] + [(LINEAR, 180, 48), (NEAREST, 200, 49.5)]
+    night = [(LINEAR, 246 + i, 50.75 + i / 16) for i in range(12)] + [(LINEAR, 260, 52)]
+    outside = [(LINEAR, 176, 48.5), (LINEAR, 171.5, 48.125), (LINEAR, 262.5, 51.5)]
+    wrong = [(LINEAR, 190, math.nan), (LINEAR_UNIFORM, 190, 49), (LINEAR_UNIFORM, 250, 51)]
+    # The recorder lost its power within the last record.
+    return recording([volts, hertz], range(100, 120), *day, *outside, *night, *wrong, (LINEAR, 191, 48.5))[:-8]
 
 
 def demos():
@@ -50,13 +63,15 @@ def demos():
         'node': demo([0, 1, 2, 4], [0.1, 0.2, 0.3, 0.4], *((kind, 2) for kind in range(5))),
         'nearest': demo([-1, 1], [10, 20], (NEAREST, below_zero), (NEAREST, -0.5), (NEAREST, 0)),
         'mixed': demo(*halves(NEW, OLD), (LINEAR, -20), (LINEAR, 55), (LINEAR, 22.5), (LINEAR_UNIFORM, 22.5)),
+        'coverage': site(),
     }
 
 
 def files():
     for name, data in demos().items():
+        printed = report if name == 'coverage' else lines
         yield HERE / f'{name}.bin', data
-        yield HERE / f'{name}.out', lines.lines(data).encode()
+        yield HERE / f'{name}.out', printed(data).encode()
 
 
 def main():

@@ -1,18 +1,21 @@
 /* Ngamsothul: table lookup on rectilinear grids. What the archive libngamsothul.a exports; README.md says how to link it.
  *
- * Every call takes any numbers, judges what it is lent, ends, and answers. It allocates nothing, calls nothing, and keeps nothing between
- * calls, so any number of threads may call at once. What no checker sees, and the caller owes:
+ * Every call takes any numbers, judges what it is lent, ends, and answers. It allocates nothing, calls nothing (ng_count_record: memcpy
+ * alone), and keeps nothing between calls, so any number of threads may call at once. What no checker sees, and the caller owes:
  *
  * - A pointer with its length is a buffer of so many elements, aligned as C wants them, that may be read and, where it is not const,
- *   written. Where the length is 0 the pointer may be any, null too: nothing is read or written through it.
+ *   written. Where the length is 0 the pointer may be any, null too: nothing is read or written through it. A tally has no length beside
+ *   it: its pointer leads to one ng_tally, aligned and to be written, and is never null.
  * - A buffer that a call writes (a pointer that is not const) overlaps no other buffer of the same call. These are the pairs: in a slice,
  *   out with nodes, values and directions; in ng_load, nodes with values, and each of the two with image; in ng_write, image with nodes
- *   and with values. Buffers that are only read may overlap, or be one. While a call runs nobody else writes what it is lent.
+ *   and with values; in ng_count_record, the tally with nodes, values and rec. Buffers that are only read may overlap, or be one. While a
+ *   call runs nobody else writes what it is lent, nor reads what it writes: of several threads each has a tally of its own.
  * - The machine rounds to nearest, keeps subnormal numbers and has floating-point exceptions masked, as a C program begins. A program
  *   linked with -ffast-math may flush them; after feenableexcept a sum that overflows, which a call judges, would stop the program.
- * - The stack has NG_STACK_BYTES left, or NG_LOAD_STACK_BYTES for ng_load. These two were measured, with room to spare; no proof has them.
+ * - The stack has NG_STACK_BYTES left, NG_LOAD_STACK_BYTES for ng_load, or NG_COUNT_STACK_BYTES for ng_count_record. These three were
+ *   measured, with room to spare; no proof has them.
  *
- * The archive is for x86-64 and C's own calling convention there. It needs no library.
+ * The archive is for x86-64 and C's own calling convention there. It needs no library but for memcpy, which ng_count_record calls.
  */
 #ifndef NGAMSOTHUL_H
 #define NGAMSOTHUL_H
@@ -32,11 +35,14 @@ enum {
     NG_MOST_AXES = 4,
     NG_FEWEST_NODES = 2, /* of one axis */
     NG_MOST_NODES = 64,
+    NG_MOST_CELLS = 63, /* of one axis */
     NG_MOST_VALUES = 4096,
     NG_HEADER_BYTES = 40, /* an image has at least a header */
     NG_MOST_BYTES = 36864,
+    NG_MOST_RECORDS = 1000000, /* in one tally */
     NG_STACK_BYTES = 2048,
-    NG_LOAD_STACK_BYTES = 36864
+    NG_LOAD_STACK_BYTES = 36864,
+    NG_COUNT_STACK_BYTES = 4096
 };
 
 /* ---- Numbers the technician sees, with the axis and the place that an answer gives beside each. */
@@ -62,7 +68,8 @@ enum ng_number {
     NG_AREA = 14,       /* an area does not begin at a multiple of 8 from 40 on, or ends outside the image */
                         /*                                                        axis, or the number of axes for the values; 0 */
     NG_ROOM = 15,       /* an output buffer too short                                       0; place 0 nodes, 1 values, 2 image */
-    NG_SLICE = 16       /* slice of a one-axis table, no such axis, or not axis 0 for the two linears         0, 0 */
+    NG_SLICE = 16,      /* slice of a one-axis table, no such axis, or not axis 0 for the two linears         0, 0 */
+    NG_LIMIT = 17       /* the tally has 1,000,000 records already                                            0, 0 */
 };
 
 /* A table's shape. Counts past its axes are not looked at; in a shape that a call gives they are 0. */
@@ -205,6 +212,34 @@ ng_load_answer ng_load(
 ng_write_answer ng_write(
     ng_shape shape, const double *nodes, size_t nodes_length, const double *values, size_t values_length,
     uint8_t *image, size_t image_length);
+
+/* ---- The coverage tally: which cells the readings of a table's records fall into, and why records are refused. */
+
+/* Its owner begins it as all zeros, `ng_tally tally = {0};`, lends it to each call, and reads the counts where they stand. A call takes any
+ * numbers in it for counts: one that is not begun counts on from what happens to be there, and where that says 1,000,000 records or more
+ * every call is refused 17. */
+typedef struct ng_tally {
+    uint32_t records;                            /* how many were counted, refused ones too */
+    uint32_t cells[NG_MOST_AXES][NG_MOST_CELLS]; /* by axis and cell: those answered 0, by their reading on that axis */
+    uint32_t numbers[21];                        /* by number: those refused. 1 to 12 can be met; the others stay as they are */
+} ng_tally;
+
+/* Counts one record of a table in a tally. A record is a kind byte (0 Linear, 1 LinearUniform, 2 Nearest, 3 Step all lower, 4 Step all
+ * upper) and a reading for each axis, an f64 of 8 bytes, little-endian: 1 + 8 * axes bytes, as the program `lookup` reads them.
+ *
+ * Where the lookup answers it, it counts on each axis in the cell that ng_locate_lower_index names, whatever its kind: a reading on a node
+ * in the cell below that node, on the first node in cell 0. Where the lookup refuses it, for its own sake (3 of another length, 9 of an
+ * unknown kind, 8, 10, 11, 12) or for the table's (1 to 7), it counts under that number. Both are a success of this call: 0, 0, 0, +0.0.
+ * So on each axis of the table the counts of the cells and those of the numbers add up to the records, where one table was lent for all of
+ * them. A count that stands at 2^32 - 1 stays there.
+ *
+ * A file of records that ends within one: lend the piece, which counts under 3. Where nothing is left, lend nothing: no bytes are a record
+ * too, of the wrong length.
+ *
+ * Refusals: 17 where the tally has 1,000,000 records already, whatever the record and the table are; the tally is as it was. */
+ng_answer ng_count_record(
+    ng_tally *tally, ng_shape shape, const double *nodes, size_t nodes_length, const double *values, size_t values_length,
+    const uint8_t *rec, size_t rec_length);
 
 #ifdef __cplusplus
 }

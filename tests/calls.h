@@ -15,7 +15,7 @@
 /* ---- the calls, by number, and the refusals that each can give, in the header's words */
 enum what {
     LOCATE_LOWER_INDEX, LOCATE_AXIS, LOCATE_STEP_INDEX, EXACT_INDEX, LOCATE_LOWER_INDEX_UNIFORM, VALIDATE, VALIDATE_EPSILON,
-    LINEAR, LINEAR_UNIFORM, NEAREST, STEP, SLICE_LINEAR, SLICE_LINEAR_UNIFORM, SLICE_NEAREST, SLICE_STEP, LOAD, WRITE,
+    LINEAR, LINEAR_UNIFORM, NEAREST, STEP, SLICE_LINEAR, SLICE_LINEAR_UNIFORM, SLICE_NEAREST, SLICE_STEP, LOAD, WRITE, COUNT_RECORD,
     CALLS, NO_CALL = CALLS
 };
 
@@ -43,9 +43,10 @@ static const struct { const char *name; unsigned refusals; } known[CALLS] = {
     {"ng_slice_step", SLICE | N(9)},
     {"ng_load", (TABLE ^ N(3)) | N(13) | N(14) | N(15)},
     {"ng_write", TABLE | N(15)},
+    {"ng_count_record", N(17)},
 };
 
-/* What is passed. A call looks at what it takes; grid is nodes, and lower, axis or n is at. */
+/* What is passed. A call looks at what it takes; grid is nodes, lower, axis or n is at, and rec is image. */
 typedef struct {
     enum what what;
     ng_shape shape;
@@ -58,7 +59,7 @@ typedef struct {
     uint8_t direction;
     uint32_t lent;
     size_t room, second_room; /* of the outputs: values of a slice, the image; of a load, the nodes and the values */
-    const void *held, *second_held; /* what the outputs hold at first */
+    const void *held, *second_held; /* what the outputs hold at first; a tally, which has no room beside it */
     int nulls; /* lend null in the place of each empty buffer */
 } call;
 
@@ -157,6 +158,7 @@ static void make_now(void)
         result.answer = r.answer, result.length = r.length;
         break;
     }
+    case COUNT_RECORD: result.answer = ng_count_record((ng_tally *)c->held, A_TABLE, c->image, c->image_length); break;
     case NO_CALL: break;
     }
 }
@@ -232,7 +234,7 @@ static void compare_all(const call *c, size_t size, size_t second)
     size_t wrote = 0, wrote_second = 0, all = 1, sum = 0;
     for (size_t a = 0; a < result.shape.axes && a < 4; a++) all *= result.shape.counts[a], sum += result.shape.counts[a];
     if (result.answer.number == 0 && c->what >= SLICE_LINEAR) {
-        wrote = c->what == WRITE ? result.length : c->what == LOAD ? sum * 8 : all * 8;
+        wrote = c->what == WRITE ? result.length : c->what == LOAD ? sum * 8 : c->what == COUNT_RECORD ? size : all * 8;
         if (c->what == LOAD) wrote_second = all * 8;
     }
     if (wrote > size || wrote_second > second) fail("%s says that it wrote past its room", known[c->what].name);
@@ -251,7 +253,7 @@ static void judge(const call *c)
     static const ng_shape no_shape;
     static const double plus_zero;
     ng_answer a = result.answer;
-    if (a.number > 16) fail("%s gave the number %u", known[c->what].name, a.number);
+    if (a.number > 17) fail("%s gave the number %u", known[c->what].name, a.number);
     seen[c->what] |= N(a.number);
     if (a.number == 0) {
         made_calls++;
@@ -266,7 +268,7 @@ static void judge(const call *c)
 
 static given made(const call *c, int at_end)
 {
-    size_t size = c->room * (c->what == WRITE ? 1 : 8), second = c->second_room * 8;
+    size_t size = c->what == COUNT_RECORD ? sizeof(ng_tally) : c->room * (c->what == WRITE ? 1 : 8), second = c->second_room * 8;
     lend_all(c, at_end, size, second);
     size_t depth = on_stack() - stack_bare;
     if (depth > stack_used[c->what]) stack_used[c->what] = depth;
@@ -288,13 +290,13 @@ static void finish(const char *name, int first)
 {
     for (int w = first; w < CALLS; w++) {
         if (seen[w] != (known[w].refusals | 1)) fail("%s: numbers %#x were seen, of %#x", known[w].name, seen[w], known[w].refusals | 1);
-        size_t bytes = w == LOAD ? NG_LOAD_STACK_BYTES : NG_STACK_BYTES;
+        size_t bytes = w == LOAD ? NG_LOAD_STACK_BYTES : w == COUNT_RECORD ? NG_COUNT_STACK_BYTES : NG_STACK_BYTES;
         if (stack_used[w] > bytes) fail("%s took %zu bytes of stack", known[w].name, stack_used[w]);
     }
     size_t most = 0;
     for (int w = first; w < CALLS; w++)
-        if (w != LOAD && stack_used[w] > most) most = stack_used[w];
+        if (w != LOAD && w != COUNT_RECORD && stack_used[w] > most) most = stack_used[w];
     printf("%s: %lu refused and %lu made calls", name, refused_calls, made_calls);
-    if (most) printf("; stack %zu bytes, ng_load %zu", most, stack_used[LOAD]);
+    if (most) printf("; stack %zu bytes, ng_load %zu, ng_count_record %zu", most, stack_used[LOAD], stack_used[COUNT_RECORD]);
     putchar('\n');
 }

@@ -1,4 +1,4 @@
-/* The bench cases P1 to P11, and every refusal that each call can give, through include/ngamsothul.h. */
+/* The bench cases P1 to P11, every refusal that each call can give, and where a record counts, through include/ngamsothul.h. */
 #include "calls.h"
 
 #include <float.h>
@@ -8,8 +8,14 @@ static double held[4096], second[4096];
 static unsigned checked;
 
 /* ---- what is expected */
+static void counted(const char *why, const call *c, uint32_t number, const size_t *cells);
+
 static void refused(const char *why, const call *c, uint32_t number, size_t axis, size_t place)
 {
+    if (c->what == COUNT_RECORD && number != NG_LIMIT) {
+        counted(why, c, number, NULL); /* a success of that call */
+        return;
+    }
     ng_answer a = both_sides(c).answer;
     checked++;
     if (a.number != number || a.axis != axis || a.place != place)
@@ -70,8 +76,16 @@ static call stepped(uint8_t direction, double x)
 /* Two axes, three nodes and two, of one step each. */
 static double nodes[5], values[6], point[2];
 static uint8_t directions[2];
-static uint8_t image[NG_MOST_BYTES];
-enum { IMAGE = 40 + 8 * 5 + 8 * 6 };
+static uint8_t image[NG_MOST_BYTES], rec[40];
+static ng_tally tally;
+enum { IMAGE = 40 + 8 * 5 + 8 * 6, RECORD = 1 + 8 * 2 };
+
+/* The record of a kind and of the reading. */
+static void recorded(int kind)
+{
+    rec[0] = (uint8_t)kind;
+    memcpy(rec + 1, point, sizeof point);
+}
 
 static call table(enum what what)
 {
@@ -86,6 +100,7 @@ static call table(enum what what)
     if (what == WRITE) c.room = IMAGE;
     if (what == LOAD) c.image = image, c.image_length = IMAGE, c.room = 5, c.second_held = second, c.second_room = 6;
     if (what == LOAD) c.nodes = c.values = NULL, c.nodes_length = c.values_length = 0;
+    if (what == COUNT_RECORD) c.image = rec, c.image_length = RECORD, c.held = &tally, recorded(0);
     return c;
 }
 
@@ -391,6 +406,144 @@ static void image_contents(void)
     passed("the image again", &c);
 }
 
+/* ---- the tally. Its counts are all different at first, so that a wrong place shows. */
+static void begin_tally(uint32_t records)
+{
+    uint32_t mark = 7000;
+    tally.records = records;
+    for (int i = 0; i < NG_MOST_AXES * NG_MOST_CELLS; i++) tally.cells[i / NG_MOST_CELLS][i % NG_MOST_CELLS] = mark++;
+    for (int k = 0; k < 21; k++) tally.numbers[k] = mark++;
+}
+
+static void one_more(uint32_t *count) { *count += *count < UINT32_MAX; }
+
+/* The record counts under its number, or where that is 0 in these cells; no other count changes. */
+static void counted(const char *why, const call *c, uint32_t number, const size_t *cells)
+{
+    ng_tally owed = tally;
+    owed.records++;
+    if (number) one_more(&owed.numbers[number]);
+    for (size_t a = 0; !number && a < c->shape.axes; a++) one_more(&owed.cells[a][cells[a]]);
+    valued(why, c, 0.0);
+    if (memcmp(now.held, &owed, sizeof owed)) fail("ng_count_record, %s: not counted under %u, or in another cell", why, number);
+}
+
+/* 8 to 12 by every kind; frames and contents have 1 to 7. */
+static void counted_kinds(void)
+{
+    for (int kind = 0; kind < 5; kind++) {
+        call c = table(COUNT_RECORD);
+        nodes[2] = 2.5, recorded(kind);
+        counted("two steps", &c, kind == 1 ? 8 : 0, (size_t[]){0, 0});
+        for (size_t i = 0; i < 10; i++) {
+            c = table(COUNT_RECORD);
+            point[i / 5] = (double[]){NAN, INFINITY, -INFINITY, -0x1p-1074, i < 5 ? 2 + 0x1p-51 : 1 + 0x1p-52}[i % 5];
+            recorded(kind);
+            counted("a wild or an outer reading", &c, i % 5 < 3 ? 10 : 11, NULL);
+        }
+        c = table(COUNT_RECORD), point[0] = nodes[2] = 2 + 0x1p-42, point[1] = 1, values[5] = DBL_MAX, recorded(kind);
+        counted("a result past all numbers", &c, kind == 1 ? 12 : 0, (size_t[]){1, 0});
+    }
+    for (int kind = 5; kind < 256; kind++) {
+        call c = table(COUNT_RECORD);
+        point[0] = kind % 2 ? NAN : 0.5, recorded(kind);
+        counted("an unknown kind", &c, 9, NULL);
+    }
+}
+
+/* 3 of a record's own length, and what is asked before it and after it. */
+static void counted_lengths(void)
+{
+    for (size_t n = 0; n <= sizeof rec; n++) {
+        call c = table(COUNT_RECORD);
+        c.image_length = n, c.nulls = 1;
+        counted("a record of this length", &c, n == RECORD ? 0 : 3, (size_t[]){0, 0});
+        c.shape.counts[1] = 1;
+        counted("a count before its length", &c, 2, NULL);
+        c = table(COUNT_RECORD), c.image_length = n, values[5] = NAN, recorded(5);
+        counted("its length before a value, a value before its kind", &c, n == RECORD ? 7 : 3, NULL);
+    }
+}
+
+/* Readings on nodes and halfway, by every kind: a reading on a node counts in the cell below it, on the first node in cell 0. */
+static void counted_cells(const call *in)
+{
+    uint8_t bytes[33];
+    for (size_t j = 0; j < 127; j++)
+        for (uint8_t kind = 0; kind < 5; kind++) {
+            size_t cells[4];
+            call c = *in;
+            c.what = COUNT_RECORD, c.held = &tally, c.image = bytes, c.image_length = 1 + 8 * c.shape.axes, bytes[0] = kind;
+            for (size_t a = 0; a < c.shape.axes; a++) {
+                size_t halves = (j + 31 * a) % (2 * c.shape.counts[a] - 1);
+                cells[a] = halves ? (halves - 1) / 2 : 0;
+                memcpy(bytes + 1 + 8 * a, &(double){0.5 * (double)halves}, 8);
+            }
+            counted("every cell", &c, 0, cells);
+        }
+}
+
+/* A run from nothing: on each axis the counts of the cells and of the numbers add up to the records. */
+static void counted_run(void)
+{
+    memset(&tally, 0, sizeof tally);
+    for (size_t i = 0; i < 2310; i++) {
+        call c = table(COUNT_RECORD);
+        size_t halves = i % 7; /* from half a step below the axis to half a step above it */
+        point[0] = 0.5 * (double)halves - 0.5, point[1] = i % 11 ? 0.25 * (double)(i % 5) : NAN;
+        recorded(i % 6);
+        counted("a run", &c, i % 6 == 5 ? 9 : i % 11 == 0 ? 10 : halves % 6 == 0 ? 11 : 0, (size_t[]){halves > 3, 0});
+        memcpy(&tally, now.held, sizeof tally);
+    }
+    for (size_t a = 0; a < 2; a++) {
+        uint32_t sum = 0;
+        for (int i = 0; i < NG_MOST_CELLS; i++) sum += tally.cells[a][i];
+        for (int k = 0; k < 21; k++) sum += tally.numbers[k];
+        if (sum != 2310 || tally.records != 2310) fail("axis %zu has %u of %u records", a, sum, tally.records);
+    }
+}
+
+/* 17 whatever the record and the table are, and the tally as it was; one record before it the last is counted. A full count stays. */
+static void limited(void)
+{
+    for (int i = 0; i < 3; i++)
+        for (int kind = 0; kind < 6; kind++) {
+            begin_tally((uint32_t[]){NG_MOST_RECORDS, NG_MOST_RECORDS + 1, UINT32_MAX}[i]);
+            call c = table(COUNT_RECORD);
+            recorded(kind);
+            refused("past the limit", &c, 17, 0, 0);
+            nodes[1] = NAN;
+            refused("a refused table", &c, 17, 0, 0);
+            c.image_length = 0, c.nulls = 1;
+            refused("no record", &c, 17, 0, 0);
+            c.shape.axes = 0;
+            refused("no axes", &c, 17, 0, 0);
+        }
+    begin_tally(NG_MOST_RECORDS - 1);
+    call c = table(COUNT_RECORD);
+    counted("the last record", &c, 0, (size_t[]){0, 0});
+    memset(&tally, 0xff, sizeof tally);
+    refused("a tally that was not begun", &c, 17, 0, 0);
+    tally.records = 0;
+    counted("full cells", &c, 0, (size_t[]){0, 0});
+    c.image_length = 0;
+    counted("a full number", &c, 3, NULL);
+}
+
+/* As a program writes it, with tallies that lie at every multiple of 4. */
+static void lying_anywhere(void)
+{
+    uint32_t words[sizeof(ng_tally) / 4 + 4];
+    for (size_t at = 0; at < 4; at++) {
+        memset(words, 0, sizeof words);
+        ng_tally *lent = (ng_tally *)(words + at);
+        table(COUNT_RECORD);
+        for (int i = 0; i < 3; i++)
+            if (ng_count_record(lent, (ng_shape){2, {3, 2}}, nodes, 5, values, 6, rec, RECORD - i).number) fail("not counted");
+        if (lent->records != 3 || lent->cells[0][0] != 1 || lent->cells[1][0] != 1 || lent->numbers[3] != 2) fail("counted wrong");
+    }
+}
+
 /* ---- the largest tables, with every rule */
 static void largest(void)
 {
@@ -410,6 +563,7 @@ static void largest(void)
                 .point = reading, .point_length = shapes[s].axes, .directions = up, .directions_length = shapes[s].axes, .x = 0.5,
                 .held = held, .room = 4096, .second_held = second, .second_room = 4096};
             if (w == WRITE) c.held = image, c.room = NG_MOST_BYTES;
+            if (w == LINEAR) counted_cells(&c);
             if (w == LOAD || (cuts(w) && s == 3)) continue;
             passed("a large table", &c);
         }
@@ -438,7 +592,11 @@ int main(void)
     frames(WRITE), contents(WRITE);
     written();
     header_bytes(), image_contents();
+    begin_tally(5);
+    frames(COUNT_RECORD), contents(COUNT_RECORD);
+    counted_kinds(), counted_lengths();
     largest();
+    counted_run(), limited(), lying_anywhere();
     finish("library", 0);
     printf("library: %u cases, each with its buffers at the starts and at the ends of their pages\n", checked);
 }

@@ -1,6 +1,7 @@
 /* A proof has one NaN, so an equation of floats says nothing of a NaN's sign and payload. Here that is run: outputs and inputs full of NaNs
- * of many patterns, over drawn calls of the four slices, the loader and the writer. Every byte of a refused call's outputs, every byte
- * beyond what a made call writes, and every input must be as it was: both_sides (calls.h) fails at the first that is not. */
+ * of many patterns, over drawn calls of the four slices, the loader, the writer and the counting call. Every byte of a refused call's
+ * outputs, every byte beyond what a made call writes, and every input must be as it was: both_sides (calls.h) fails at the first that is
+ * not. */
 #include "calls.h"
 
 static uint64_t state = 1;
@@ -60,6 +61,7 @@ static call accepted(enum what what)
     c.room = all / c.shape.counts[c.at] + below(9);
     if (what == WRITE) c.room = 40 + 8 * sum + 8 * all + below(60), c.held = bytes;
     if (what == LOAD) c.room = sum + below(9), c.second_room = all + below(9);
+    if (what == COUNT_RECORD) c.image = image, c.image_length = 1 + 8 * axes, c.held = bytes;
     return c;
 }
 
@@ -129,18 +131,31 @@ static void to_load(call *c, int whole)
     c->nodes = c->values = NULL, c->nodes_length = c->values_length = 0;
 }
 
+/* A record of any kind, on nodes or with NaNs, whole or too short or too long; of the tally how many it has, about the limit or any. */
+static void to_count(call *c, int whole)
+{
+    uint32_t records = (uint32_t)(below(2) ? NG_MOST_RECORDS - 3 + below(6) : drawn());
+    memcpy(bytes, &records, 4);
+    lay_nans(image + 1, 4);
+    image[0] = (uint8_t)below(6);
+    for (size_t a = 0; a < 4; a++)
+        if (whole || below(4)) memcpy(image + 1 + 8 * a, &(double){(double)below(2)}, 8);
+    if (!whole && below(6) == 0) c->image_length = below(40);
+}
+
 int main(int count, char **words)
 {
     unsigned long calls = count > 1 ? strtoul(words[1], NULL, 10) : 60000;
     begin();
     for (unsigned long i = 0; i < calls; i++) {
-        call c = accepted(SLICE_LINEAR + below(WRITE - SLICE_LINEAR + 1));
+        call c = accepted(SLICE_LINEAR + below(CALLS - SLICE_LINEAR));
         int whole = below(4) == 0;
         if (c.what == LOAD) to_load(&c, whole);
         else if (c.what == SLICE_LINEAR_UNIFORM && below(9) == 0) overflow(&c);
         else if (!whole) spoil(&c);
-        lay_nans(c.what == WRITE ? (void *)bytes : held, MOST);
+        lay_nans(c.held == held ? (void *)held : bytes, MOST);
         if (c.what == LOAD) lay_nans(second, MOST);
+        if (c.what == COUNT_RECORD) to_count(&c, whole);
         both_sides(&c);
     }
     for (int k = 0; k < 208; k++)

@@ -2,15 +2,16 @@
 //!
 //! A call takes any numbers. What the header asks for beside that:
 //!
-//! - A pointer with its length is a buffer: here each is a slice's. That of an empty slice leads nowhere, which the header allows.
-//! - A buffer that is written overlaps no other of the call: here it is a `&mut` slice.
+//! - A pointer with its length is a buffer: here each is a slice's. That of an empty slice leads nowhere, which the header allows. A tally,
+//!   which has no length beside it, is a `&mut Tally`.
+//! - A buffer that is written overlaps no other of the call: here it is a `&mut`.
 //! - The machine rounds to nearest, keeps subnormal numbers and has floating-point exceptions masked: Rust asks for the same.
 //! - There is stack left: where there is not, the program ends at the guard page, as in a Rust function. The one call that takes more than
 //!   a page, `ng_load`, touches its pages in turn.
 #![allow(unsafe_code)]
 
 use crate::answers::{Answer, AxisAnswer, ExactAnswer, IndexAnswer, ShapeAnswer, WriteAnswer};
-use crate::{Direction, Shape, Table};
+use crate::{Direction, Shape, Table, Tally};
 
 // Without SSE2 floats are passed in other registers.
 #[cfg(not(all(target_arch = "x86_64", target_pointer_width = "64", target_feature = "sse2", not(windows), not(target_os = "uefi"), not(target_vendor = "apple"))))]
@@ -66,6 +67,11 @@ extern "C" {
     fn ng_write(
         shape: Shape, nodes: Floats, nodes_length: usize, values: Floats, values_length: usize, image: *mut u8, image_length: usize,
     ) -> WriteAnswer;
+
+    fn ng_count_record(
+        tally: *mut Tally, shape: Shape, nodes: Floats, nodes_length: usize, values: Floats, values_length: usize,
+        rec: Bytes, rec_length: usize,
+    ) -> Answer;
 }
 
 // ---- the primitives
@@ -165,4 +171,14 @@ pub fn write(table: &Table<'_>, image: &mut [u8]) -> WriteAnswer {
     let Table { counts, nodes: n, values: v } = *table;
     // SAFETY: each pointer and the length after it are one slice's; `image` alone is written, and as a `&mut` it overlaps none.
     unsafe { ng_write(Shape::of(counts), n.as_ptr(), n.len(), v.as_ptr(), v.len(), image.as_mut_ptr(), image.len()) }
+}
+
+// ---- the tally
+
+pub fn count_record(tally: &mut Tally, table: &Table<'_>, record: &[u8]) -> Answer {
+    let (shape, Table { nodes: n, values: v, .. }) = (Shape::of(table.counts), *table);
+    let r = record;
+    // SAFETY: `tally` is one, laid out as the header has it; each pointer and the length after it are one slice's. The tally alone is
+    // written, and as a `&mut` it overlaps none. Any numbers in it are counts.
+    unsafe { ng_count_record(tally, shape, n.as_ptr(), n.len(), v.as_ptr(), v.len(), r.as_ptr(), r.len()) }
 }

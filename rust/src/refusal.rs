@@ -1,6 +1,6 @@
 //! What a refused call says: a number of the table of numbers, an axis and a place, and the same in words.
 
-use crate::{FEWEST_NODES, HEADER_BYTES, MOST_AXES, MOST_BYTES, MOST_NODES, MOST_VALUES};
+use crate::{FEWEST_NODES, HEADER_BYTES, MOST_AXES, MOST_BYTES, MOST_NODES, MOST_RECORDS, MOST_VALUES};
 use core::fmt::{Display, Formatter, Result};
 
 /// Why a call was refused, and where: a row of the README's table "Numbers". Axes and places are counted from 0. As text it is a sentence:
@@ -30,7 +30,7 @@ impl Display for Refusal {
             9..=12 => self.readings(f),
             13 => self.header(f),
             14 => self.area(f),
-            15 | 16 => self.outputs(f),
+            15..=17 => self.outputs(f),
             _ => self.bare(f),
         }
     }
@@ -104,7 +104,7 @@ impl Refusal {
         write!(f, " do not begin at a multiple of 8 from byte {HEADER_BYTES} on, or end outside the image")
     }
 
-    /// 15 and 16.
+    /// 15 to 17.
     fn outputs(&self, f: &mut Formatter<'_>) -> Result {
         match (self.number, self.place) {
             (15, 0) => write!(f, "the room for the nodes is too short"),
@@ -113,6 +113,7 @@ impl Refusal {
             (16, _) => {
                 write!(f, "this axis cannot be sliced away: there is no such axis, or no other one, or the rule slices axis 0 alone")
             }
+            (17, _) => write!(f, "the tally has {MOST_RECORDS} records already, and counts no more"),
             _ => self.bare(f),
         }
     }

@@ -14,11 +14,14 @@ fn sizes() {
         ("MOST_AXES", ngamsothul::MOST_AXES),
         ("FEWEST_NODES", ngamsothul::FEWEST_NODES),
         ("MOST_NODES", ngamsothul::MOST_NODES),
+        ("MOST_CELLS", ngamsothul::MOST_CELLS),
         ("MOST_VALUES", ngamsothul::MOST_VALUES),
         ("HEADER_BYTES", ngamsothul::HEADER_BYTES),
         ("MOST_BYTES", ngamsothul::MOST_BYTES),
+        ("MOST_RECORDS", ngamsothul::MOST_RECORDS),
         ("STACK_BYTES", ngamsothul::STACK_BYTES),
         ("LOAD_STACK_BYTES", ngamsothul::LOAD_STACK_BYTES),
+        ("COUNT_STACK_BYTES", ngamsothul::COUNT_STACK_BYTES),
     ];
     for (name, size) in sizes {
         let line = header.lines().find(|line| line.trim().starts_with(&format!("NG_{name} = "))).expect(name);

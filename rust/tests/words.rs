@@ -3,7 +3,7 @@
 use ngamsothul::Refusal;
 use std::collections::HashSet;
 
-const SENTENCES: [(u32, usize, usize, &str); 38] = [
+const SENTENCES: [(u32, usize, usize, &str); 39] = [
     (1, 0, 0, "the table does not have 1 to 4 axes"),
     (2, 0, 0, "axis 0 does not have 2 to 64 nodes, or the table has more than 4096 values"),
     (2, 3, 0, "axis 3 does not have 2 to 64 nodes"),
@@ -47,6 +47,7 @@ const SENTENCES: [(u32, usize, usize, &str); 38] = [
     (15, 0, 1, "the room for the values is too short"),
     (15, 0, 2, "the room for the image is too short"),
     (16, 0, 0, "this axis cannot be sliced away: there is no such axis, or no other one, or the rule slices axis 0 alone"),
+    (17, 0, 0, "the tally has 1000000 records already, and counts no more"),
 ];
 
 #[test]
@@ -60,7 +61,7 @@ fn sentences() {
 #[test]
 fn every_number_has_its_own() {
     let numbers: HashSet<u32> = SENTENCES.iter().map(|case| case.0).collect();
-    assert_eq!(numbers, (1..=16).collect());
+    assert_eq!(numbers, (1..=17).collect());
     let sentences: HashSet<&str> = SENTENCES.iter().map(|case| case.3).collect();
     assert_eq!(sentences.len(), SENTENCES.len());
 }
@@ -69,7 +70,7 @@ fn every_number_has_its_own() {
 #[test]
 fn others() {
     for (number, axis, place) in
-        [(0, 1, 2), (3, 0, 4), (11, 0, 2), (13, 0, 5), (14, 5, 0), (15, 0, 3), (17, 0, 0), (u32::MAX, usize::MAX, usize::MAX)]
+        [(0, 1, 2), (3, 0, 4), (11, 0, 2), (13, 0, 5), (14, 5, 0), (15, 0, 3), (18, 0, 0), (u32::MAX, usize::MAX, usize::MAX)]
     {
         let error: Box<dyn std::error::Error> = Refusal { number, axis, place }.into();
         assert_eq!(error.to_string(), format!("refusal {number}, axis {axis}, place {place}"));

@@ -47,6 +47,14 @@ pub refused-number : (f : Fault) → eqb (refused f .number) 0 ≡ good f
 unfolding refused good
 refused-number f = refl
 
+-- an answer that tells 0 passed its checks
+pub then-number : (f : Fault) (a : Answer) → (f then a) .number ≡ 0 → good f ≡ true
+then-number f a h = go (good f) refl
+  where
+    go : (b : Bool) → good f ≡ b → b ≡ true
+    go true e = refl
+    go false e = orders.clash (good f) (sym (refused-number f) ∙ eq-eqb (refused f .number) 0 (sym (ap (λ (x : Answer). x .number) (then-bad f a e)) ∙ h)) e
+
 pub answered-number : (v : Float) → answered v .number ≡ 0
 unfolding answered
 answered-number v = refl

@@ -4,3 +4,4 @@ pub mod Tests
 pub mod Outcome
 pub mod Outputs
 pub mod Answers
+pub mod Numbers

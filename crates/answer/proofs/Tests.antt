@@ -1,6 +1,9 @@
--- What a test that is joined of two says of each, and what holds of either side of one.
+-- What a test that is joined of two says of each, what holds of either side of one, and numbers that are tested.
 use mathlib.Core.Path.{_≡_, refl, sym}
 use mathlib.Core.Bool.{Bool, true, false, not, _&&_, _||_, cond}
+use Prim.Native.Nat.{ℕ, _≤_, _<_}
+use borrow.Author.Tests.{ltb-true, ltb-false, eqb-true, eqb-false}
+use lib.Dec.{eqb, ltb}
 use Rattle.answer.proofs.Orders.{clash}
 
 pub and-false : (p q : Bool) → q ≡ false → p && q ≡ false
@@ -35,3 +38,18 @@ neither-right false q e = e
 pub either : {A : Type 0} (P : A → Type 0) (b : Bool) (x y : A) → P x → P y → P (cond b x y)
 either P true x y p q = p
 either P false x y p q = q
+
+-- what holds where a number is below another and where it is not, and the same of equal ones
+pub by-lt : {P : Type 0} (a b : ℕ) → (a < b → P) → (b ≤ a → P) → P
+by-lt {P} a b y n = go (ltb a b) (ltb-true a b) (ltb-false a b)
+  where
+    go : (t : Bool) → (t ≡ true → a < b) → (t ≡ false → b ≤ a) → P
+    go true p q = y (p refl)
+    go false p q = n (q refl)
+
+pub by-eq : {P : Type 0} (a b : ℕ) → (a ≡ b → P) → ((a ≡ b → ⊥) → P) → P
+by-eq {P} a b y n = go (eqb a b) (eqb-true a b) (eqb-false a b)
+  where
+    go : (t : Bool) → (t ≡ true → a ≡ b) → (t ≡ false → a ≡ b → ⊥) → P
+    go true p q = y (p refl)
+    go false p q = n (q refl)

@@ -42,3 +42,13 @@ pub(crate) fn cell_index(grid: &[f64], point: f64) -> usize
     }
     count - 1
 }
+
+// The same of any nodes: 0 on fewer than two, which have no cell.
+pub fn lower_index(grid: &[f64], point: f64) -> usize
+    ensures { λ r. ⌜ r ≡ lowerIndex (now (grid .entry)) point ⌝ }
+{
+    if grid.len() < 2 {
+        return 0;
+    }
+    cell_index(grid, point)
+}

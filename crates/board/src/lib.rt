@@ -1,5 +1,6 @@
-// The public side: every call that a board or a bench makes, and nothing else. Each is one line over the judged call of a room below, under
-// the same equation, and is exported to C (include/ngamsothul.h): `&[f64]` is a pointer and a length, a struct stands by value.
+// The public side: every call that a board or a bench makes, and nothing else. Each is one line over the judged call of a room below (three
+// where a tally is lent), under the same equation, and is exported to C (include/ngamsothul.h): `&[f64]` is a pointer and a length, a struct
+// stands by value, a lent tally is a pointer.
 
 // the seven axis primitives
 pub mod primitives;
@@ -11,3 +12,5 @@ pub mod lookups;
 pub mod cuts;
 // the table image: the loader and the writer
 pub mod images;
+// the coverage tally: a record counted where the tally stands
+pub mod tallies;

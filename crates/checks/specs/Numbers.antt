@@ -160,7 +160,7 @@ noAxisFault axes axis = when (leb axes 1 || not (ltb axis axes)) (refusal 16 0 0
 unfoldable pub notFirstFault : ℕ → ℕ → Fault
 notFirstFault axes axis = when (leb axes 1 || not (eqb axis 0)) (refusal 16 0 0)
 
--- ---- 17, of request C-11: "axis 0, place 0, at any byte after record 1,000,000"; document 01: "the first 1,000,000 records"
+-- ---- 17, of request C-11: "axis 0, place 0", where 1,000,000 records were read already; document 01: "the first 1,000,000 records"
 abbrev pub mostRecords : ℕ
 mostRecords = 1000000
 

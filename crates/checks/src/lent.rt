@@ -24,9 +24,12 @@ pub fn room_fault(place: usize, wanted: usize, room: usize) -> Fault
     answer::row(room < wanted, 15, 0, place)
 }
 
-// 17: so many records were read already that no more are.
+// So many records are read.
+pub const MOST_RECORDS: u32 = 1000000;
+
+// 17: so many were read already.
 pub fn limit_fault(read: u32) -> Fault
     ensures { λ r. ⌜ r ≡ limitFault read ⌝ }
 {
-    answer::row(read >= 1000000, 17, 0, 0)
+    answer::row(read >= MOST_RECORDS, 17, 0, 0)
 }

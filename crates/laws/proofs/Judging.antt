@@ -11,7 +11,7 @@ use Rattle.answer.specs.Answer.{answered, fine, _then_}
 use Rattle.answer.specs.declared.Fault.{Fault}
 use Rattle.answer.specs.declared.Answer.{Answer}
 use Rattle.answer.proofs.Orders as orders
-use Rattle.answer.proofs.Answers.{Told, quiet, then-good}
+use Rattle.answer.proofs.Answers.{Told, quiet, then-good, then-number}
 use Rattle.answer.proofs.Outputs.{refused-keeps, filled-good, given-front, beyond-kept}
 use Rattle.layout.specs.Shape.{countsOf, size, total, noShape}
 use Rattle.layout.specs.Layout.{without}
@@ -45,7 +45,7 @@ use Rattle.laws.specs.Primitives.{Tells}
 use Rattle.laws.proofs.Left.{Cut, front-accepted}
 use Rattle.laws.proofs.SliceLaw as law
 use Rattle.laws.proofs.Primitives.{quiet-told, refused-bad}
-use Rattle.laws.proofs.Premises.{then-number, accepted, in-range, within, uniform, directed}
+use Rattle.laws.proofs.Premises.{accepted, in-range, within, uniform, directed}
 
 -- ---- the lookups
 module _ (t : Table) (ps : Floats) where

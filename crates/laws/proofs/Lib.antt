@@ -15,3 +15,4 @@ pub mod Giving
 pub mod Square
 pub mod Commuting
 pub mod Promises
+pub mod Counting

@@ -1,21 +1,17 @@
 -- The premises of the page of promises are what the rows of the table of numbers pass, both ways. Assumes nothing.
 use mathlib.Core.Path.{_≡_, refl, sym, ap, _∙_}
-use mathlib.Core.Bool.{Bool, true, false}
+use mathlib.Core.Bool.{true}
 use mathlib.Core.List.{List, []}
 use Prim.Native.Nat.{ℕ, _-_, _≤_, _<_}
 use native.Mathlib.Omega.{arith}
-use borrow.Author.Tests.{eq-eqb, ltb-false}
+use borrow.Author.Tests.{ltb-false}
 use lib.Dec.{ltb}
 use lib.ListN.{length, getD}
 use lib.Seq.{length-take-le}
 use lib.Ieee.{Float, nan, lt}
 use lib.Ieee.Scale.{finite}
 use Rattle.answer.specs.Faults.{good, refusal, firstOf}
-use Rattle.answer.specs.Answer.{refused, _then_}
-use Rattle.answer.specs.declared.Fault.{Fault}
-use Rattle.answer.specs.declared.Answer.{Answer}
 use Rattle.answer.proofs.Orders as orders
-use Rattle.answer.proofs.Answers.{then-bad, refused-number}
 use Rattle.binary64.proofs.Order as order
 use Rattle.checks.specs.Nodes.{node}
 use Rattle.checks.specs.Passed.{Axis}
@@ -37,14 +33,6 @@ use Rattle.ninterp.proofs.Demands as passed
 use Rattle.laws.specs.Calls.{Floats, Table, axes, counts, axis}
 use Rattle.laws.specs.Promises.{Accepted, Within, InRange, Directed, Uniform}
 use Rattle.laws.proofs.Accepts.{accepts}
-
--- an answer that tells 0 passed its checks
-pub then-number : (f : Fault) (a : Answer) → (f then a) .number ≡ 0 → good f ≡ true
-then-number f a h = go (good f) refl
-  where
-    go : (b : Bool) → good f ≡ b → b ≡ true
-    go true e = refl
-    go false e = orders.clash (good f) (sym (refused-number f) ∙ eq-eqb (refused f .number) 0 (sym (ap (λ (x : Answer). x .number) (then-bad f a e)) ∙ h)) e
 
 -- ---- an accepted table
 module _ (t : Table) where

@@ -14,7 +14,7 @@ use Rattle.answer.specs.Answer.{plusZero, refused, answered, fine, _then_}
 use Rattle.answer.specs.declared.Fault.{Fault}
 use Rattle.answer.specs.declared.Answer.{Answer}
 use Rattle.answer.proofs.Orders as orders
-use Rattle.answer.proofs.Answers.{Quiet, quiet, then-good, then-bad}
+use Rattle.answer.proofs.Answers.{Quiet, quiet, then-good, then-bad, then-number}
 use Rattle.answer.proofs.Tests.{not-false, neither-left, neither-right}
 use Rattle.checks.specs.Passed.{Axis}
 use Rattle.checks.specs.Shapes.{axisFault}
@@ -41,7 +41,6 @@ use Rattle.utils.specs.Calls.{indexOf, locationFraction, indexAnswer, exactAnsw
 use Rattle.utils.specs.declared.Tolerance.the-variants.{Lent, Default}
 use Rattle.board.specs.Plain.{foundOf, plainExact, betweenOf, plainLocation, toleranceBy}
 use Rattle.laws.specs.Primitives.{Tells, Judges, Gives, Readable, Stepped, Tolerant, indexCase, locationCase, exact, located, Primitives}
-use Rattle.laws.proofs.Premises.{then-number}
 
 pub quiet-told : {a : Answer} → Quiet a → Tells a
 unfolding fine answered

@@ -8,7 +8,7 @@ use lib.Ieee.{Float}
 use Rattle.answer.specs.Faults.{good}
 use Rattle.answer.specs.Answer.{fine}
 use Rattle.answer.proofs.Orders as orders
-use Rattle.answer.proofs.Answers.{then-good, then-bad}
+use Rattle.answer.proofs.Answers.{then-good, then-bad, then-number}
 use Rattle.checks.specs.Numbers.{rangeFault}
 use Rattle.checks.proofs.lent.Rows.{length-same}
 use Rattle.ninterp.specs.Tables.{nearestAnswer, stepAnswer}
@@ -24,7 +24,7 @@ use Rattle.writer.specs.Write.{writeAnswer}
 use Rattle.slices.specs.LinearSlices.{linearSlice, linearSliced, linearUniformSlice, linearUniformSliced}
 use Rattle.laws.specs.Calls.{Floats, Table, axes, axis, on, record-of}
 use Rattle.laws.specs.Promises.{Accepted, Sliceable, Overflows, Demand1, Demand2, Demand3}
-use Rattle.laws.proofs.Premises.{then-number, passes, accepted, in-range, uniform, range-passes, directed-lent, directed-passes}
+use Rattle.laws.proofs.Premises.{passes, accepted, in-range, uniform, range-passes, directed-lent, directed-passes}
 use Rattle.laws.proofs.Primitives.{primitives}
 use Rattle.laws.proofs.Judging as judging
 use Rattle.laws.proofs.Giving as giving

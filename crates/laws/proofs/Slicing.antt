@@ -8,7 +8,9 @@ use lib.Ieee.{Float}
 use Rattle.answer.specs.Faults.{good, filledInto}
 use Rattle.answer.specs.Answer.{fine}
 use Rattle.answer.specs.declared.Fault.{Fault}
+use Rattle.answer.proofs.Answers.{then-number}
 use Rattle.answer.proofs.Outputs.{given-front}
+use Rattle.answer.proofs.Answers.{then-number}
 use Rattle.layout.specs.Shape.{countsOf, size}
 use Rattle.layout.specs.Layout.{insert, without, nodesWithout}
 use Rattle.layout.specs.declared.Shape.{Shape}
@@ -25,7 +27,6 @@ use Rattle.laws.proofs.Left as over
 use Rattle.laws.proofs.Left.{Cut}
 use Rattle.laws.proofs.SliceLaw as law
 use Rattle.laws.proofs.LinearLaw.{linear-cut, linear-uniform-cut, linear-slice-law, linear-uniform-slice-law, linear-first-only, linear-uniform-first-only}
-use Rattle.laws.proofs.Premises.{then-number}
 
 -- what is judged of a slice is its answer's number
 pub slice-good : (f : Fault) (s : Shape) (k : ℕ) → sliceAnswer f s k .answer .number ≡ 0 → good f ≡ true

@@ -2,3 +2,4 @@ pub mod Lowered
 pub mod Primitives
 pub mod Calls
 pub mod Promises
+pub mod Counting

@@ -5,5 +5,6 @@ pub mod Shows
 pub mod Blocks
 pub mod Runs
 pub mod Feeds
+pub mod Reports
 pub mod Examples
 pub mod Unique

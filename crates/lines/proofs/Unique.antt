@@ -9,6 +9,7 @@ use Rattle.lines.specs.Put.{put}
 use Rattle.lines.specs.Stream.{Rule, linesFirst, countOf, Block}
 use Rattle.lines.proofs.put_all.Reads as put-all
 use Rattle.lines.proofs.put_line.Reads as put-line
+use Rattle.lines.proofs.report.put.Reads as report
 
 pub put-line-unique : (κs : _) (a : _) (r s : ℕ) (x y : _) → put-line.Post κs a r x → put-line.Post κs a s y → r ≡ s
 put-line-unique κs a r s x y p q = one-outcome r s _ (p .0 .0) (q .0 .0)
@@ -18,6 +19,13 @@ put-line-bytes κs a r s x y p q = one-outcome (now (x .1 .0)) (now (y .1 .0)) _
 
 pub put-all-bytes : (κs : _) (a : _) (r s : _) (x y : _) → put-all.Post κs a r x → put-all.Post κs a s y → _≡_ {A = List ℕ} (now (x .1 .0)) (now (y .1 .0))
 put-all-bytes κs a r s x y p q = one-outcome (now (x .1 .0)) (now (y .1 .0)) _ p q
+
+pub report-unique : (κs : _) (a : _) (r s : ℕ) (x y : _) → report.Post κs a r x → report.Post κs a s y → r ≡ s
+report-unique κs a r s x y p q = one-outcome r s _ (p .0 .0) (q .0 .0)
+
+pub report-bytes : (κs : _) (a : _) (r s : ℕ) (x y : _) → report.Post κs a r x → report.Post κs a s y
+    → _≡_ {A = List ℕ} (now (x .1 .1 .1 .1 .1 .0)) (now (y .1 .1 .1 .1 .1 .0))
+report-bytes κs a r s x y p q = one-outcome (now (x .1 .1 .1 .1 .1 .0)) (now (y .1 .1 .1 .1 .1 .0)) _ (p .0 .1) (q .0 .1)
 
 -- what a block is said to do is one outcome too, for any function whose contract says it
 module _ {p : Rule} {most : ℕ} {input d e f : List ℕ} {m n v w : ℕ} (a : Block p most input d e m v) (b : Block p most input d f n w) where

@@ -1,4 +1,4 @@
-// An answer's line put into a buffer. What is printed of records, block by block, is in specs/Stream.antt.
+// An answer's line put into a buffer, and the coverage report. What is printed of records, block by block, is in specs/Stream.antt.
 ghost use mathlib.Core.Path.{_≡_};
 ghost use Prim.Native.Nat.{_+_, _≤_};
 ghost use lib.ListN.{length};
@@ -8,6 +8,7 @@ ghost use Rattle.lines.specs.Line.{okLine, noLine, longest};
 ghost use Rattle.lines.specs.Put.{lineInto, lineEnd, allInto};
 ghost use Rattle.lines.specs.Scaffolding.{Wrote};
 
+pub mod report;
 pub(crate) mod text;
 
 use answer::Answer;
@@ -35,13 +36,7 @@ fn put_no(number: u64, axis: u64, place: u64, out: &mut [u8], at: usize) -> usiz
     requires { ⌜ at + (length (decimal number) + length (decimal axis) + length (decimal place) + 6) ≤ length (now out) ⌝ }
     ensures { λ r. ⌜ Wrote (now (out .entry)) at (noLine number axis place) (now (out .exit)) r ⌝ }
 {
-    let a = text::put_bytes(b"no ", out, at);
-    let b = text::put_decimal(number, out, a);
-    let c = text::put_byte(b' ', out, b);
-    let d = text::put_decimal(axis, out, c);
-    let e = text::put_byte(b' ', out, d);
-    let f = text::put_decimal(place, out, e);
-    text::put_byte(b'\n', out, f)
+    text::put_three(b"no ", number, axis, place, out, at)
 }
 
 // Puts an answer's line at a place and gives the place past it; writes nothing where a longest line has no room.

@@ -1,6 +1,6 @@
 // Bytes and digits put into a buffer: each writer gives the place past what it wrote.
 ghost use mathlib.Core.Path.{_≡_};
-ghost use mathlib.Core.List.{[], _∷_};
+ghost use mathlib.Core.List.{[], _∷_, _++_};
 ghost use Prim.Native.Nat.{_+_, _<_, _≤_};
 ghost use lib.ListN.{length};
 ghost use Rattle.lines.specs.Scaffolding.{Wrote};
@@ -68,4 +68,47 @@ pub(crate) fn put_decimal(n: u64, out: &mut [u8], at: usize) -> usize
 {
     let k = places_of(n);
     put_digits(n, 10, k, out, at)
+}
+
+// A word, and two numbers in decimal with a blank between them.
+pub(crate) fn put_two(word: &[u8], first: u64, second: u64, out: &mut [u8], at: usize) -> usize
+    requires { ⌜ at + (length (now word) + length (decimal first) + length (decimal second) + 1) ≤ length (now out) ⌝ }
+    ensures { λ r. ⌜
+        Wrote (now (out .entry)) at
+        (now (word .entry) ++ decimal first ++ (32 ∷ []) ++ decimal second)
+        (now (out .exit)) r
+        ⌝ }
+    ensures { λ r. ⌜ r ≡ at + (length (now (word .entry)) + length (decimal first) + length (decimal second) + 1) ⌝ }
+{
+    let a = put_bytes(word, out, at);
+    let b = put_decimal(first, out, a);
+    let c = put_byte(b' ', out, b);
+    put_decimal(second, out, c)
+}
+
+// A line of a word and three numbers.
+pub(crate) fn put_three(
+    word: &[u8],
+    first: u64,
+    second: u64,
+    third: u64,
+    out: &mut [u8],
+    at: usize,
+) -> usize
+    requires { ⌜
+        at + (length (now word) + length (decimal first) + length (decimal second) + length (decimal third) + 3) ≤ length (now out)
+        ⌝ }
+    ensures { λ r. ⌜
+        Wrote (now (out .entry)) at
+        (now (word .entry) ++ decimal first ++ (32 ∷ []) ++ decimal second ++ (32 ∷ []) ++ decimal third ++ (10 ∷ []))
+        (now (out .exit)) r
+        ⌝ }
+    ensures { λ r. ⌜
+        r ≡ at + (length (now (word .entry)) + length (decimal first) + length (decimal second) + length (decimal third) + 3)
+        ⌝ }
+{
+    let a = put_two(word, first, second, out, at);
+    let b = put_byte(b' ', out, a);
+    let c = put_decimal(third, out, b);
+    put_byte(b'\n', out, c)
 }

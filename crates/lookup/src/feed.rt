@@ -9,11 +9,11 @@ ghost use Rattle.program.specs.Whole.{TableOf};
 ghost use Rattle.lookup.specs.Whole.{Whole};
 ghost use Rattle.lookup.specs.Scaffolding.{Room, Last, Stepped};
 use crate::print;
-use crate::print::Printed;
 use layout::Shape;
 use ninterp::records::block;
 use program::Counts;
 use program::input;
+use program::print::Printed;
 use program::stdin;
 use program::turns;
 

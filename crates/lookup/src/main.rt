@@ -4,21 +4,15 @@
 mod feed;
 // the image that was read: loaded or refused
 mod loaded;
-// all that is printed
+// what is printed of records
 mod print;
 
 ghost use mathlib.Core.Path.{_≡_};
 ghost use lib.ListN.{length, take};
 ghost use Rattle.program.specs.Input.{imageIn};
 ghost use Rattle.lookup.specs.Whole.{Whole};
-use program::Counts;
+use program::Totals;
 use program::stdin;
-
-// How many bytes of the input were taken for the image, and what was counted after it.
-pub struct Totals {
-    pub image: usize,
-    pub after: Counts,
-}
 
 // One whole run: the image, and what follows it.
 fn run(img: &mut [u8], nodes: &mut [f64], values: &mut [f64]) -> Totals

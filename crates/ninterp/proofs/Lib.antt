@@ -12,3 +12,11 @@ pub mod Rusts
 pub mod KindOrder
 pub mod RecordLines
 pub mod Wholes
+pub mod RecordsIn
+pub mod CountCells
+pub mod CountBlocks
+pub mod Known
+pub mod Coverage
+pub mod CoverageSums
+pub mod CoverageBlocks
+pub mod CountEnds

@@ -1,12 +1,9 @@
 -- A record's line, and the turn of a loop over a block of records. Assumes nothing.
-use mathlib.Core.Path.{_≡_, sym, _∙_, subst}
+use mathlib.Core.Path.{_≡_, sym, subst}
 use mathlib.Core.Logic.{inl, inr}
-use mathlib.Core.Bool.{false}
 use mathlib.Core.List.{List}
 use Prim.Native.Nat.{ℕ, _+_, _-_, _≤_, _<_}
 use native.Mathlib.Omega.{arith}
-use borrow.Author.Tests.{leb-false}
-use lib.Dec.{leb}
 use lib.ListN.{length, take, drop, length-take, length-drop}
 use lib.Ieee.{Float}
 use Rattle.answer.specs.declared.Answer.{Answer}
@@ -50,5 +47,5 @@ module _ (s : Shape) (nodes values : List Float) where
       block-full h = go-done g (inr (inr (omega (arith, h, g .room, g .kept))))
 
   -- no whole record at all
-  pub block-none : (most : ℕ) (records d : List ℕ) → leb (recordSize s) (length records) ≡ false → Block (recordRule s nodes values) most records d d 0 0
-  block-none most records d h = go-done (go-start (recordRule s nodes values) most records d) (inr (inl (omega (arith, leb-false (recordSize s) (length records) h))))
+  pub block-none : (most : ℕ) (records d : List ℕ) → length records < recordSize s → Block (recordRule s nodes values) most records d d 0 0
+  block-none most records d h = go-done (go-start (recordRule s nodes values) most records d) (inr (inl (omega (arith, h))))

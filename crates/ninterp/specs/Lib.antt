@@ -1,4 +1,6 @@
 pub mod Tables
 pub mod Linears
 pub mod Records
+pub mod Coverage
+pub mod Counting
 pub mod Scaffolding

@@ -15,6 +15,7 @@ ghost use Rattle.ninterp.specs.Scaffolding.{LookupJudged, Known, tableFa
 ghost use Rattle.ninterp.specs.Records.{recordSize, recordAnswer};
 
 pub mod block;
+pub mod count;
 
 use crate::interpolator::n::corners;
 use crate::interpolator::n::pick;

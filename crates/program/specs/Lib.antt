@@ -1,4 +1,5 @@
 pub mod Input
 pub mod Run
+pub mod Coverage
 pub mod Whole
 pub mod Scaffolding

@@ -8,7 +8,8 @@ use answer::Answer;
 use checks::shapes;
 use layout::Shape;
 
-// How many bytes of the input are the image, what the loader answers, and the shape and the sizes of the table at the fronts of the outputs.
+// How many bytes of the input are the image, what the loader answers, and the shape and the sizes of the table at the fronts of the
+// outputs.
 pub struct Front {
     pub size: usize,
     pub answer: Answer,

@@ -1,6 +1,6 @@
 // What all programs share: the table image read from standard input, records fed block by block, what is printed at the end. A
-// program is its `main` and what it does with a block. What can be said as an equation is said in `input`, `run` and `turns`; what
-// `read` and `write` do, no contract can say.
+// program is its `main` and what it does with a block. What can be said as an equation is said in `input`, `run`, `coverage` and
+// `turns`; what `read` and `write` do, no contract can say.
 
 // what the bytes of an input say, whatever its table: where the image ends, whether to read on, the input's end
 pub mod input;
@@ -8,10 +8,16 @@ pub mod input;
 pub mod front;
 // one whole run as a call: an input in memory, its lines in an output
 pub mod run;
+// the same of the coverage report
+pub mod coverage;
 // the table image and the blocks, read from standard input
 pub mod stdin;
 // a turn of the buffer: what is left of it is moved to its front
 pub mod turns;
+// all that is printed
+pub mod print;
+// the line of a refused image
+pub mod refused;
 
 // Of a longer input so many records are answered.
 pub const MOST_RECORDS: usize = 1000000;
@@ -22,4 +28,10 @@ pub struct Counts {
     pub read: usize,
     pub printed: usize,
     pub ok: bool,
+}
+
+// How many bytes of the input were taken for the image, and what was counted after it.
+pub struct Totals {
+    pub image: usize,
+    pub after: Counts,
 }

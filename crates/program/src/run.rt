@@ -5,7 +5,7 @@ ghost use lib.ListN.{length};
 ghost use Rattle.lines.specs.Line.{lineOf, longest};
 ghost use Rattle.lines.specs.Stream.{linesFirst, linesOf, Block};
 ghost use Rattle.ninterp.specs.Records.{recordRule, recordSize};
-ghost use Rattle.program.specs.Scaffolding.{Placed, Fronted, endOf, textOf};
+ghost use Rattle.program.specs.Scaffolding.{Placed, Fronted, endOf, roomAnswer, textOf};
 ghost use Rattle.program.specs.Run.{runOf, Texted};
 ghost use Rattle.checks.specs.Numbers.{mostRecords};
 use crate::front;
@@ -114,7 +114,8 @@ fn put_text(
     out: &mut [u8],
 ) -> usize
     requires { ⌜ (shape .axes ≤ 4) × (length (now chunk) ≡ 4096) ⌝ }
-    ensures { λ r. ⌜ Fronted (textOf loaded (recordRule shape (now (nodes .entry)) (now (values .entry))) (now (records .entry)))
+    ensures { λ r. ⌜ Fronted
+        (textOf loaded (linesOf (recordRule shape (now (nodes .entry)) (now (values .entry))) mostRecords (now (records .entry))))
         (now (out .entry)) (now (out .exit)) r ⌝ }
 {
     if loaded.number != 0 {
@@ -131,6 +132,23 @@ fn put_text(
     )
 }
 
+// What is answered of a text of so many bytes, for which there is so much room.
+pub(crate) fn room_answer(need: usize, room: usize) -> RunAnswer
+    ensures { λ r. ⌜ r ≡ roomAnswer need room ⌝ }
+{
+    let fault = lent::room_fault(2, need, room);
+    if fault.number != 0 {
+        return RunAnswer {
+            answer: answer::refuse(fault),
+            written: 0,
+        };
+    }
+    RunAnswer {
+        answer: answer::pass(),
+        written: need,
+    }
+}
+
 // Puts the text where it has room: its length is found first, in an output of no bytes.
 fn give_text(
     loaded: Answer,
@@ -142,22 +160,17 @@ fn give_text(
     out: &mut [u8],
 ) -> RunAnswer
     requires { ⌜ (shape .axes ≤ 4) × (length (now chunk) ≡ 4096) ⌝ }
-    ensures { λ r. ⌜ Texted (textOf loaded (recordRule shape (now (nodes .entry)) (now (values .entry))) (now (records .entry)))
+    ensures { λ r. ⌜ Texted
+        (textOf loaded (linesOf (recordRule shape (now (nodes .entry)) (now (values .entry))) mostRecords (now (records .entry))))
         (now (out .entry)) (now (out .exit)) r ⌝ }
 {
     let need = put_text(loaded, shape, nodes, values, records, chunk, &mut out[..0]);
-    let fault = lent::room_fault(2, need, out.len());
-    if fault.number != 0 {
-        return RunAnswer {
-            answer: answer::refuse(fault),
-            written: 0,
-        };
+    let done = room_answer(need, out.len());
+    if done.answer.number != 0 {
+        return done;
     }
     put_text(loaded, shape, nodes, values, records, chunk, out);
-    RunAnswer {
-        answer: answer::pass(),
-        written: need,
-    }
+    done
 }
 
 // The run, with space for the nodes, the values and some lines.

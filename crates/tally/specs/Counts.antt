@@ -1,11 +1,17 @@
 -- C-11: the tally after many records, and what its counts say.
+use mathlib.Core.Path.{_≡_}
 use mathlib.Core.Bool.{Bool, cond}
 use mathlib.Core.List.{List, [], _∷_}
 use Prim.Native.Nat.{ℕ, zero, suc, _+_, _*_}
-use lib.ListN.{getD, replicate}
+use lib.ListN.{length, getD, replicate}
 use Rattle.tally.specs.declared.Tally.{Tally}
 use Rattle.tally.specs.declared.Outcome.{Outcome}
 use Rattle.tally.specs.Tally.{countedOf}
+
+-- a tally in memory has 252 counts of cells and 21 of numbers
+pub record Sized (t : Tally) : Type 0 where
+  pub cells : length (t .cells) ≡ 252
+  pub numbers : length (t .numbers) ≡ 21
 
 -- no record was read
 unfoldable pub noneRead : Tally

@@ -4,6 +4,7 @@ ghost use mathlib.Core.Path.{_≡_};
 ghost use Prim.Native.Nat.{_<_};
 ghost use lib.ListN.{take};
 ghost use Rattle.tally.specs.Tally.{more, cellMore, cellsMore, numberMore, countedOf};
+ghost use Rattle.tally.specs.Counts.{noneRead};
 ghost use Rattle.tally.specs.Scaffolding.{tallyOf};
 use answer::Answer;
 use checks::lent;
@@ -91,6 +92,17 @@ pub fn count_here(cells: &mut [u32; 252], numbers: &mut [u32; 21], records: u32,
 }
 
 // ---- by value
+
+// A tally to begin with: no record was read.
+pub fn none_read() -> Tally
+    ensures { λ r. ⌜ r ≡ noneRead ⌝ }
+{
+    Tally {
+        records: 0,
+        cells: [0; 252],
+        numbers: [0; 21],
+    }
+}
 
 // Counts a record, and gives the tally after it.
 pub fn counted(t: Tally, o: Outcome) -> TallyAnswer

@@ -75,7 +75,7 @@ fn primitive(call: &Call, grid: &[f64]) -> Result<String, Refusal> {
 }
 
 /// As many counts as there are axes, be they more than the four that the list has.
-fn counts(lent: &Lent) -> Vec<usize> {
+pub fn counts(lent: &Lent) -> Vec<usize> {
     let listed = lent.counts.iter().map(|&count| count as usize);
     listed.chain(std::iter::repeat(2)).take(lent.axes as usize).collect()
 }

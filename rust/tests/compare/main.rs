@@ -1,6 +1,7 @@
 //! Every call of the crate beside the unchanged Rust of `oracle/`, bit for bit; what is refused, beside the table of numbers as the oracle
 //! has it.
 
+mod counts;
 mod drawn;
 mod images;
 mod lines;

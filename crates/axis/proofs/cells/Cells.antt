@@ -32,3 +32,8 @@ module _ (xs : List Float) (p : Float) where
 pub cell-inside : (nodes : List Float) (p : Float) → 2 ≤ length nodes → lowerIndex nodes p + 1 < length nodes
 unfolding lowerIndex
 cell-inside nodes p enough = omega (arith, enough)
+
+-- fewer than two nodes have no cell
+pub cell-none : (nodes : List Float) (p : Float) → length nodes < 2 → 0 ≡ lowerIndex nodes p
+unfolding lowerIndex
+cell-none nodes p few = omega (arith, few)

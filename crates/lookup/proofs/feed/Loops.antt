@@ -1,6 +1,6 @@
 -- Turn after turn: what the loop over the blocks keeps. Assumes nothing.
 use mathlib.Core.Path.{_≡_, refl, sym, ap, _∙_}
-use mathlib.Core.Bool.{Bool, true, false, cond}
+use mathlib.Core.Bool.{Bool, true, false}
 use mathlib.Core.Logic.{_⊎_, inl, inr, ⊎-elim}
 use mathlib.Core.List.{List, [], _++_, append-assoc}
 use Prim.Native.Nat.{ℕ, _+_, _-_, _*_, _≤_, _<_}
@@ -16,6 +16,7 @@ use Rattle.program.specs.Run.{ruleOf}
 use Rattle.checks.specs.Numbers.{mostRecords}
 use Rattle.program.specs.Whole.{TableOf}
 use Rattle.program.proofs.front.Loads.{four-axes}
+use Rattle.program.proofs.turns.Turning.{turnsLeft, fewer}
 use Rattle.lookup.specs.declared.feed.Next.{Next}
 use Rattle.lookup.specs.Scaffolding.{Room, Last, Stepped}
 
@@ -65,10 +66,6 @@ reached-step {p} {limit} {held} {left} {read} {printed} {b} {c} {n} h g s = reco
     sum : (limit - n .left) * p .size ≡ (limit - left) * p .size + (left - n .left) * p .size
     sum = ap (λ (k : ℕ). k * p .size) (omega (arith, g .within, s .within)) ∙ add-mul (limit - left) (left - n .left) (p .size)
 
--- how many turns are left at most: one for each record that may still come, and one more while it goes on
-abbrev pub turnsLeft : ℕ → Bool → ℕ
-turnsLeft left go = left + cond go 1 0
-
 -- between two turns; of each turn no more is counted than the buffer and the output have, so the sums fit
 pub record Feeding (p : Rule) (buf out : List ℕ) (held left asked read printed : ℕ) (go ok : Bool) : Type 0 where
   pub long : length buf ≡ 32768
@@ -100,16 +97,8 @@ feed-start p buf out l w = record {
 }
 
 module _ {p : Rule} {held left : ℕ} {buf after : List ℕ} {n : Next} (s : Stepped p held left buf after n) where
-  -- each turn leaves one less
-  pub fewer : {go : Bool} → go ≡ true → turnsLeft (n .left) (n .go) < turnsLeft left go
-  fewer {go} e = by (n .go) (s .goes)
-    where
-      on : turnsLeft left go ≡ left + 1
-      on = ap (turnsLeft left) e
-
-      by : (g : Bool) → (g ≡ true → n .left < left) → turnsLeft (n .left) g < turnsLeft left go
-      by true h = let f : n .left < left = h refl in omega (arith, on)
-      by false h = omega (arith, s .within, on)
+  pub turn-fewer : {go : Bool} → go ≡ true → turnsLeft (n .left) (n .go) < turnsLeft left go
+  turn-fewer {go} e = fewer left (n .left) go (n .go) e (s .within) (s .goes)
 
   pub feed-step : {out late : List ℕ} {asked read printed : ℕ} {go ok : Bool} → Feeding p buf out held left asked read printed go ok → go ≡ true
       → length after ≡ length buf → length late ≡ length out → n .printed ≤ length out
@@ -121,8 +110,8 @@ module _ {p : Rule} {held left : ℕ} {buf after : List ℕ} {n : Next} (s : Ste
     reached = reached-step (g .holds) (g .reached) s;
     filled = omega (arith, g .filled, s .filled);
     last = λ h o. ⊎-elim inl (λ t. inr (omega (arith, t .0, g .filled), t .1)) (s .stops h o);
-    few = omega (arith, fewer e, g .few, g .long, s .room);
-    short = omega (arith, fewer e, g .short, g .wide, c);
+    few = omega (arith, turn-fewer e, g .few, g .long, s .room);
+    short = omega (arith, turn-fewer e, g .short, g .wide, c);
   }
 
 -- after the last turn

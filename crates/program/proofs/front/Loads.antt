@@ -19,6 +19,7 @@ use Rattle.answer.proofs.Orders.{clash}
 use Rattle.layout.specs.declared.Shape.{Shape}
 use Rattle.layout.proofs.Totals.{take-there}
 use Rattle.checks.specs.Scaffolding.{sizesOf}
+use Rattle.checks.specs.Shapes.{shapeFault}
 use Rattle.checks.specs.declared.shapes.Holding.{Holding}
 use Rattle.checks.proofs.shapes.Frames.{shape-four}
 use Rattle.image.specs.Fields.{shapeOf}
@@ -31,11 +32,11 @@ use Rattle.lines.specs.Line.{lineOf}
 use Rattle.program.specs.Input.{imageSize, imageIn}
 use Rattle.program.specs.Run.{runBy}
 use Rattle.program.specs.Whole.{TableOf, Ran}
-use Rattle.program.specs.Scaffolding.{Loads}
+use Rattle.program.specs.Scaffolding.{Loads, RefusedBy}
 use Rattle.program.specs.declared.front.Front.{Front}
 
 -- an answer's number is 0 exactly where nothing is wrong
-number-good : (f : Fault) (a : Answer) → a ≡ (f then fine) → eqb (a .number) 0 ≡ good f
+pub number-good : (f : Fault) (a : Answer) → a ≡ (f then fine) → eqb (a .number) 0 ≡ good f
 unfolding fine answered
 number-good f a e = go (good f) refl
   where
@@ -107,12 +108,11 @@ module _ {input : List ℕ} {ns vs : List Float} {f : Front} (l : Loads input ns
 
   -- ---- of bytes that are an image and nothing else
   module _ (e : imageIn input ≡ input) where
-    pub image-refused : (f .answer .number ≡ 0 → ⊥) → (text : List ℕ → List ℕ → List ℕ)
-        → (good (loadFault input 256 4096) ≡ false) × (runBy text input ≡ lineOf (f .answer))
-    image-refused h text = (
-      ap (λ (x : List ℕ). good (loadFault x 256 4096)) (sym e) ∙ sym (number-good fault (f .answer) (l .told)) ∙ no,
-      front-run text ∙ ap (λ (b : Bool). cond b (text (imageIn input) (drop (f .size) input)) (lineOf (f .answer))) no,
-    )
+    pub image-refused : (f .answer .number ≡ 0 → ⊥) → RefusedBy input (f .answer)
+    image-refused h = record {
+      bad = ap (λ (x : List ℕ). good (loadFault x 256 4096)) (sym e) ∙ sym (number-good fault (f .answer) (l .told)) ∙ no;
+      line = λ text. front-run text ∙ ap (λ (b : Bool). cond b (text (imageIn input) (drop (f .size) input)) (lineOf (f .answer))) no;
+    }
       where
         no : eqb (f .answer .number) 0 ≡ false
         no = ne-eqb (f .answer .number) 0 h
@@ -130,6 +130,10 @@ refused-ran text enough img printed ok h e = record {
   input-ends = λ t. clash (good (loadFault img 256 4096)) t h;
 }
 
--- the table of an image has at most four axes
-pub four-axes : {img : List ℕ} {shape : Shape} {nodes values : List Float} → TableOf img shape nodes values → shape .axes ≤ 4
-four-axes {img} t = omega (arith, ap (λ (s : Shape). s .axes) (t .shape-is), shape-four _ (loaded-shape img 256 4096 (t .loads)))
+-- the table of an image passes 1 and 2, and has at most four axes
+module _ {img : List ℕ} {shape : Shape} {nodes values : List Float} (t : TableOf img shape nodes values) where
+  pub table-shape : good (shapeFault shape) ≡ true
+  table-shape = ap (λ (s : Shape). good (shapeFault s)) (t .shape-is) ∙ loaded-shape img 256 4096 (t .loads)
+
+  pub four-axes : shape .axes ≤ 4
+  four-axes = shape-four shape table-shape

@@ -46,7 +46,7 @@ rule = recordRule (shapeOf img) (nodesIn img) (valuesIn img)
 abbrev printed : List ℕ
 printed = 111 ∷ 107 ∷ 32 ∷ 52 ∷ 48 ∷ 50 ∷ 57 ∷ 48 ∷ 48 ∷ 48 ∷ 48 ∷ 48 ∷ 48 ∷ 48 ∷ 48 ∷ 48 ∷ 48 ∷ 48 ∷ 48 ∷ 10 ∷ 111 ∷ 107 ∷ 32 ∷ 52 ∷ 48 ∷ 51 ∷ 52 ∷ 48 ∷ 48 ∷ 48 ∷ 48 ∷ 48 ∷ 48 ∷ 48 ∷ 48 ∷ 48 ∷ 48 ∷ 48 ∷ 48 ∷ 10 ∷ 110 ∷ 111 ∷ 32 ∷ 49 ∷ 49 ∷ 32 ∷ 48 ∷ 32 ∷ 49 ∷ 10 ∷ []
 
-loads : good (loadFault img 256 4096) ≡ true
+pub loads : good (loadFault img 256 4096) ≡ true
 unfolding loadFault headFault startFault shortFault fieldFault axesCountFault statedFault countRow productFault offsetRow areaFault areasFault roomFault roomsFault contentsFault axesField countField offsetField valuesField shapeOf floatsAt nodesFrom nodesIn valuesIn ofBytes wordAt floatAt size total axesOf axesFault valueFault valuesFault countFault finiteFault riseFault nodeFault nodesFault refusal answered noFault good when _or_ firstOf given ofBits sub lt
 loads = refl
 

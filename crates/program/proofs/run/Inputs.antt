@@ -11,12 +11,12 @@ use lib.ListN.{length, take, drop, length-drop}
 use lib.Seq.{take-all}
 use Rattle.layout.specs.declared.Shape.{Shape}
 use Rattle.lines.specs.Line.{lineOf}
-use Rattle.lines.specs.Stream.{Rule, linesOf}
-use Rattle.checks.specs.Numbers.{mostRecords}
 use Rattle.ninterp.specs.Records.{recordRule}
 use Rattle.program.specs.Input.{imageIn}
 use Rattle.program.specs.Scaffolding.{Loads, textOf}
-use Rattle.program.specs.Run.{ruleOf, linesBy, runOf, Texted}
+use Rattle.image.specs.Fields.{shapeOf}
+use Rattle.image.specs.Image.{nodesIn, valuesIn}
+use Rattle.program.specs.Run.{ruleOf, runBy, Texted}
 use Rattle.program.specs.Whole.{TableOf}
 use Rattle.program.specs.declared.front.Front.{Front}
 use Rattle.program.specs.declared.run.RunAnswer.{RunAnswer}
@@ -26,23 +26,27 @@ use Rattle.program.proofs.front.Loads.{front-run}
 pub rule-is : {img : List ℕ} {shape : Shape} {nodes values : List Float} → TableOf img shape nodes values → recordRule shape nodes values ≡ ruleOf img
 rule-is {img} {shape} {nodes} {values} t = ap (λ (s : Shape). recordRule s nodes values) (t .shape-is) ∙ ap₂ (recordRule _) (t .nodes-are) (t .values-are)
 
-module _ {input : List ℕ} {ns vs : List Float} {f : Front} (l : Loads input ns vs f) where
-  abbrev rule : Rule
-  rule = recordRule (f .shape) (take (f .nodes) ns) (take (f .values) vs)
+-- a text of a table and of the records that follow it
+module _ (text : Shape → List Float → List Float → List ℕ → List ℕ) where
+  abbrev by : List ℕ → List ℕ → List ℕ
+  by img records = text (shapeOf img) (nodesIn img) (valuesIn img) records
 
-  -- its text, by what the load answered
-  text-loaded : textOf (f .answer) rule (drop (f .size) input) ≡ runOf input
-  unfolding textOf
-  text-loaded = go (eqb (f .answer .number) 0) (eqb-true (f .answer .number) 0) ∙ sym (front-run l linesBy)
-    where
-      go : (b : Bool) → (b ≡ true → f .answer .number ≡ 0)
-          → cond b (linesOf rule mostRecords (drop (f .size) input)) (lineOf (f .answer)) ≡ cond b (linesBy (imageIn input) (drop (f .size) input)) (lineOf (f .answer))
-      go true z = ap (λ (p : Rule). linesOf p mostRecords (drop (f .size) input)) (rule-is (l .table (z refl)))
-      go false z = refl
+  module _ {input : List ℕ} {ns vs : List Float} {f : Front} (l : Loads input ns vs f) where
+    abbrev own : List ℕ → List ℕ
+    own records = text (f .shape) (take (f .nodes) ns) (take (f .values) vs) records
 
-  -- the text is what the program prints of the input
-  pub run-texted : f .size ≤ length input → {d e : List ℕ} {a : RunAnswer}
-      → Texted (textOf (f .answer) rule (take (length input - f .size) (drop (f .size) input))) d e a → Texted (runOf input) d e a
-  run-texted h {d} {e} {a} t =
-      subst (λ (xs : List ℕ). Texted xs d e a)
-      (ap (textOf (f .answer) rule) (take-all (length input - f .size) (drop (f .size) input) (omega (arith, length-drop (f .size) input))) ∙ text-loaded) t
+    -- by what the load answered it is what the program prints of the input
+    by-load : textOf (f .answer) (own (drop (f .size) input)) ≡ runBy by input
+    unfolding textOf
+    by-load = go (eqb (f .answer .number) 0) (eqb-true (f .answer .number) 0) ∙ sym (front-run l by)
+      where
+        go : (b : Bool) → (b ≡ true → f .answer .number ≡ 0)
+            → cond b (own (drop (f .size) input)) (lineOf (f .answer)) ≡ cond b (by (imageIn input) (drop (f .size) input)) (lineOf (f .answer))
+        go true z = let t = l .table (z refl) in rw (t .shape-is, t .nodes-are, t .values-are)
+        go false z = refl
+
+    pub run-texted : f .size ≤ length input → {xs d e : List ℕ} {a : RunAnswer}
+        → xs ≡ textOf (f .answer) (own (take (length input - f .size) (drop (f .size) input))) → Texted xs d e a → Texted (runBy by input) d e a
+    run-texted h {xs} {d} {e} {a} q t =
+        subst (λ (ys : List ℕ). Texted ys d e a)
+        (q ∙ ap (λ (rs : List ℕ). textOf (f .answer) (own rs)) (take-all (length input - f .size) (drop (f .size) input) (omega (arith, length-drop (f .size) input))) ∙ by-load) t

@@ -27,6 +27,14 @@ placed {d = d} {at = at} w q = record { long = omega (arith, w .next); bytes = q
 pub fronted : {xs d e : List ℕ} {r : ℕ} → Placed xs d 0 e r → Fronted xs d e r
 fronted {xs} {d} p = record { long = p .long; bytes = λ h. p .bytes ∙ all-there xs d 0 (omega (arith, h)) }
 
+pub wrote-fronted : {xs d e : List ℕ} {r : ℕ} → Wrote d 0 xs e r → Fronted xs d e r
+wrote-fronted w = record { long = omega (arith, w .next); bytes = λ h. w .bytes }
+
+pub fronted-take : {xs d e : List ℕ} {r : ℕ} → Fronted xs d e r → r ≤ length d → take r e ≡ xs
+fronted-take {xs} {d} {e} {r} f h =
+    let w : Wrote d 0 xs e r = record { bytes = f .bytes (omega (arith, f .long)); next = omega (arith, f .long) } in
+    wrote-take w
+
 -- ---- on the way to a whole text in the output d: `rest` of it is still to be put, at a place of e
 pub record Putting (all d e : List ℕ) (at : ℕ) (rest : List ℕ) : Type 0 where
   pub long : at + length rest ≡ length all

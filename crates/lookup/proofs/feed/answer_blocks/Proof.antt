@@ -1,7 +1,8 @@
 use lib.Seq.{length-take-le}
 use Rattle.program.specs.Run.{ruleOf}
 use Rattle.program.proofs.front.Loads.{four-axes}
-use Rattle.lookup.proofs.feed.Loops.{Feeding, turnsLeft, feed-start, feed-room, feed-step, feed-last, fewer}
+use Rattle.program.proofs.turns.Turning.{turnsLeft}
+use Rattle.lookup.proofs.feed.Loops.{Feeding, feed-start, feed-room, feed-step, feed-last, turn-fewer}
 use Rattle.lookup.proofs.feed.Wholes.{failed-whole, ended-whole}
 use mathlib.Core.Path.{sym}
 use native.Mathlib.Omega.{arith}
@@ -63,7 +64,7 @@ add-printed c =
 loop-less : tie.Need-loop-less Inv-loop μ-loop
 loop-less c =
     let t = c .before .before .before .before .before .before .before in
-    fewer (t .step .ensures .0) (looped t .loop-test .taken)
+    turn-fewer (t .step .ensures .0) (looped t .loop-test .taken)
 
 loop-again : tie.Need-loop-again Inv-loop μ-loop
 loop-again c =

@@ -12,11 +12,12 @@ start l = l .before .before .before .before .before .before
 abbrev load : tie.After-struct-known → tie.After-load
 load c = c .before .before .before .before .before .before
 
-refuse-requires : tie.Need-refuse-requires
-refuse-requires c κs =
-    let l = load (c .before) in
+returns : tie.Need-returns
+returns c =
+    let e = c .before in
+    let l = load (e .before) in
     let s = start l in
-    image-refused (l .load .ensures .0 (s .pre .0 .0) (s .pre .0 .1)) (s .pre .1) (c .if1 .taken) linesBy
+    c .refuse .ensures (image-refused (l .load .ensures .0 (s .pre .0 .0) (s .pre .0 .1)) (s .pre .1) (e .if1 .taken)) linesBy _
 
 slice-aggregate-answer-all : tie.Need-slice-aggregate-answer-all
 slice-aggregate-answer-all c = sym (length-take-le _ _ (search needs))
@@ -36,10 +37,10 @@ answer-image-spec =
     tie.close
     (tie.spec
     (λ c κs. search needs)
-    refuse-requires
+    (λ c κs. search needs)
     (λ c. search needs)
     (λ c. search needs)
-    (λ c. search needs)
+    returns
     (λ c. search needs)
     slice-aggregate-answer-all
     (λ c. search needs)

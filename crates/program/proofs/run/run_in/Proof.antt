@@ -1,5 +1,8 @@
-use mathlib.Core.Path.{sym}
+use mathlib.Core.Path.{refl, sym}
 use lib.Seq.{length-take-le}
+use Rattle.lines.specs.Stream.{linesOf}
+use Rattle.checks.specs.Numbers.{mostRecords}
+use Rattle.ninterp.specs.Records.{recordRule}
 use Rattle.program.proofs.run.Inputs.{run-texted}
 use borrow.Author.Needs.{needs}
 use Rattle.program.proofs.run.run_in.Statement.{statement}
@@ -16,7 +19,7 @@ returns c =
     let g = c .before .before .before .before in
     let l = g .before .before .before .before .before .before .before .before .before .before in
     let s = l .before .before .before .before .before .before .before .before in
-    run-texted (l .load .ensures .0 (s .pre .0) (s .pre .1 .0)) (l .load .ensures .1 .0 .1) (g .give-text .ensures)
+    run-texted (λ s ns vs rs. linesOf (recordRule s ns vs) mostRecords rs) (l .load .ensures .0 (s .pre .0) (s .pre .1 .0)) (l .load .ensures .1 .0 .1) refl (g .give-text .ensures)
 
 pub run-in-spec : {M : Type 1} → statement M
 run-in-spec =

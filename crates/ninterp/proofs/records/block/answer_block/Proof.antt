@@ -1,10 +1,10 @@
-use mathlib.Core.Path.{refl, sym, _∙_}
+use mathlib.Core.Path.{refl}
 use Prim.Native.Nat.{_≤_}
 use native.Mathlib.Omega.{arith}
 use lib.ListN.{length}
 use denote.Ref.{now}
-use borrow.Author.Tests.{leb-true, not-true, not-false}
 use Rattle.ninterp.specs.Records.{recordSize}
+use Rattle.ninterp.proofs.Wholes.{whole-there, whole-missing}
 use Rattle.ninterp.proofs.RecordLines.{block-none}
 use borrow.Author.Needs.{needs}
 use Rattle.ninterp.proofs.records.block.answer_block.Statement.{statement}
@@ -17,13 +17,13 @@ start w = w .before .before .before .before .before
 whole : (e : tie.Else1) → recordSize (start (e .before) .args .shape) ≤ length (now (start (e .before) .args .records))
 whole e =
     let a = start (e .before) .args in
-    leb-true (recordSize (a .shape)) (length (now (a .records))) (sym (e .before .is-whole .ensures) ∙ not-false _ (e .if1 .left))
+    whole-there (a .shape) (length (now (a .records))) _ (e .before .is-whole .ensures) (e .if1 .left)
 
 returns : tie.Need-returns
 returns c =
     let w = c .before in
     let a = start w .args in
-    block-none (a .shape) (now (a .nodes)) (now (a .values)) (a .most) (now (a .records)) (now (a .out)) (sym (w .is-whole .ensures) ∙ not-true _ (c .if1 .taken))
+    block-none (a .shape) (now (a .nodes)) (now (a .values)) (a .most) (now (a .records)) (now (a .out)) (whole-missing (a .shape) (length (now (a .records))) _ (w .is-whole .ensures) (c .if1 .taken))
 
 mul-size : tie.Need-mul-size
 mul-size c = let e = c .before .before .before in omega (arith, whole e)

@@ -1,0 +1,3 @@
+pub mod Reports
+pub mod Examples
+pub mod Unique

@@ -1,7 +1,7 @@
 #!/usr/bin/env python3
-"""Makes the list of whole inputs that crates/test_coverage runs, and the report that `coverage` must print on each.
+"""Makes the list of whole inputs that crates/test_coverage runs, the long one that crates/coverage itself runs, and the report on each.
 
-    python3 vectors/coverage.py                  writes crates/test_coverage/stdin and crates/test_coverage/stdout
+    python3 vectors/coverage.py                  writes stdin and stdout of crates/test_coverage and of crates/coverage
     python3 vectors/coverage.py --check          compares with the files that are there
     python3 vectors/coverage.py --list           prints what each run is about
     python3 vectors/coverage.py --against-whole  holds the answers that are counted to the lines of crates/test_whole and crates/lookup
@@ -28,7 +28,6 @@ from records import image_length
 from report import is_refusal, report
 
 CRATES = Path(__file__).resolve().parent.parent / "crates"
-FOLDER = CRATES / "test_coverage"
 MOST_BYTES = 40_000
 
 
@@ -73,9 +72,12 @@ def report_of(run):
 
 def made():
     both = [(run, report_of(run)) for run in all_runs()]
+    long = drawn_runs.long_run()
     files = {
-        "stdin": b"".join(struct.pack("<I", len(run.input)) + run.input for run, _ in both),
-        "stdout": "".join(f"run {i}\n{text}" for i, (_, text) in enumerate(both)).encode(),
+        "test_coverage/stdin": b"".join(struct.pack("<I", len(run.input)) + run.input for run, _ in both),
+        "test_coverage/stdout": "".join(f"run {i}\n{text}" for i, (_, text) in enumerate(both)).encode(),
+        "coverage/stdin": long.input,
+        "coverage/stdout": report_of(long).encode(),
     }
     return both, files
 
@@ -99,13 +101,12 @@ def main(mode):
             print(f"{i}: {run.name}: {len(run.input)} bytes, lines {len(text.splitlines())}")
     elif mode == "--check":
         for name, data in files.items():
-            if not (FOLDER / name).exists() or (FOLDER / name).read_bytes() != data:
+            if not (CRATES / name).exists() or (CRATES / name).read_bytes() != data:
                 sys.exit(f"{name} is not as committed: {totals_of(both)}")
         print(f"the list is as committed: {totals_of(both)}")
     else:
-        FOLDER.mkdir(exist_ok=True)
         for name, data in files.items():
-            (FOLDER / name).write_bytes(data)
+            (CRATES / name).write_bytes(data)
         print(f"the list is written: {totals_of(both)}")
 
 

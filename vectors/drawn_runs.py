@@ -77,6 +77,14 @@ def drawn_record(draws, its):
     return record(kind, *bits)
 
 
+def long_run():
+    """Records over several of the program's blocks of 32,768 bytes, none of which ends with a record, and a short one at last."""
+    draws = Draws(11_112_027)
+    its = drawn_table(draws, (9, 5, 7))
+    records = b"".join(drawn_record(draws, its) for _ in range(5_000))
+    return Run("5,000 records and a piece", lay(its) + records + drawn_record(draws, its)[:17])
+
+
 def runs():
     draws = Draws(11_112_026)
     for i, counts in enumerate(SHAPES + SHAPES):

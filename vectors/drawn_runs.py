@@ -8,7 +8,7 @@ from contents import NOT_FINITE
 from runs import LEAST, MOST, Run, record
 from tables import MINUS, Table, bits_of, bits_of_all, lay, rising
 
-SHAPES = [(2,), (5,), (64,), (2, 2), (7, 3), (3, 40), (2, 3, 4), (6, 5, 4), (9, 2, 9), (2, 3, 2, 5), (4, 4, 4, 4), (3, 2, 6, 7)]
+SHAPES = [(2,), (5,), (64,), (2, 2), (7, 3), (3, 40), (2, 3, 4), (6, 5, 4), (9, 2, 9), (2, 3, 2, 5), (4, 4, 4, 4), (3, 2, 6, 7), (2, 2, 2, 64), (2, 2, 64, 2)]
 
 
 def drawn_bits(draws):

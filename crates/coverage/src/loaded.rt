@@ -17,7 +17,7 @@ pub(crate) fn count_image(img: &[u8], nodes: &mut [f64], values: &mut [f64]) -> 
     let loaded = front::load(img, nodes, values);
     let answer = loaded.answer;
     if answer.number != 0 {
-        return refused::refuse(img, answer);
+        return refused::refuse(img);
     }
     let n = loaded.nodes;
     let v = loaded.values;

@@ -1,23 +1,26 @@
 -- Request C-11 on the page: what counting owes. Assumes nothing.
 use mathlib.Core.Path.{_≡_, refl, sym, ap, ap₂, _∙_, subst}
 use mathlib.Core.Bool.{Bool, true, false, not, _&&_, cond}
-use mathlib.Core.Logic.{_⊎_, inl}
+use mathlib.Core.Logic.{_⊎_, inl, inr}
 use mathlib.Core.List.{List, [], _∷_, _++_, append-assoc, append-nil, map}
-use Prim.Native.Nat.{ℕ, zero, suc, _+_, _-_, _≤_, _<_, min}
+use Prim.Native.Nat.{ℕ, zero, suc, _+_, _-_, _*_, _≤_, _<_, min}
 use native.Mathlib.Omega.{arith}
 use borrow.Author.Tests.{lt-ltb, le-ltb}
-use lib.Dec.{eqb}
+use lib.Dec.{ltb, eqb}
 use lib.ListN.{length, take, drop, getD, drop-of-length-le}
 use lib.Seq.{take-all}
 use lib.Ieee.{Float, nan}
-use Rattle.answer.specs.Faults.{refusal, good}
-use Rattle.answer.specs.Answer.{refused, fine}
-use Rattle.answer.proofs.Orders.{given-good}
-use Rattle.answer.proofs.Answers.{then-number}
+use Rattle.answer.specs.Faults.{refusal, good, when, _or_}
+use Rattle.answer.specs.Answer.{refused, answered, fine, _then_}
+use Rattle.answer.specs.declared.Answer.{Answer}
+use Rattle.answer.proofs.Orders.{given-good, first-passed}
+use Rattle.answer.proofs.Answers.{then-good, then-number}
 use Rattle.answer.proofs.Tests.{by-lt}
+use Rattle.layout.specs.Shape.{countsOf}
 use Rattle.layout.specs.declared.Shape.{Shape}
 use Rattle.checks.specs.Shapes.{frameFault}
-use Rattle.checks.specs.Numbers.{mostRecords}
+use Rattle.checks.specs.Numbers.{mostRecords, readingsFault, rangesFault, axesUniformFault}
+use Rattle.checks.proofs.lists.Rows.{readings-finite}
 use Rattle.lines.specs.Line.{lineOf}
 use Rattle.lines.specs.Stream.{linesOf, cutLine}
 use Rattle.tally.specs.declared.Tally.{Tally}
@@ -30,18 +33,22 @@ use Rattle.tally.proofs.Counts.{moreIf, refusedAs, tallied-records, tallied-siz
 use Rattle.utils.specs.Calls.{axisReadingFault, indexAnswer, locateLowerIndex}
 use Rattle.axis.specs.Cells.{lowerIndex}
 use Rattle.ninterp.specs.Records.{recordSize, recordReadings, recordAnswer, recordRule}
-use Rattle.ninterp.specs.Coverage.{recordsIn, recordsRead, recordCell, fellIn, refusedBy, cellTotal, numberTotal}
-use Rattle.ninterp.specs.Counting.{outcomeOf, countedRecord, tallyAfter, blockTally}
-use Rattle.ninterp.specs.Scaffolding.{Counted}
+use Rattle.ninterp.specs.Coverage.{recordsIn, recordsRead, recordCell, fellIn, refusedBy, cellTotal, numberTotal, goesPast}
+use Rattle.ninterp.specs.Counting.{outcomeOf, countedRecord, blockTally}
+use Rattle.ninterp.specs.Scaffolding.{tableFault, kindFault, kindFound}
 use Rattle.ninterp.proofs.RecordsIn.{records-none, records-more, records-at, records-within}
-use Rattle.ninterp.proofs.Coverage.{outcome-cell, outcome-refused, cell-total, number-total, records-total}
-use Rattle.ninterp.proofs.CoverageBlocks.{block-left, short-record}
+use Rattle.ninterp.proofs.Coverage.{fell-refused, fell-nowhere, fell-accepted, outcome-cell, outcome-refused, cell-total, number-total, records-total}
+use Rattle.ninterp.proofs.CoverageBlocks.{block-used, block-left, short-record}
+use Rattle.ninterp.proofs.KindOrder.{record-exact, kind-order, length-readings}
 use Rattle.ninterp.proofs.CoverageSums.{axis-sums}
 use Rattle.ninterp.proofs.CountEnds.{counted-start, counted-block, counted-end, counted-told}
+use Rattle.ninterp.proofs.Afters.{tallyAfter, Counted}
 use Rattle.laws.specs.Calls.{Table, axes, counts, axis, on}
 use Rattle.laws.specs.Promises.{Accepted}
 use Rattle.laws.specs.Counting.{Counting, Fed, count, oneByOne, next, fed, atStart, countFile, file, answers}
 use Rattle.laws.proofs.Premises.{passes}
+use Rattle.laws.proofs.Judging.{record-judged}
+use Rattle.laws.proofs.Primitives.{primitives}
 
 -- one more, or as it was; a largest u32 stays
 raised : (b : Bool) (n : ℕ) → n ≤ 4294967295 → moreIf b n ≡ min 4294967295 (n + cond b 1 0)
@@ -70,12 +77,45 @@ module _ (table : Table) where
   values = table .values .list
 
   -- ---- which records
-  cells-search : (rec : List ℕ) (a : ℕ) → locateLowerIndex (axis table a) (getD (recordReadings s rec) a nan) .answer .number ≡ 0
-      → recordCell s nodes a rec ≡ locateLowerIndex (axis table a) (getD (recordReadings s rec) a nan) .index
-  unfolding locateLowerIndex indexAnswer recordCell
-  cells-search rec a h =
-      let p = getD (recordReadings s rec) a nan in
-      sym (given-good (axisReadingFault (axis table a) p) (lowerIndex (axis table a) p) 0 (then-number (axisReadingFault (axis table a) p) fine h))
+  module _ (rec : List ℕ) (z : recordAnswer s nodes values rec .number ≡ 0) where
+    judged : Accepted table × (length rec ≡ recordSize s)
+    unfolding recordAnswer
+    judged = record-judged table rec (then-number _ _ z)
+
+    -- what is asked of a record's readings was passed
+    inside : good (readingsFault (recordReadings s rec) or rangesFault (countsOf s) nodes (recordReadings s rec)) ≡ true
+    inside = then-number _ _ (sym (ap (λ (x : Answer). x .number) (ordered ∙ then-good _ _ (then-number _ _ (sym (ap (λ (x : Answer). x .number) ordered) ∙ z)))) ∙ z)
+      where
+        ordered : recordAnswer s nodes values rec
+            ≡ (kindFault (getD rec 0 0) (tableFault s nodes values) (axesUniformFault (countsOf s) nodes)
+            then (readingsFault (recordReadings s rec) or rangesFault (countsOf s) nodes (recordReadings s rec))
+            then kindFound (getD rec 0 0) s nodes values (recordReadings s rec))
+        ordered =
+            record-exact s nodes values rec (judged .1)
+            ∙ kind-order s nodes values (recordReadings s rec) (length-readings s rec) (table .four) (getD rec 0 0)
+
+    module _ (a : ℕ) (l : a < axes table) where
+      abbrev reading : Float
+      reading = getD (recordReadings s rec) a nan
+
+      located : locateLowerIndex (axis table a) reading .answer ≡ fine
+      located =
+          primitives .lower-index (axis table a) reading .judges .accepts
+          (judged .0 .rising a l, readings-finite (recordReadings s rec) (first-passed _ _ inside) a (omega (arith, length-readings s rec)))
+
+      found : recordCell s nodes a rec ≡ locateLowerIndex (axis table a) reading .index
+      unfolding locateLowerIndex indexAnswer recordCell fine answered
+      found =
+          sym (given-good (axisReadingFault (axis table a) reading) (lowerIndex (axis table a) reading) 0
+          (then-number (axisReadingFault (axis table a) reading) fine (ap (λ (x : Answer). x .number) located)))
+
+  no-cell : (rec : List ℕ) (a i : ℕ) → (recordAnswer s nodes values rec .number ≡ 0 → ⊥) ⊎ (axes table ≤ a) → fellIn s nodes values a i rec ≡ false
+  no-cell rec a i (inl n) = fell-refused s nodes values rec a i n
+  no-cell rec a i (inr l) = fell-nowhere s nodes values rec a i l
+
+  number-told : (rec : List ℕ) (k : ℕ) → refusedBy s nodes values k rec ≡ eqb (recordAnswer s nodes values rec .number) k
+  unfolding refusedBy
+  number-told rec k = refl
 
   module _ (frame : good (frameFault s (length nodes) (length values)) ≡ true) where
     -- a short record is the last
@@ -197,6 +237,10 @@ module _ (table : Table) where
     records-is : countFile table blocks .tally .records ≡ length (recordsRead s (file blocks))
     records-is = ap (λ (u : Tally). u .records) tally-is ∙ records-total s nodes values (file blocks)
 
+    limit-is : countFile table blocks .answer ≡ (when (ltb (mostRecords * recordSize s) (length (file blocks))) (refusal 17 0 0) then fine)
+    unfolding goesPast
+    limit-is = counted-told s nodes values (going .reached) (going .last)
+
     file-one-by-one : countFile table blocks .tally ≡ oneByOne table noneRead (recordsRead s (file blocks))
     unfolding tallyAfter noneRead
     file-one-by-one = tally-is ∙ one-by-one (recordsRead s (file blocks)) noneRead
@@ -230,7 +274,12 @@ counting = record {
   no-other-records = λ table f i h. records-within (recordSize (table .shape)) i mostRecords f h;
   lookup-reads = λ table f g. lines-are table (passes table g .frame) mostRecords f;
   short-counts-under-three = λ table rec g l. short-record (table .shape) (table .nodes .list) (table .values .list) rec (passes table g .frame) l;
-  cells-by-search = cells-search;
+  cells-by-search = λ table rec a i z l. (
+    located table rec z a l,
+    fell-accepted (table .shape) (table .nodes .list) (table .values .list) rec a i z l ∙ ap (λ (c : ℕ). eqb c i) (found table rec z a l),
+  );
+  in-no-other-cell = no-cell;
+  numbers-by-answer = number-told;
   counts-any = λ table t rec h. ap (λ (r : TallyAnswer). r .answer) (on-more table t rec h);
   counts-no-more = no-more;
   records-more = λ table t rec h. ap (λ (u : Tally). u .records) (after table t rec h) ∙ tallied-records t (outcomeOf (table .shape) (table .nodes .list) (table .values .list) rec);
@@ -239,12 +288,13 @@ counting = record {
   no-number-zero = λ table t rec z. either-way table t rec (λ u. numberCount u 0 ≡ numberCount t 0) (no-zero table t rec z) refl;
   sized-still = λ table t rec z. either-way table t rec Sized (tallied-sized t (outcomeOf (table .shape) (table .nodes .list) (table .values .list) rec) z) z;
   blocks-one-by-one = λ table t block. one-by-one table _ t;
+  blocks-use = λ table t block. (refl, block-used t (table .shape) (table .nodes .list) (table .values .list) block);
   blocks-leave = λ table t block. block-left t (table .shape) (table .nodes .list) (table .values .list) block;
   files-one-by-one = file-one-by-one;
   cells-are = cell-is;
   numbers-are = number-is;
   records-are = records-is;
-  limit-told = λ table blocks. counted-told (table .shape) (table .nodes .list) (table .values .list) (going table blocks .reached) (going table blocks .last);
+  limit-told = limit-is;
   axis-adds-up = λ table f a l. axis-sums (table .shape) (table .nodes .list) (table .values .list) a l f;
   tally-adds-up = adds-up;
 }

@@ -1,9 +1,10 @@
 -- THE PAGE OF PROMISES, request C-11: what counting owes. Nothing but statements; `counting` (laws/proofs/Counting.antt) inhabits the record at the end.
 use mathlib.Core.Path.{_≡_}
-use mathlib.Core.Bool.{cond}
+use mathlib.Core.Bool.{false, cond}
 use mathlib.Core.Logic.{_⊎_}
 use mathlib.Core.List.{List, [], _∷_, _++_}
 use Prim.Native.Nat.{ℕ, suc, _+_, _-_, _*_, _≤_, _<_, min}
+use lib.Dec.{ltb, eqb}
 use lib.ListN.{length, take, drop, getD}
 use lib.Ieee.{nan}
 use Rattle.answer.specs.Faults.{refusal, when}
@@ -15,9 +16,8 @@ use Rattle.tally.specs.declared.Tally.{Tally}
 use Rattle.tally.specs.declared.TallyAnswer.{TallyAnswer}
 use Rattle.tally.specs.Counts.{Sized, noneRead, cellCount, numberCount, sumTo}
 use Rattle.utils.specs.Calls.{locateLowerIndex}
-use Rattle.utils.specs.declared.IndexAnswer.{IndexAnswer}
 use Rattle.ninterp.specs.Records.{recordSize, recordReadings, recordAnswer, recordRule}
-use Rattle.ninterp.specs.Coverage.{recordsIn, recordsRead, recordCell, fellIn, refusedBy, cellTotal, numberTotal, goesPast}
+use Rattle.ninterp.specs.Coverage.{recordsIn, recordsRead, fellIn, refusedBy, cellTotal, numberTotal}
 use Rattle.ninterp.specs.Counting.{countedRecord, countedRest, blockCount, blockTally}
 use Rattle.ninterp.specs.declared.records.count.BlockTally.{BlockTally}
 use Rattle.laws.specs.Calls.{Table, axes, counts, axis, on}
@@ -85,10 +85,14 @@ pub record Counting : Type 0 where
       → linesOf (on table recordRule) mostRecords f ≡ answers table (recordsRead (table .shape) f)
   pub short-counts-under-three : (table : Table) (rec : List ℕ) → Accepted table → length rec < recordSize (table .shape)
       → on table recordAnswer rec ≡ refused (refusal 3 0 2)
-  -- "(by `locate_lower_index`)": a record's cell is the index that the primitive gives of the reading
-  pub cells-by-search : (table : Table) (rec : List ℕ) (a : ℕ)
-      → locateLowerIndex (axis table a) (getD (recordReadings (table .shape) rec) a nan) .answer .number ≡ 0
-      → recordCell (table .shape) (table .nodes .list) a rec ≡ locateLowerIndex (axis table a) (getD (recordReadings (table .shape) rec) a nan) .index
+  -- "(by `locate_lower_index`) the accepted readings": a record that is answered 0 is in the cell that the primitive names, on each axis of the table
+  pub cells-by-search : (table : Table) (rec : List ℕ) (a i : ℕ) → on table recordAnswer rec .number ≡ 0 → a < axes table
+      → (locateLowerIndex (axis table a) (getD (recordReadings (table .shape) rec) a nan) .answer ≡ fine)
+      × (on table fellIn a i rec ≡ eqb (locateLowerIndex (axis table a) (getD (recordReadings (table .shape) rec) a nan) .index) i)
+  -- "Only records answered 0 count in cells", and on no other axis
+  pub in-no-other-cell : (table : Table) (rec : List ℕ) (a i : ℕ) → (on table recordAnswer rec .number ≡ 0 → ⊥) ⊎ (axes table ≤ a) → on table fellIn a i rec ≡ false
+  -- "a count per refusal number"
+  pub numbers-by-answer : (table : Table) (rec : List ℕ) (k : ℕ) → on table refusedBy k rec ≡ eqb (on table recordAnswer rec .number) k
   -- ---- one record
 
   -- "Counting a record that the lookup refuses is a success of the counting call": so is every record before the limit, whatever the lookup answers
@@ -110,6 +114,8 @@ pub record Counting : Type 0 where
 
   pub blocks-one-by-one : (table : Table) (t : Tally) (block : List ℕ)
       → countBlock table t block .tally ≡ oneByOne table t (recordsIn (recordSize (table .shape)) (blockCount t (table .shape) block) block)
+  pub blocks-use : (table : Table) (t : Tally) (block : List ℕ)
+      → (countBlock table t block .used ≡ blockCount t (table .shape) block * recordSize (table .shape)) × (countBlock table t block .used ≤ length block)
   pub blocks-leave : (table : Table) (t : Tally) (block : List ℕ)
       → (length (drop (countBlock table t block .used) block) < recordSize (table .shape)) ⊎ (mostRecords ≤ countBlock table t block .tally .records)
   pub files-one-by-one : (table : Table) (blocks : List (List ℕ)) → countFile table blocks .tally ≡ oneByOne table noneRead (recordsRead (table .shape) (file blocks))
@@ -121,7 +127,7 @@ pub record Counting : Type 0 where
   pub records-are : (table : Table) (blocks : List (List ℕ)) → countFile table blocks .tally .records ≡ length (recordsRead (table .shape) (file blocks))
   -- "Refusals: 17, axis 0, place 0, at any byte after record 1,000,000"
   pub limit-told : (table : Table) (blocks : List (List ℕ))
-      → countFile table blocks .answer ≡ (when (goesPast (table .shape) (file blocks)) (refusal 17 0 0) then fine)
+      → countFile table blocks .answer ≡ (when (ltb (mostRecords * recordSize (table .shape)) (length (file blocks))) (refusal 17 0 0) then fine)
   -- "On each axis the cell counts plus the refused counts equal the records read"
   pub axis-adds-up : (table : Table) (f : List ℕ) (a : ℕ) → a < axes table
       → sumTo (on table cellTotal f a) (getD (counts table) a 0 - 1) + sumTo (λ k. on table numberTotal f (suc k)) 20

@@ -21,9 +21,9 @@ use Rattle.tally.specs.Counts.{noneRead}
 use Rattle.tally.proofs.Counts.{counted-on, counted-no-more}
 use Rattle.ninterp.specs.Records.{recordSize}
 use Rattle.ninterp.specs.Coverage.{goesPast}
-use Rattle.ninterp.specs.Counting.{outcomeOf, countedRecord, tallyAfter, wholeRecords, blockCount, blockTally, countedRest}
-use Rattle.ninterp.specs.Scaffolding.{Counted}
+use Rattle.ninterp.specs.Counting.{outcomeOf, countedRecord, wholeRecords, blockCount, blockTally, countedRest}
 use Rattle.ninterp.proofs.CoverageBlocks.{block-used, block-records, block-after, none-after, one-after, end-after}
+use Rattle.ninterp.proofs.Afters.{tallyAfter, Counted}
 
 -- ---- what is left at the end
 module _ (t : Tally) (s : Shape) (nodes values : List Float) where

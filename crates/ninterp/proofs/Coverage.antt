@@ -2,11 +2,11 @@
 use mathlib.Core.Path.{_≡_, refl, sym, ap, ap₂, _∙_}
 use mathlib.Core.Bool.{Bool, true, false, not, _&&_, cond}
 use mathlib.Core.List.{List, [], _∷_, map}
-use Prim.Native.Nat.{ℕ, zero, suc, _+_, _-_, _*_, _≤_, _<_}
+use Prim.Native.Nat.{ℕ, _+_, _-_, _*_, _≤_, _<_}
 use native.Mathlib.Omega.{arith}
 use borrow.Author.Tests.{lt-ltb, le-ltb, eq-eqb, ne-eqb, eqb-true, eqb-false}
 use lib.Dec.{eqb, ltb}
-use lib.ListN.{length, take, drop, getD, length-map, length-take, List·getD-eq-default}
+use lib.ListN.{length, take, getD, length-map, length-take, List·getD-eq-default}
 use lib.Seq.{take-all, getD-take}
 use lib.Ieee.{Float, nan}
 use Rattle.answer.specs.Faults.{good}
@@ -29,9 +29,10 @@ use Rattle.tally.proofs.Counts.{inCell, refusedAs}
 use Rattle.tally.proofs.Sums.{many-none, many-map}
 use Rattle.tally.proofs.Totals.{none-sized, cells-all, numbers-all, records-all, all-sized}
 use Rattle.ninterp.specs.Records.{recordSize, recordReadings, recordFault, recordAnswer}
-use Rattle.ninterp.specs.Coverage.{recordsIn, recordCell, fellIn, refusedBy, recordsRead, cellTotal, numberTotal}
-use Rattle.ninterp.specs.Counting.{outcomeOf, tallyAfter}
+use Rattle.ninterp.specs.Coverage.{recordCell, fellIn, refusedBy, recordsRead, cellTotal, numberTotal}
+use Rattle.ninterp.specs.Counting.{outcomeOf}
 use Rattle.ninterp.proofs.RecordsIn.{records-few}
+use Rattle.ninterp.proofs.Afters.{tallyAfter}
 
 -- ---- a record that is answered 0: the table passes its checks
 module _ (s : Shape) (nodes values : List Float) (rec : List ℕ) (z : recordAnswer s nodes values rec .number ≡ 0) where
@@ -134,7 +135,7 @@ module _ (s : Shape) (nodes values : List Float) where
     unfolding fellIn
     fell-refused a i n = ap (λ (b : Bool). b && (ltb a (s .axes) && eqb (recordCell s nodes a rec) i)) (ne-eqb number 0 n)
 
-    fell-nowhere : (a i : ℕ) → s .axes ≤ a → fellIn s nodes values a i rec ≡ false
+    pub fell-nowhere : (a i : ℕ) → s .axes ≤ a → fellIn s nodes values a i rec ≡ false
     unfolding fellIn
     fell-nowhere a i l =
         ap (λ (b : Bool). eqb number 0 && (b && eqb (recordCell s nodes a rec) i)) (le-ltb a (s .axes) l) ∙ and-false (eqb number 0) false refl

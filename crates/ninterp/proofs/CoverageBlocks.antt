@@ -26,9 +26,10 @@ use Rattle.tally.proofs.Counts.{counted-no-more}
 use Rattle.tally.proofs.Totals.{records-from, count-append}
 use Rattle.ninterp.specs.Records.{recordSize, recordAnswer}
 use Rattle.ninterp.specs.Coverage.{recordsIn}
-use Rattle.ninterp.specs.Counting.{outcomeOf, countedRecord, tallyAfter, wholeRecords, blockCount, blockTally}
+use Rattle.ninterp.specs.Counting.{outcomeOf, countedRecord, wholeRecords, blockCount, blockTally}
 use Rattle.ninterp.proofs.KindOrder.{record-refused}
 use Rattle.ninterp.proofs.RecordsIn.{records-none, records-more}
+use Rattle.ninterp.proofs.Afters.{tallyAfter}
 
 -- ---- the records of an input, one after the other, and the whole ones at its front
 module _ (size : ℕ) where

@@ -13,6 +13,7 @@ pub mod KindOrder
 pub mod RecordLines
 pub mod Wholes
 pub mod RecordsIn
+pub mod Afters
 pub mod CountCells
 pub mod CountBlocks
 pub mod Known

@@ -29,10 +29,6 @@ outcomeOf s nodes values rec =
 unfoldable pub countedRecord : Tally → Shape → List Float → List Float → List ℕ → TallyAnswer
 countedRecord t s nodes values rec = countedOf t (outcomeOf s nodes values rec)
 
--- the tally after the records of an input, as many as may still come
-unfoldable pub tallyAfter : Tally → Shape → List Float → List Float → List ℕ → Tally
-tallyAfter t s nodes values input = countAll t (map (outcomeOf s nodes values) (recordsIn (recordSize s) (mostRecords - t .records) input))
-
 -- ---- a block
 
 -- how many whole records an input has, at most m

@@ -2,7 +2,7 @@
 -- The checker holds the code to it, and no promise cites it.
 use mathlib.Core.Path.{_≡_}
 use mathlib.Core.Bool.{true, cond}
-use mathlib.Core.List.{List, [], _∷_, _++_}
+use mathlib.Core.List.{List, [], _∷_}
 use Prim.Native.Nat.{ℕ, _+_, _-_, _*_, _^_, _≤_, _<_}
 use lib.Dec.{eqb, ltb}
 use lib.ListN.{length, getD, take, drop}
@@ -20,17 +20,13 @@ use Rattle.rust.specs.declared.AxisLocation.{AxisLocation}
 use Rattle.rust.specs.declared.AxisLocation.the-variants.{Exact}
 use Rattle.checks.specs.Scaffolding.{Grid}
 use Rattle.checks.specs.Shapes.{frameFault}
-use Rattle.checks.specs.Numbers.{axesFault, valuesFault, unknownKindFault, axesUniformFault, mostRecords}
+use Rattle.checks.specs.Numbers.{axesFault, valuesFault, unknownKindFault, axesUniformFault}
 use Rattle.axis.specs.Scaffolding.{upperOf, pickRule, locationBy}
 use Rattle.axis.specs.Locations.{locationIndex}
 use Rattle.blend.specs.Scaffolding.{cornerPlace}
 use Rattle.blend.specs.Blend.{computed}
-use Rattle.tally.specs.declared.Tally.{Tally}
-use Rattle.tally.specs.Counts.{noneRead}
 use Rattle.ninterp.specs.Linears.{locations, interpolated}
 use Rattle.ninterp.specs.Tables.{indices, picked}
-use Rattle.ninterp.specs.Records.{recordSize}
-use Rattle.ninterp.specs.Counting.{tallyAfter}
 
 -- a table with as many nodes as its counts say, which are there for each axis
 pub record FlatTable (s : Shape) (nodes : List Float) : Type 0 where
@@ -152,12 +148,3 @@ kindFound kind s nodes values readings =
 pub record Known (s : Shape) (nodes values : List Float) (table uniform : Fault) : Type 0 where
   pub judged : table ≡ tableFault s nodes values
   pub spaced : uniform ≡ axesUniformFault (countsOf s) nodes
-
--- ---- an input counted block by block
-
--- Of the bytes that were read, t counts the records before the rest. Whatever bytes come next, the tally after the rest and them is the
--- tally after all of them.
-pub record Counted (s : Shape) (nodes values : List Float) (bytes : List ℕ) (t : Tally) (rest : List ℕ) : Type 0 where
-  pub within : t .records ≤ mostRecords
-  pub spent : t .records * recordSize s + length rest ≡ length bytes
-  pub after : (more : List ℕ) → tallyAfter noneRead s nodes values (bytes ++ more) ≡ tallyAfter t s nodes values (rest ++ more)

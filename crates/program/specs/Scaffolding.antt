@@ -1,20 +1,19 @@
 -- Not for the reader of the promises: what the functions below the calls ask for and give one another.
 -- The checker holds the code to it, and no promise cites it.
 use mathlib.Core.Path.{_≡_}
-use mathlib.Core.Bool.{false, cond}
+use mathlib.Core.Bool.{cond}
 use mathlib.Core.List.{List, [], _++_}
 use Prim.Native.Nat.{ℕ, _≤_}
 use lib.Dec.{eqb}
 use lib.Ieee.{Float}
 use lib.ListN.{length, take, drop}
-use Rattle.answer.specs.Faults.{refusal, good, given}
+use Rattle.answer.specs.Faults.{refusal, given}
 use Rattle.answer.specs.Answer.{refused, fine, _then_}
 use Rattle.answer.specs.declared.Answer.{Answer}
 use Rattle.lines.specs.Line.{lineOf}
 use Rattle.lines.specs.Put.{put, roomFor, allInto}
 use Rattle.image.specs.Load.{loadFault}
 use Rattle.program.specs.Input.{imageSize, imageIn, nothingMore}
-use Rattle.program.specs.Run.{runBy}
 use Rattle.program.specs.Whole.{TableOf}
 use Rattle.program.specs.declared.front.Front.{Front}
 use Rattle.program.specs.declared.run.RunAnswer.{RunAnswer}
@@ -27,11 +26,6 @@ pub record Loads (input : List ℕ) (nodes values : List Float) (f : Front) : Ty
   pub rest-is : drop (f .size) input ≡ drop (imageSize input) input
   pub told : f .answer ≡ (loadFault (imageIn input) 256 4096 then fine)
   pub table : f .answer .number ≡ 0 → TableOf (imageIn input) (f .shape) (take (f .nodes) nodes) (take (f .values) values)
-
--- an image that the loader refused with this answer: its line is what a run prints of it, whatever it prints of records
-pub record RefusedBy (img : List ℕ) (a : Answer) : Type 0 where
-  pub bad : good (loadFault img 256 4096) ≡ false
-  pub line : (by : List ℕ → List ℕ → List ℕ) → runBy by img ≡ lineOf a
 
 -- xs was put at a place of the output d, where all of it has room, which left it as e; r is the length of xs, put or not
 pub record Placed (xs d : List ℕ) (at : ℕ) (e : List ℕ) (r : ℕ) : Type 0 where

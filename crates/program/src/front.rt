@@ -18,7 +18,7 @@ pub struct Front {
     pub values: usize,
 }
 
-// Loads the image at the front of an input into two outputs, which are to have room for a longest table.
+// Loads the image at the front of an input into two outputs, of 256 nodes and of 4,096 values: room for any table.
 pub fn load(input: &[u8], nodes: &mut [f64], values: &mut [f64]) -> Front
     ensures { λ r. ⌜
         (length (now (nodes .entry)) ≡ 256

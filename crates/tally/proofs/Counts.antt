@@ -121,17 +121,6 @@ module _ (t : Tally) (o : Outcome) where
   unfolding tallied
   tallied-records = refl
 
-  pub tallied-sized : Sized t → Sized (tallied t o)
-  unfolding tallied
-  tallied-sized s = record {
-    cells =
-        either (λ (xs : List ℕ). length xs ≡ 252) (eqb (o .number) 0) _ _
-        (cells-length (take (o .axes) (o .cells)) (t .cells) 0 ∙ s .cells) (s .cells);
-    numbers =
-        either (λ (xs : List ℕ). length xs ≡ 21) (eqb (o .number) 0) _ _
-        (s .numbers) (number-length (t .numbers) (o .number) ∙ s .numbers);
-  }
-
   pub tallied-cell : Sized t → (a i : ℕ) → a < 4 → i < 63 → cellCount (tallied t o) a i ≡ moreIf (inCell a i o) (cellCount t a i)
   unfolding tallied inCell
   tallied-cell s a i h l = go (eqb (o .number) 0)
@@ -149,6 +138,17 @@ module _ (t : Tally) (o : Outcome) where
           ≡ moreIf (not b && eqb (o .number) k) (numberCount t k)
       go true = refl
       go false = number-count (t .numbers) (o .number) k (omega (arith, s .numbers)) l
+
+  pub tallied-sized : Sized t → Sized (tallied t o)
+  unfolding tallied
+  tallied-sized s = record {
+    cells =
+        either (λ (xs : List ℕ). length xs ≡ 252) (eqb (o .number) 0) _ _
+        (cells-length (take (o .axes) (o .cells)) (t .cells) 0 ∙ s .cells) (s .cells);
+    numbers =
+        either (λ (xs : List ℕ). length xs ≡ 21) (eqb (o .number) 0) _ _
+        (s .numbers) (number-length (t .numbers) (o .number) ∙ s .numbers);
+  }
 
   -- ---- the call
   abbrev answers : Fault → TallyAnswer

@@ -5,11 +5,10 @@ use mathlib.Core.List.{List}
 use Prim.Native.Nat.{ℕ, _+_, _*_, _≤_, _<_}
 use borrow.Author.Tests.{lt-ltb, le-ltb, eq-eqb, ne-eqb}
 use lib.ListN.{length, take, drop, getD, set}
-use Rattle.answer.specs.Answer.{refused, fine}
+use Rattle.answer.specs.Answer.{fine, _then_}
 use Rattle.answer.specs.declared.Fault.{Fault}
 use Rattle.answer.specs.declared.Answer.{Answer}
 use Rattle.answer.proofs.Orders as orders
-use Rattle.answer.proofs.Answers.{then-stops, then-goes-on}
 use Rattle.layout.proofs.Totals.{ahead, past}
 use Rattle.checks.specs.Numbers.{limitFault}
 use Rattle.tally.specs.declared.Tally.{Tally}
@@ -78,13 +77,8 @@ module _ (t : Tally) (o : Outcome) where
     unfolding countedOf
     counts-no-more h = orders.given-refused r (limitFault (t .records)) e (tallied t o) t h
 
-    told : (a b : Answer) (s u : Tally) → a ≡ b → s ≡ u → _≡_ {A = TallyAnswer} (record { answer = a; tally = s }) (record { answer = b; tally = u })
-    told a b s u p q = ap₂ (λ (x : Answer) (y : Tally). record { answer = x; tally = y }) p q
-
-    pub answers-on : (a : Answer) (s : Tally) → r .number ≡ 0 → a ≡ fine → s ≡ countedOf t o .tally → record { answer = a; tally = s } ≡ countedOf t o
-    unfolding countedOf
-    answers-on a s h p q = told a _ s _ (then-goes-on r (limitFault (t .records)) e a fine h p) q
-
-    pub answers-no-more : (a : Answer) → (r .number ≡ 0 → ⊥) → a ≡ refused r → record { answer = a; tally = t } ≡ countedOf t o
-    unfolding countedOf
-    answers-no-more a h p = told a _ t _ (then-stops r (limitFault (t .records)) e a fine h p) (counts-no-more h)
+  -- the answer, and the tally after it
+  pub counts-told : (a : Answer) (s : Tally) → a ≡ (limitFault (t .records) then fine) → s ≡ countedOf t o .tally
+      → _≡_ {A = TallyAnswer} (record { answer = a; tally = s }) (countedOf t o)
+  unfolding countedOf
+  counts-told a s p q = ap₂ (λ (x : Answer) (y : Tally). record { answer = x; tally = y }) p q

@@ -3,6 +3,8 @@
 ghost use mathlib.Core.Path.{_≡_};
 ghost use Prim.Native.Nat.{_<_};
 ghost use lib.ListN.{take};
+ghost use Rattle.answer.specs.Answer.{fine, _then_};
+ghost use Rattle.checks.specs.Numbers.{limitFault};
 ghost use Rattle.tally.specs.Tally.{more, cellMore, cellsMore, numberMore, countedOf};
 ghost use Rattle.tally.specs.Counts.{noneRead};
 ghost use Rattle.tally.specs.Scaffolding.{tallyOf};
@@ -104,22 +106,25 @@ pub fn none_read() -> Tally
     }
 }
 
+// What counting a record answers, where so many were read already.
+fn limit_answer(read: u32) -> Answer
+    ensures { λ r. ⌜ r ≡ (limitFault read then fine) ⌝ }
+{
+    let fault = lent::limit_fault(read);
+    if fault.number != 0 {
+        return answer::refuse(fault);
+    }
+    answer::pass()
+}
+
 // Counts a record, and gives the tally after it.
 pub fn counted(t: Tally, o: Outcome) -> TallyAnswer
     ensures { λ r. ⌜ r ≡ countedOf t o ⌝ }
 {
-    let fault = lent::limit_fault(t.records);
-    if fault.number != 0 {
-        let refused = answer::refuse(fault);
-        return TallyAnswer {
-            answer: refused,
-            tally: t,
-        };
-    }
+    let answer = limit_answer(t.records);
     let mut cells = t.cells;
     let mut numbers = t.numbers;
     let records = count_here(&mut cells, &mut numbers, t.records, o);
-    let answer = answer::pass();
     let tally = Tally {
         records,
         cells,

@@ -18,9 +18,9 @@ use Rattle.checks.specs.Numbers.{mostRecords}
 use Rattle.tally.specs.declared.Tally.{Tally}
 use Rattle.tally.specs.Counts.{noneRead}
 use Rattle.ninterp.specs.Records.{recordSize}
-use Rattle.ninterp.specs.Scaffolding.{Counted}
 use Rattle.ninterp.proofs.CoverageBlocks.{block-records, block-left}
 use Rattle.ninterp.proofs.CountEnds.{counted-start, counted-block}
+use Rattle.ninterp.proofs.Afters.{Counted}
 use Rattle.program.specs.Coverage.{coverageReport, lastReport, reportBy, coverageOf}
 use Rattle.program.specs.Whole.{TableOf}
 use Rattle.program.proofs.front.Loads.{table-shape, four-axes}

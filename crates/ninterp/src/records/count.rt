@@ -26,8 +26,8 @@ pub struct BlockTally {
     pub used: usize,
 }
 
-// The cell of a record's reading on each axis, 0 past the axes. Each reading is read where it is wanted: all four in an array would be stored
-// and waited for.
+// The cell of a record's reading on each axis, 0 past the axes. Each reading is read where it is wanted: all four in an array would be
+// stored and waited for.
 fn cells_of(shape: Shape, nodes: &[f64], rec: &[u8]) -> [usize; 4]
     requires { ⌜ FlatTable shape (now nodes) ⌝ }
     ensures { λ r. ⌜

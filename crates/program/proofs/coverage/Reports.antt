@@ -24,12 +24,12 @@ use Rattle.tally.specs.declared.TallyAnswer.{TallyAnswer}
 use Rattle.tally.specs.Counts.{noneRead, cellCount, numberCount}
 use Rattle.ninterp.specs.Records.{recordSize}
 use Rattle.ninterp.specs.Coverage.{cellTotal, numberTotal, goesPast}
-use Rattle.ninterp.specs.Counting.{tallyAfter, blockTally, countedRest}
-use Rattle.ninterp.specs.Scaffolding.{Counted}
+use Rattle.ninterp.specs.Counting.{blockTally, countedRest}
 use Rattle.ninterp.specs.declared.records.count.BlockTally.{BlockTally}
 use Rattle.ninterp.proofs.Coverage.{cell-total, number-total}
 use Rattle.ninterp.proofs.CoverageBlocks.{block-left}
 use Rattle.ninterp.proofs.CountEnds.{counted-start, counted-block, counted-end, counted-told}
+use Rattle.ninterp.proofs.Afters.{tallyAfter, Counted}
 use Rattle.program.specs.Coverage.{coverageReport, reportOn, lastReport}
 use Rattle.program.specs.Scaffolding.{Fronted}
 use Rattle.program.proofs.run.Places.{wrote-fronted}

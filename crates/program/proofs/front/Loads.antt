@@ -32,7 +32,7 @@ use Rattle.lines.specs.Line.{lineOf}
 use Rattle.program.specs.Input.{imageSize, imageIn}
 use Rattle.program.specs.Run.{runBy}
 use Rattle.program.specs.Whole.{TableOf, Ran}
-use Rattle.program.specs.Scaffolding.{Loads, RefusedBy}
+use Rattle.program.specs.Scaffolding.{Loads}
 use Rattle.program.specs.declared.front.Front.{Front}
 
 -- an answer's number is 0 exactly where nothing is wrong
@@ -106,16 +106,21 @@ module _ {input : List ℕ} {ns vs : List Float} {f : Front} (l : Loads input ns
       go true g = rw (number-good fault (f .answer) (l .told), g, l .rest-is)
       go false g = rw (number-good fault (f .answer) (l .told), g, l .told ∙ then-bad fault fine g)
 
+  -- its line, where it is refused
+  pub front-line : (f .answer .number ≡ 0 → ⊥) → (text : List ℕ → List ℕ → List ℕ) → runBy text input ≡ lineOf (f .answer)
+  front-line h text =
+      front-run text ∙ ap (λ (b : Bool). cond b (text (imageIn input) (drop (f .size) input)) (lineOf (f .answer))) (ne-eqb (f .answer .number) 0 h)
+
   -- ---- of bytes that are an image and nothing else
   module _ (e : imageIn input ≡ input) where
-    pub image-refused : (f .answer .number ≡ 0 → ⊥) → RefusedBy input (f .answer)
-    image-refused h = record {
-      bad = ap (λ (x : List ℕ). good (loadFault x 256 4096)) (sym e) ∙ sym (number-good fault (f .answer) (l .told)) ∙ no;
-      line = λ text. front-run text ∙ ap (λ (b : Bool). cond b (text (imageIn input) (drop (f .size) input)) (lineOf (f .answer))) no;
-    }
-      where
-        no : eqb (f .answer .number) 0 ≡ false
-        no = ne-eqb (f .answer .number) 0 h
+    told-good : eqb (f .answer .number) 0 ≡ good (loadFault input 256 4096)
+    told-good = number-good fault (f .answer) (l .told) ∙ ap (λ (x : List ℕ). good (loadFault x 256 4096)) e
+
+    pub image-refused : (f .answer .number ≡ 0 → ⊥) → good (loadFault input 256 4096) ≡ false
+    image-refused h = sym told-good ∙ ne-eqb (f .answer .number) 0 h
+
+    pub image-good : f .answer .number ≡ 0 → good (loadFault input 256 4096) ≡ true
+    image-good h = sym told-good ∙ eq-eqb (f .answer .number) 0 h
 
     pub image-table : f .answer .number ≡ 0 → TableOf input (f .shape) (take (f .nodes) ns) (take (f .values) vs)
     image-table h = subst (λ (x : List ℕ). TableOf x (f .shape) (take (f .nodes) ns) (take (f .values) vs)) e (l .table h)

@@ -1,4 +1,5 @@
 pub mod Orders
+pub mod Firsts
 pub mod Loops
 pub mod Tests
 pub mod Outcome

@@ -3,7 +3,7 @@
 import itertools
 
 from tables import INFINITE, LARGEST, MINUS, SMALL, Table
-from tables import bits_of, case, lay, plain, rising, table, with_node, with_value
+from tables import bits_of, case, lay, packed, plain, rising, table, with_node, with_value
 
 # Two signalling, two quiet; each with both signs.
 NANS = [sign | bits for bits in (INFINITE + 1, 0x7FF4 << 48, 0x7FF8 << 48, MINUS - 1) for sign in (0, MINUS)]
@@ -85,10 +85,13 @@ def halves():
     for (name, one), (others, other) in itertools.permutations((("tens", TENS), ("fives", FIVES), ("low", LOW)), 2):
         for cut in range(len(lay(one)) + 1):
             yield case(f"{name}, then {others}, cut at {cut}", one, lay(one)[:cut] + lay(other)[cut:])
-    for counts, others in itertools.permutations(((2,), (2, 3), (3, 2), (2, 2, 2)), 2):
-        one, other = lay(plain(*counts)), lay(plain(*others))
-        for cut in range(41):
-            yield case(f"{counts}, then {others}, cut at {cut}", plain(*counts), one[:cut] + other[cut:])
+    # Without gaps the areas of a mixed header may share bytes; with 8 bytes between them they do not.
+    for gap in (0, 8):
+        for counts, others in itertools.permutations(((2,), (2, 3), (3, 2), (2, 2, 2)), 2):
+            one, other = [lay(its, packed(its, 40, gap)) for its in (plain(*counts), plain(*others))]
+            for cut in range(41):
+                name = f"{counts}, then {others}, {gap} bytes between areas, cut at {cut}"
+                yield case(name, plain(*counts), one[:cut] + other[cut:])
 
 
 def half_nodes():

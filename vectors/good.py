@@ -1,8 +1,8 @@
-"""Images that load: whole tables, areas in any order, apart and over each other, every kind of finite number."""
+"""Images that load: whole tables, areas in any order and apart, every kind of finite number."""
 
 import itertools
 
-from tables import FOUR, LARGEST, MINUS, PAPER, SMALL, THREE, TWO, Case, Table
+from tables import LARGEST, MINUS, PAPER, SMALL, Case, Table
 from tables import bits_of_all, case, lay, nodes_in, packed, parts, plain, rising, table
 
 LOADS = (0, 0, 0)
@@ -42,16 +42,6 @@ def apart():
             yield case(f"{name}, {more} bytes after", its, lay(its, None, len(lay(its)) + more, 0xFF), LOADS)
 
 
-def overlapping():
-    shared = table([rising(2), rising(3), rising(4)], rising(24))
-    yield case("all areas from one place on", shared, lay(shared, [40, 40, 40, 40]), LOADS)
-    yield case("an axis in the middle of another", shared, lay(shared, [48, 40, 40, 72]), LOADS)
-    yield case("a value that is a node", PAPER, lay(PAPER, [40, 48], 72), LOADS)
-    yield case("both axes within the values", TWO, lay(TWO, [48, 64, 40]), LOADS)
-    yield case("axes over the last value and each other", THREE, lay(THREE, [152, 40, 160, 64]), LOADS)
-    yield case("two axes in one place, twice", FOUR, lay(FOUR, [40, 40, 56, 56, 72]), LOADS)
-
-
 def kinds():
     its = Table(plain(4, 3).axes, KINDS)
     yield case("every kind of value", its, lay(its), LOADS)
@@ -68,5 +58,5 @@ def kinds():
 
 
 def cases():
-    for group in (whole, in_any_order, apart, overlapping, kinds):
+    for group in (whole, in_any_order, apart, kinds):
         yield from group()

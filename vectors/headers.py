@@ -1,6 +1,6 @@
 """Damaged headers: every byte, every field at its limits, every length, every offset."""
 
-from tables import PAPER, SMALL, THREE, TWO, case, changed, lay, parts, plain, restated
+from tables import PAPER, SMALL, THREE, case, changed, lay, packed, parts, plain, restated
 
 BIG = 36_864
 
@@ -51,7 +51,10 @@ def lent_lengths():
     yield case("a header alone", PAPER, restated(image[:40]), (14, 0, 0))
     for lent in (BIG - 1, BIG):
         yield case(f"{lent} bytes", PAPER, lay(PAPER, None, lent), (0, 0, 0))
-    yield case("areas that end the longest image", TWO, lay(TWO, [BIG - 72, BIG - 24, BIG - 72], BIG), (0, 0, 0))
+    for number, part in enumerate(parts(THREE)):
+        starts = packed(THREE)
+        starts[number] = BIG - 8 * len(part)
+        yield case(f"area {number} ends the longest image", THREE, lay(THREE, starts, BIG), (0, 0, 0))
     image = changed(lay(PAPER, None, BIG), 32, 4, BIG - 8)
     yield case("an area that ends past the longest image", PAPER, image, (14, 1, 0))
     yield case(f"{BIG + 1} bytes", PAPER, lay(PAPER, None, BIG + 1), (13, 0, 4))
@@ -120,6 +123,11 @@ def offsets():
             far = [(1 << 32) - less for less in (1, 4, 8, 16, size, size - 8, max(8, size - 40))]
             for offset in (40, 48, last - 8, last):
                 yield case(f"{name}, area {axis} at {offset}", its, changed(image, at, 4, offset))
+            # The same with the other areas out of the way, so that it loads.
+            starts, length = packed(its, 48 + size), 48 + size + len(image)
+            for offset in (40, 48, length - size - 8, length - size):
+                moved = lay(its, starts[:axis] + [offset] + starts[axis + 1 :], length)
+                yield case(f"{name}, area {axis} alone at {offset}", its, moved, (0, 0, 0))
             for offset in early + odd + late + far:
                 yield case(f"{name}, area {axis} at {offset}", its, changed(image, at, 4, offset), (14, axis, 0))
 

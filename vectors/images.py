@@ -5,8 +5,8 @@
     python3 vectors/images.py --check   compares with the files that are there
     python3 vectors/images.py --list    prints what each line of crates/test_damaged/stdout is about
 
-The lines come from loader.py and writer.py, which have document 01's checks and its image; nothing of the crates is read. Python 3 alone
-is needed.
+The lines come from loader.py and writer.py, which have document 01's checks, request C-12 and the image; nothing of the crates is read.
+Python 3 alone is needed.
 
 The list: for each image a head of 24 bytes, six little-endian u32, then the image. The six are the image's length, at most 40,000; how many
 places the output of nodes has, at most 512; how many that of values, at most 4,160; how many nodes and how many values are lent to the
@@ -45,6 +45,7 @@ import drawn
 import good
 import headers
 import orders
+import overlaps
 import writes
 from loader import load, nodes_of, values_of
 from tables import Writing
@@ -122,7 +123,7 @@ def entry_of(case, outcome):
 def all_cases():
     """The cases of all groups with their outcomes; none stands there twice."""
     seen = set()
-    for group in (good, headers, contents, orders, drawn, writes):
+    for group in (good, headers, contents, orders, overlaps, drawn, writes):
         for case in group.cases():
             outcome = outcome_of(case)
             key = (case.image, case.nodes, case.values, lent_of(case, outcome))

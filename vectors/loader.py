@@ -1,8 +1,9 @@
-"""What loading an image must answer: "The image" and "Loading checks" of document 01, row by row in the paper's order.
+"""What loading an image must answer: "The image" and "Loading checks" of document 01, row by row in the paper's order, and request C-12.
 
-Written from the paper alone, over bytes and patterns of bits.
+Written from the papers alone, over bytes and patterns of bits.
 """
 
+import itertools
 import math
 import struct
 from typing import NamedTuple
@@ -86,18 +87,28 @@ def check_rest(image, shape):
     need(word(image, 36, 4) == 0, 13, 0, 36)
 
 
-def area(image, axis, at, count):
-    """Areas (14): the offset is at least 40 and a multiple of 8, and the area ends inside the image."""
-    need(at >= HEADER and at % 8 == 0 and at + 8 * count <= len(image), 14, axis, 0)
-    return [word(image, at + 8 * i, 8) for i in range(count)]
+def area(image, number, at, count):
+    """Areas (14): the offset is at least 40 and a multiple of 8, and the area ends inside the image. Gives its bytes' places."""
+    need(at >= HEADER and at % 8 == 0 and at + 8 * count <= len(image), 14, number, 0)
+    return range(at, at + 8 * count)
 
 
 def areas(image, shape):
-    """The bits of each axis, then of the values, whose area is told by the number of axes."""
-    axes = []
-    for axis in range(shape.axes):
-        axes.append(area(image, axis, word(image, 16 + 4 * axis, 4), shape.counts[axis]))
-    return axes, area(image, shape.axes, word(image, 32, 4), values_of(shape))
+    """The area of each axis, then of the values, which is told by the number of axes."""
+    starts = [word(image, 16 + 4 * axis, 4) for axis in range(shape.axes)] + [word(image, 32, 4)]
+    counts = [*shape.counts[: shape.axes], values_of(shape)]
+    return [area(image, number, *its) for number, its in enumerate(zip(starts, counts))]
+
+
+def check_shared(its_areas):
+    """C-12 (18): no two areas share a byte; the lowest pair first, values counted last."""
+    places = [set(its_places) for its_places in its_areas]
+    for one, other in itertools.combinations(range(len(places)), 2):
+        need(places[one].isdisjoint(places[other]), 18, one, other)
+
+
+def bits_in(image, places):
+    return [word(image, at, 8) for at in places[::8]]
 
 
 def check_rooms(shape, node_room, value_room):
@@ -127,8 +138,10 @@ def judged(image, node_room, value_room):
     shape = Shape(image[1], struct.unpack_from("<4H", image, 8))
     check_counts(shape)
     check_rest(image, shape)
-    axes, values = areas(image, shape)
+    its_areas = areas(image, shape)
+    check_shared(its_areas)
     check_rooms(shape, node_room, value_room)
+    *axes, values = [bits_in(image, places) for places in its_areas]
     for axis, nodes in enumerate(axes):
         check_axis(axis, nodes)
     check_values(values)

@@ -32,6 +32,17 @@ def field(told, at, width, number):
     return Fault(told, lambda c: c._replace(image=changed(c.image, at, width, number)))
 
 
+def shared(areas, starts):
+    """Two of the four areas of a table of three axes, and where each starts; the values are area 3."""
+
+    def damage(c):
+        for area, start in zip(areas, starts):
+            c = c._replace(image=changed(c.image, 32 if area == 3 else 16 + 4 * area, 4, start))
+        return c
+
+    return Fault((18, *areas), damage)
+
+
 def node(told, place, bits):
     """A node of the three axes' flat nodes, and the one before it where bits has two."""
     at = 40 + 8 * (place + 1 - len(bits))
@@ -60,6 +71,12 @@ FAULTS = [
     field((14, 1, 0), 20, 4, 60),
     field((14, 2, 0), 24, 4, 184),
     field((14, 3, 0), 32, 4, 104),
+    shared((0, 1), (40, 48)),
+    shared((0, 2), (40, 40)),
+    shared((0, 3), (176, 96)),
+    shared((1, 2), (72, 80)),
+    shared((1, 3), (96, 96)),
+    shared((2, 3), (160, 96)),
     Fault((15, 0, 0), lambda c: c._replace(nodes=6)),
     Fault((15, 0, 1), lambda c: c._replace(values=11)),
     node((4, 0, 0), 0, [NAN]),

@@ -1,7 +1,7 @@
 """What a record must be answered: the axis rules, the table rules and the input of the program, of document 01, in plain Python, whose
 floats are binary64.
 
-Slow, and written from the paper alone. The loading checks are loader.py's.
+Slow, and written from the paper alone. The loading checks are loader.py's, with request C-12.
 """
 
 import math

@@ -5,9 +5,10 @@ import struct
 from typing import NamedTuple
 
 from contents import NANS, NOT_FINITE
-from good import apart, in_any_order, overlapping
+from good import apart, in_any_order
 from loader import MOST_BYTES, number_of
 from orders import FAULTS
+from overlaps import over_each_other, touching
 from tables import FOUR, PAPER, SMALL, THREE, TWO, Case
 from tables import bits_of_all, changed, lay, plain, restated, rising, table
 
@@ -294,20 +295,22 @@ def many_records():
 # Images
 
 
+def on_first_nodes(image):
+    """Records at the first nodes, which lie where the header says; the first cell is theirs."""
+    firsts = [int.from_bytes(image[16 + 4 * axis : 20 + 4 * axis], "little") for axis in range(image[1])]
+    bits = [int.from_bytes(image[first : first + 8], "little") for first in firsts]
+    return b"".join(record(kind, *bits) for kind in SEARCHED)
+
+
 def good_images():
     old, new = rising(8, 10.0, 10.0), rising(8, -35.0, 10.0)
     its = table([new[:4] + old[4:]], rising(8))
     readings = (-20.0, 55.0, 22.5, -35.0, -5.0, 50.0, 80.0, 81.0)
     records = [at(kind, p) for kind in (0, 1) for p in readings]
     yield run("a mixed table in good form", its, records, *cells(0, [1, 1, 1, 2, 1, 0, 1]), "no 8 8", "no 11 1")
-    for case in [*list(in_any_order())[::25], *list(apart())[::7], *overlapping()]:
-        axes = case.image[1]
-        # The first nodes lie where the header says, the first cell is theirs.
-        firsts = [int.from_bytes(case.image[16 + 4 * axis : 20 + 4 * axis], "little") for axis in range(axes)]
-        bits = [int.from_bytes(case.image[first : first + 8], "little") for first in firsts]
-        wanted = [f"cell {axis} 0 4" for axis in range(axes)]
-        records = b"".join(record(kind, *bits) for kind in SEARCHED)
-        yield Run(case.name, case.image + records, tuple(wanted))
+    for case in [*list(in_any_order())[::25], *list(apart())[::7], *list(touching())[::11]]:
+        wanted = [f"cell {axis} 0 4" for axis in range(case.image[1])]
+        yield Run(case.name, case.image + on_first_nodes(case.image), tuple(wanted))
     its = lay(PAPER, None, MOST_BYTES) + at(0, 0.5) + at(1, 2.0) + at(2, -0.5)
     yield Run("the longest image", its, ("cell 0 0 2", "no 11 1"))
 
@@ -341,6 +344,8 @@ def refused_images():
             stays = len(image) == len(lay(THREE)) and fault.told != (13, 0, 4)
             records = at(0, *first_cells(THREE)) * 3 if stays else b""
             yield Run("refused {} {} {}".format(*fault.told), image + records, ("no {} {} {}".format(*fault.told),))
+    for case in over_each_other():
+        yield Run(case.name, case.image + on_first_nodes(case.image), ("no {} {} {}".format(*case.wanted),))
     yield run("a value not finite", table([[0.0, 2.0]], [10.0, math.inf]), [at(0, 0.5)], "no 7 0 1")
     yield run("an axis that falls", table([[10.0, 20.0, 30.0, 40.0, 5.0]], rising(5)), [at(0, 12.0)], "no 5 0 4")
 

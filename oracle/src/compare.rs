@@ -30,9 +30,9 @@ fn row_name(row: usize) -> &'static str {
 }
 
 /// The first word of a line, and the number of a refusal.
-const OUTCOMES: [&str; 17] = [
+const OUTCOMES: [&str; 19] = [
     "ok", "no 1", "no 2", "no 3", "no 4", "no 5", "no 6", "no 7", "no 8", "no 9", "no 10", "no 11",
-    "no 12", "no 13", "no 14", "no 15", "no 16",
+    "no 12", "no 13", "no 14", "no 15", "no 16", "no 17", "no 18",
 ];
 
 fn outcome(line: &str) -> &'static str {

@@ -1,5 +1,6 @@
-//! Tries the two linears, the slices and the whole run of document 01 on cases worked by
-//! hand, and whether a lookup in a slice is a lookup in the whole table.
+//! Tries the two linears, the slices, the whole run of document 01 and the image of request
+//! C-12 on cases worked by hand, and whether a lookup in a slice is a lookup in the whole
+//! table.
 
 use crate::lookups::{ask, data, not_uniform};
 use crate::program;
@@ -169,12 +170,12 @@ fn every_corner() -> Result<(), String> {
     Ok(())
 }
 
-/// Document 01's input, field by field, and its output.
-fn whole_run() -> Result<(), String> {
+/// Document 01's input, field by field, with its values at a byte.
+fn paper_input(values: u8) -> Vec<u8> {
     let mut input = vec![1, 1, 0, 0, 72, 0, 0, 0];
     input.extend([2, 0, 0, 0, 0, 0, 0, 0]);
     input.extend([40, 0, 0, 0, 0, 0, 0, 0, 0, 0, 0, 0, 0, 0, 0, 0]);
-    input.extend([56, 0, 0, 0, 0, 0, 0, 0]);
+    input.extend([values, 0, 0, 0, 0, 0, 0, 0]);
     for number in [0.0f64, 2.0, 10.0, 20.0] {
         input.extend(number.to_le_bytes());
     }
@@ -182,11 +183,22 @@ fn whole_run() -> Result<(), String> {
         input.push(kind);
         input.extend(reading.to_le_bytes());
     }
-    let lines = program::lines(&input);
-    match lines.as_str() {
-        "ok 4029000000000000\nok 4034000000000000\nno 11 0 1\n" => Ok(()),
-        _ => Err(format!("the whole run: {lines:?}")),
+    input
+}
+
+/// Its output; and request C-12's image, whose values begin on the last node.
+fn whole_run() -> Result<(), String> {
+    let wanted = [
+        (56, "ok 4029000000000000\nok 4034000000000000\nno 11 0 1\n"),
+        (48, "no 18 0 1\n"),
+    ];
+    for (values, wanted) in wanted {
+        let lines = program::lines(&paper_input(values));
+        if lines != wanted {
+            return Err(format!("the whole run, values at {values}: {lines:?}"));
+        }
     }
+    Ok(())
 }
 
 pub fn run() -> Result<(), String> {

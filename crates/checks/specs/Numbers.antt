@@ -1,7 +1,7 @@
 -- "Numbers the technician sees": the table of numbers, row by row in its order. Each row gives its fault exactly where its condition is met.
-use mathlib.Core.Bool.{false, not, _&&_, _||_, cond}
+use mathlib.Core.Bool.{Bool, false, not, _&&_, _||_, cond}
 use mathlib.Core.List.{List, []}
-use Prim.Native.Nat.{ℕ, _+_, _-_, _*_, _%_}
+use Prim.Native.Nat.{ℕ, _+_, _-_, _*_, _%_, min, max}
 use lib.Dec.{leb, ltb, eqb}
 use lib.IntN.{negsuc}
 use lib.ListN.{length, getD}
@@ -166,3 +166,12 @@ mostRecords = 1000000
 
 unfoldable pub limitFault : ℕ → Fault
 limitFault read = when (leb mostRecords read) (refusal 17 0 0)
+
+-- ---- 18, of request C-12: "No two of the axis and value areas may share a byte."
+-- two areas, each of so many bytes from its offset on, share a byte: the later of them begins before the first of their ends
+unfoldable pub sharing : ℕ → ℕ → ℕ → ℕ → Bool
+sharing at long at′ long′ = ltb (max at at′) (min (at + long) (at′ + long′))
+
+-- "axis and place the numbers of the two areas"
+unfoldable pub sharedFault : ℕ → ℕ → ℕ → ℕ → ℕ → ℕ → Fault
+sharedFault i j at long at′ long′ = when (sharing at long at′ long′) (refusal 18 i j)

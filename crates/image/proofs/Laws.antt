@@ -12,38 +12,34 @@ use Rattle.layout.specs.declared.Shape.{Shape}
 use Rattle.checks.proofs.shapes.Frames.{shape-four}
 use Rattle.image.specs.Image.{nodesIn, valuesIn}
 use Rattle.image.specs.Fields.{shapeOf}
-use Rattle.image.specs.Load.{areasFault, roomsFault, contentsFault, loadFault, loadAnswer}
+use Rattle.image.specs.Load.{areasFault, pairsFault, roomsFault, contentsFault, loadFault, loadAnswer, Loadable}
 use Rattle.image.specs.Head.{headFault}
 use Rattle.image.specs.Scaffolding.{ShapeJudged}
 use Rattle.image.proofs.Heads.{head-shape}
-
--- every condition of the paper, in its order
-pub record Loadable (img : List ℕ) (nodes values : ℕ) : Type 0 where
-  pub head : good (headFault img) ≡ true
-  pub areas : good (areasFault img) ≡ true
-  pub rooms : good (roomsFault (shapeOf img) nodes values) ≡ true
-  pub axes : good (axesFault (countsOf (shapeOf img)) (nodesIn img)) ≡ true
-  pub stored : good (valuesFault (valuesIn img)) ≡ true
 
 module _ (img : List ℕ) (nodes values : ℕ) where
   pub load-accepts : Loadable img nodes values → good (loadFault img nodes values) ≡ true
   unfolding loadFault contentsFault
   load-accepts l =
       orders.both-passed (headFault img) _ (l .head)
-      (orders.both-passed (areasFault img) _ (l .areas) (orders.both-passed (roomsFault (shapeOf img) nodes values) _ (l .rooms) (orders.both-passed (axesFault (countsOf (shapeOf img)) (nodesIn img)) (valuesFault (valuesIn img)) (l .axes) (l .stored))))
+      (orders.both-passed (areasFault img) _ (l .areas)
+      (orders.both-passed (pairsFault img) _ (l .pairs)
+      (orders.both-passed (roomsFault (shapeOf img) nodes values) _ (l .rooms) (orders.both-passed (axesFault (countsOf (shapeOf img)) (nodesIn img)) (valuesFault (valuesIn img)) (l .axes) (l .stored)))))
 
   pub load-means : good (loadFault img nodes values) ≡ true → Loadable img nodes values
   unfolding loadFault contentsFault
   load-means h =
       let h1 = orders.second-passed (headFault img) _ h in
       let h2 = orders.second-passed (areasFault img) _ h1 in
-      let h3 = orders.second-passed (roomsFault (shapeOf img) nodes values) (contentsFault img) h2 in
+      let h3 = orders.second-passed (pairsFault img) _ h2 in
+      let h4 = orders.second-passed (roomsFault (shapeOf img) nodes values) (contentsFault img) h3 in
       record {
         head = orders.first-passed (headFault img) _ h;
         areas = orders.first-passed (areasFault img) _ h1;
-        rooms = orders.first-passed (roomsFault (shapeOf img) nodes values) (contentsFault img) h2;
-        axes = orders.first-passed (axesFault (countsOf (shapeOf img)) (nodesIn img)) (valuesFault (valuesIn img)) h3;
-        stored = orders.second-passed (axesFault (countsOf (shapeOf img)) (nodesIn img)) (valuesFault (valuesIn img)) h3;
+        pairs = orders.first-passed (pairsFault img) _ h2;
+        rooms = orders.first-passed (roomsFault (shapeOf img) nodes values) (contentsFault img) h3;
+        axes = orders.first-passed (axesFault (countsOf (shapeOf img)) (nodesIn img)) (valuesFault (valuesIn img)) h4;
+        stored = orders.second-passed (axesFault (countsOf (shapeOf img)) (nodesIn img)) (valuesFault (valuesIn img)) h4;
       }
 
   -- a loaded table's shape is a good one

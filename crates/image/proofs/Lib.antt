@@ -1,8 +1,12 @@
 pub mod Tests
 pub mod Heads
+pub mod Sharing
+pub mod Pairs
+pub mod Listed
 pub mod Floats
 pub mod Loads
 pub mod Laws
+pub mod Fewer
 pub mod Refusals
 pub mod Examples
 pub mod Fronts

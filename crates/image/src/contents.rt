@@ -1,13 +1,28 @@
-// What lies in the areas: read, and judged before anything lent is written.
+// What lies in the areas: the room that is lent for it; read, and judged before anything lent is written.
 ghost use mathlib.Core.Path.{_≡_};
 ghost use lib.ListN.{length};
 ghost use lib.Seq.{sets};
 ghost use Rattle.image.specs.Image.{floatsAt, nodesIn};
-ghost use Rattle.image.specs.Load.{contentsFault};
+ghost use Rattle.image.specs.Fields.{shapeOf};
+ghost use Rattle.image.specs.Load.{roomsFault, contentsFault};
 ghost use Rattle.image.specs.Scaffolding.{ShapeJudged, AreaRoom, NodesRoom, Rooms, OutputsFilled};
 use crate::fields;
 use answer::Fault;
+use checks::lent;
 use orders::stages;
+
+// 15: an output that is too short.
+pub(crate) fn rooms_fault(img: &[u8], nodes: usize, values: usize) -> Fault
+    requires { ⌜ ShapeJudged (now img) ⌝ }
+    ensures { λ r. ⌜ r ≡ roomsFault (shapeOf (now (img .entry))) nodes values ⌝ }
+{
+    let held = fields::sizes_of(img);
+    let fault = lent::room_fault(0, held.nodes, nodes);
+    if fault.number != 0 {
+        return fault;
+    }
+    lent::room_fault(1, held.values, values)
+}
 
 // Reads so many floats into a part of an output.
 fn read_floats(img: &[u8], at: usize, out: &mut [f64], to: usize, count: usize)

@@ -1,11 +1,11 @@
-// The table image: a header of counts and offsets, then nodes and values as f64 bits, anywhere after it.
+// The table image: a header of counts and offsets, then nodes and values as f64 bits, anywhere after it, no byte in two areas.
 ghost use mathlib.Core.Path.{_≡_};
 ghost use Rattle.image.specs.Load.{loadFault, Loaded};
 ghost use Rattle.image.specs.Scaffolding.{refusedLoad};
 
-// where the areas lie, and the room that is lent for them
+// where the areas lie
 pub(crate) mod areas;
-// what lies in the areas: read, and judged
+// what lies in the areas: the room for it; read, and judged
 pub(crate) mod contents;
 // the numbers that the header says
 pub(crate) mod fields;
@@ -39,11 +39,16 @@ fn load_fault(img: &[u8], nodes: usize, values: usize) -> Fault
     if fault.number != 0 {
         return fault;
     }
-    let fault = areas::areas_fault(img);
+    let areas = areas::areas_of(img);
+    let fault = areas::areas_fault(img.len(), areas);
     if fault.number != 0 {
         return fault;
     }
-    let fault = areas::rooms_fault(img, nodes, values);
+    let fault = areas::pairs_fault(areas);
+    if fault.number != 0 {
+        return fault;
+    }
+    let fault = contents::rooms_fault(img, nodes, values);
     if fault.number != 0 {
         return fault;
     }

@@ -1,11 +1,10 @@
-// 13 and 14: the rows that judge a number of the header, and those that go over the axes.
+// 13: the rows that judge a number of the header, and those that go over the axes.
 ghost use mathlib.Core.Path.{_≡_};
-ghost use Prim.Native.Nat.{_-_, _<_, _≤_};
+ghost use Prim.Native.Nat.{_-_, _≤_};
 ghost use Rattle.answer.specs.Faults.{firstOf};
-ghost use Rattle.checks.specs.Numbers.{fieldFault, shortFault, statedFault, areaFault};
+ghost use Rattle.checks.specs.Numbers.{fieldFault, shortFault, statedFault};
 ghost use Rattle.image.specs.Head.{countRow, offsetRow};
-ghost use Rattle.image.specs.Load.{areaRow};
-ghost use Rattle.image.specs.Scaffolding.{Area, rowOf};
+ghost use Rattle.image.specs.Scaffolding.{rowOf};
 use crate::fields;
 use answer::Fault;
 use checks::counts;
@@ -49,24 +48,6 @@ pub(crate) fn stated_fault(stated: usize, len: usize) -> Fault
     }
 }
 
-// 14: an area that starts in the header or off a multiple of 8, or ends outside.
-pub(crate) fn area_fault(len: usize, axis: usize, offset: usize, n: usize) -> Fault
-    requires { ⌜ Area offset n ⌝ }
-    ensures { λ r. ⌜ r ≡ areaFault len axis offset n ⌝ }
-{
-    if offset < crate::HEADER {
-        return answer::refusal(14, axis, 0);
-    }
-    if offset % 8 != 0 {
-        return answer::refusal(14, axis, 0);
-    }
-    if offset + 8 * n > len {
-        answer::refusal(14, axis, 0)
-    } else {
-        answer::no_fault()
-    }
-}
-
 // 2 of a count that is used, 13 of one that is not.
 fn count_row(img: &[u8], a: usize) -> Fault
     requires { ⌜ a ≤ 4 ⌝ }
@@ -88,24 +69,10 @@ fn offset_row(img: &[u8], a: usize) -> Fault
     field_fault(16 + 4 * a, 0, fields::offset_of(img, a))
 }
 
-// 14 of the area of an axis.
-fn area_row(img: &[u8], a: usize) -> Fault
-    requires { ⌜ a ≤ 4 ⌝ }
-    ensures { λ r. ⌜ r ≡ areaRow (now (img .entry)) a ⌝ }
-{
-    area_fault(
-        img.len(),
-        a,
-        fields::offset_of(img, a),
-        fields::count_of(img, a),
-    )
-}
-
 // What is asked axis by axis.
 pub(crate) enum Rows {
     Counts,
     Offsets,
-    Areas,
 }
 
 // The row of one axis.
@@ -116,7 +83,6 @@ fn row_fault(rows: Rows, img: &[u8], a: usize) -> Fault
     match rows {
         Rows::Counts => count_row(img, a),
         Rows::Offsets => offset_row(img, a),
-        Rows::Areas => area_row(img, a),
     }
 }
 

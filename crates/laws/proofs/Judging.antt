@@ -256,21 +256,35 @@ module _ (img : List ℕ) (ns vs : List Float) where
   load-given g = ap₂ (λ (a : Answer) (s : Shape). record { answer = a; shape = s }) (then-good fault fine g) (shape-given g)
 
   -- the table that stands at the fronts of the outputs
-  pub load-judged : (t : Table) → load img ns vs .0 .answer .number ≡ 0 → Loaded (load img ns vs) t → Accepted t
-  unfolding loadAnswer
-  load-judged t h l = accepted t (subst (λ (s : Shape). passed.Accepted s (t .nodes .list) (t .values .list)) (sym shape) (subst (λ (xs : List Float). passed.Accepted (shapeOf img) xs (t .values .list)) (sym nodes) (subst (λ (xs : List Float). passed.Accepted (shapeOf img) (nodesIn img) xs) (sym values) (whole g))))
-    where
-      g : good fault ≡ true
-      g = then-number fault fine h
+  module _ (t : Table) (h : load img ns vs .0 .answer .number ≡ 0) (l : Loaded (load img ns vs) t) where
+    pub loaded-good : good fault ≡ true
+    unfolding loadAnswer
+    loaded-good = then-number fault fine h
 
-      shape : t .shape ≡ shapeOf img
-      shape = l .shape ∙ shape-given g
+    pub loaded-shape-is : t .shape ≡ shapeOf img
+    unfolding loadAnswer
+    loaded-shape-is = l .shape ∙ shape-given loaded-good
 
-      nodes : t .nodes .list ≡ nodesIn img
-      nodes = l .nodes ∙ ap (λ (m : ℕ). take m (filledInto fault (nodesIn img) ns)) (ap (λ (s : Shape). total (countsOf s)) (l .shape) ∙ sym (node-count g)) ∙ given-front fault (nodesIn img) ns g
+    pub loaded-nodes-are : t .nodes .list ≡ nodesIn img
+    unfolding loadAnswer
+    loaded-nodes-are =
+        l .nodes
+        ∙ ap (λ (m : ℕ). take m (filledInto fault (nodesIn img) ns)) (ap (λ (s : Shape). total (countsOf s)) (l .shape) ∙ sym (node-count loaded-good))
+        ∙ given-front fault (nodesIn img) ns loaded-good
 
-      values : t .values .list ≡ valuesIn img
-      values = l .values ∙ ap (λ (m : ℕ). take m (filledInto fault (valuesIn img) vs)) (ap (λ (s : Shape). size (countsOf s)) (l .shape) ∙ sym (value-count g)) ∙ given-front fault (valuesIn img) vs g
+    pub loaded-values-are : t .values .list ≡ valuesIn img
+    unfolding loadAnswer
+    loaded-values-are =
+        l .values
+        ∙ ap (λ (m : ℕ). take m (filledInto fault (valuesIn img) vs)) (ap (λ (s : Shape). size (countsOf s)) (l .shape) ∙ sym (value-count loaded-good))
+        ∙ given-front fault (valuesIn img) vs loaded-good
+
+    pub load-judged : Accepted t
+    load-judged =
+        accepted t
+        (subst (λ (s : Shape). passed.Accepted s (t .nodes .list) (t .values .list)) (sym loaded-shape-is)
+        (subst (λ (xs : List Float). passed.Accepted (shapeOf img) xs (t .values .list)) (sym loaded-nodes-are)
+        (subst (λ (xs : List Float). passed.Accepted (shapeOf img) (nodesIn img) xs) (sym loaded-values-are) (whole loaded-good))))
 
 module _ (t : Table) (out : List ℕ) where
   abbrev writing : Fault

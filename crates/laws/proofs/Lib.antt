@@ -16,3 +16,4 @@ pub mod Square
 pub mod Commuting
 pub mod Promises
 pub mod Counting
+pub mod Areas

@@ -3,3 +3,4 @@ pub mod Primitives
 pub mod Calls
 pub mod Promises
 pub mod Counting
+pub mod Areas

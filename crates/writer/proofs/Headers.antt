@@ -63,6 +63,11 @@ module _ (s : Shape) where
     few : length (countsOf s) ≤ 4
     few = omega (arith, length-take (s .axes) (s .counts), shape-four s h)
 
+    -- past the last axis are the values
+    pub values-from : axisAt s (s .axes) ≡ valuesAt s
+    unfolding axisAt valuesAt
+    values-from = ap (λ (l : List ℕ). 40 + 8 * total l) (take-all (s .axes) (countsOf s) (omega (arith, length-take (s .axes) (s .counts))))
+
     pub values-after : axisAt s 4 ≡ valuesAt s
     unfolding axisAt valuesAt
     values-after = ap (λ (l : List ℕ). 40 + 8 * total l) (take-all 4 (countsOf s) few)

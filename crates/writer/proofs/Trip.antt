@@ -1,8 +1,10 @@
 -- "Writing and loading returns the table; loading and writing gives an image that loads the same." Assumes nothing.
-use mathlib.Core.Path.{_≡_, refl, sym, ap, ap₂, _∙_, subst}
+use mathlib.Core.Path.{_≡_, refl, sym, ap, ap₂, _∙_}
 use mathlib.Core.Bool.{Bool, true, false}
 use mathlib.Core.List.{List, _++_}
+use mathlib.Core.Logic.{_⊎_, inl, inr}
 use Prim.Native.Nat.{ℕ, zero, suc, _+_, _-_, _*_, _%_, _≤_, _<_}
+use native.Mathlib.Nat.{eq-or-lt-of-le}
 use native.Mathlib.Omega.{arith}
 use borrow.Author.Tests.{ltb-true, ltb-false, le-ltb}
 use lib.Dec.{ltb}
@@ -21,23 +23,26 @@ use Rattle.checks.proofs.lent.Rows.{room-enough, length-same}
 use Rattle.layout.specs.Shape.{countsOf, size, total, noShape}
 use Rattle.layout.specs.Layout.{tabulate}
 use Rattle.checks.specs.Shapes.{shapeFault, frameFault}
-use Rattle.checks.specs.Numbers.{productFault, axesCountFault, lengthFault, roomFault, axesFault, valueFault, valuesFault, areaFault, fieldFault, shortFault}
+use Rattle.checks.specs.Numbers.{productFault, axesCountFault, lengthFault, roomFault, axesFault, valueFault, valuesFault, fieldFault, shortFault}
 use Rattle.layout.specs.declared.Shape.{Shape}
 use Rattle.layout.proofs.Layouts.{getD-tabulate, tabulate-same}
 use Rattle.checks.proofs.shapes.Frames.{shape-some, shape-four, shape-enough, shape-few, shape-size}
 use Rattle.bytes.specs.Words.{wordAt}
 use Rattle.image.specs.Image.{floatsAt, nodesFrom, nodesIn, valuesIn}
-use Rattle.image.specs.Fields.{axesField, countField, offsetField, valuesField, shapeOf}
-use Rattle.image.specs.Load.{areasFault, roomsFault, contentsFault, loadFault, loadAnswer}
+use Rattle.image.specs.Fields.{axesField, countField, offsetField, valuesField, shapeOf, areaOf}
+use Rattle.image.specs.Shared.{areaEnd, InTurn}
+use Rattle.image.specs.Load.{areaRow, areasFault, pairsFault, roomsFault, contentsFault, loadFault, loadAnswer, Loadable}
 use Rattle.image.specs.Head.{startFault, countRow, offsetRow, headFault}
 use Rattle.image.proofs.Floats.{nodes-total, values-size}
 use Rattle.image.proofs.Heads.{unused-zero}
-use Rattle.image.proofs.Laws.{Loadable, load-means, loaded-shape}
+use Rattle.image.proofs.Sharing.{axis-begins, axis-holds, values-begin, values-hold}
+use Rattle.image.proofs.Pairs.{pairs-none, turns-apart}
+use Rattle.image.proofs.Laws.{load-means, loaded-shape}
 use Rattle.image.proofs.Tests.{field-right, short-right, stated-right, area-right, count-used, count-unused}
 use Rattle.writer.specs.Made.{axisAt, imageLength, countIn, imageOf}
 use Rattle.writer.specs.Write.{writeFault, writeAnswer, plain}
 use Rattle.writer.specs.Scaffolding.{Framed}
-use Rattle.writer.proofs.Headers.{first-at, next-at, axis-after, at-before, values-after, values-end, values-before, length-small, count-in}
+use Rattle.writer.proofs.Headers.{first-at, next-at, axis-after, at-before, values-from, values-end, values-before, length-small, count-in}
 use Rattle.writer.proofs.Images.{length-image}
 use Rattle.writer.proofs.Laws.{write-means}
 use Rattle.writer.proofs.Writes.{written-frame}
@@ -112,35 +117,61 @@ module _ (s : Shape) (four : length (s .counts) ≡ 4) (nodes values : List Floa
       (orders.both-passed (firstOf (offsetRow img) (axesField img) (4 - axesField img)) _ offsets
       (orders.passed-no-fault _ (field-right 36 0 (wordAt 4 img 36) (made.end-back s four nodes values w))))))
 
-  abbrev axis : ℕ → Fault
-  axis a = areaFault (length img) a (offsetField img a) (countField img a)
+  -- the areas lie one after the other: each begins where the one before it ends
+  area-from : (k : ℕ) → k ≤ s .axes → areaOf img k .at ≡ axisAt s k
+  area-from k l = go (eq-or-lt-of-le l)
+    where
+      go : (k ≡ s .axes) ⊎ (k < s .axes) → areaOf img k .at ≡ axisAt s k
+      go (inl e) =
+          values-begin img k (omega (arith, axes-is, e))
+          ∙ made.values-field s four nodes values w
+          ∙ sym (values-from s (w .judged))
+          ∙ ap (axisAt s) (sym e)
+      go (inr m) = axis-begins img k (omega (arith, axes-is, m)) ∙ made.used-back s four nodes values w k m
+
+  area-ends : (k : ℕ) → k < s .axes → areaEnd img k ≡ axisAt s (suc k)
+  area-ends k l =
+      let n : areaOf img k .floats ≡ getD (countsOf s) k 0 =
+      axis-holds img k (omega (arith, axes-is, l))
+      ∙ made.count-back s four nodes values w k (omega (arith, l, shape-four s (w .judged)))
+      ∙ made.count-some s four nodes values w k in
+      ap (λ (x : ℕ). areaOf img k .at + 8 * x) n ∙ next-at s k (getD (countsOf s) k 0) (areaOf img k .at) refl (area-from k (omega arith))
+
+  values-area-ends : areaEnd img (s .axes) ≡ imageLength s
+  values-area-ends =
+      let n : areaOf img (s .axes) .floats ≡ size (countsOf s) = values-hold img (s .axes) (omega (arith, axes-is)) ∙ ap size same in
+      omega (arith, n, area-from (s .axes) (omega arith), values-from s (w .judged), values-end s)
 
   pub made-areas : good (areasFault img) ≡ true
   unfolding areasFault
-  made-areas = orders.both-passed (firstOf axis 0 (axesField img)) _ (ap good (orders.none-good axis 0 (axesField img) each) ∙ orders.good-no-fault) stored
+  made-areas = ap good (orders.none-good (areaRow img) 0 (axesField img + 1) (λ k l m. each k (omega (arith, axes-is, m)))) ∙ orders.good-no-fault
     where
-      each : (a : ℕ) → 0 ≤ a → a < 0 + axesField img → good (axis a) ≡ true
-      each a k m =
-          let l : a < s .axes = omega (arith, axes-is, m) in
-          let o = made.used-back s four nodes values w a l in
-          let c : countField img a ≡ getD (countsOf s) a 0 = made.count-back s four nodes values w a (omega (arith, l, shape-four s (w .judged))) ∙ made.count-some s four nodes values w a in
-          let up = next-at s a (getD (countsOf s) a 0) (axisAt s a) refl refl in
-          orders.passed-no-fault _ (area-right (length img) a (offsetField img a) (countField img a) (omega (arith, o, axis-after s a .0)) (ap (λ (j : ℕ). j % 8) o ∙ axis-after s a .1) (omega (arith, o, c, up, long, at-before s (suc a), values-before s)))
+      inside : (k : ℕ) → (k ≡ s .axes) ⊎ (k < s .axes) → areaEnd img k ≤ length img
+      inside k (inl e) = omega (arith, ap (areaEnd img) e, values-area-ends, long)
+      inside k (inr l) = omega (arith, area-ends k l, at-before s (suc k), values-before s, long)
 
-      stored : good (areaFault (length img) (axesField img) (valuesField img) (size (countsOf (shapeOf img)))) ≡ true
-      stored =
-          let o = made.values-field s four nodes values w in
-          let n = ap size same in
-          let v = subst (λ (k : ℕ). (40 ≤ k) × (k % 8 ≡ 0)) (values-after s (w .judged)) (axis-after s 4) in
-          orders.passed-no-fault _ (area-right (length img) (axesField img) (valuesField img) (size (countsOf (shapeOf img))) (omega (arith, o, v .0)) (ap (λ (j : ℕ). j % 8) o ∙ v .1) (omega (arith, o, n, values-end s, long)))
+      each : (k : ℕ) → k ≤ s .axes → good (areaRow img k) ≡ true
+      each k l =
+          let o = area-from k l in
+          orders.passed-no-fault _ (area-right (length img) k (areaOf img k .at) (areaOf img k .floats) (omega (arith, o, axis-after s k .0)) (ap (λ (j : ℕ). j % 8) o ∙ axis-after s k .1) (inside k (eq-or-lt-of-le l)))
+
+  pub made-turns : InTurn img
+  made-turns = record {
+    turn = λ t. t;
+    each = λ i l. (i, (l, refl));
+    after = λ t l. omega (arith, area-ends t (omega (arith, axes-is, l)), area-from (suc t) (omega (arith, axes-is, l)));
+  }
+
+  pub made-pairs : good (pairsFault img) ≡ true
+  made-pairs = ap good (pairs-none img (turns-apart img made-turns)) ∙ orders.good-no-fault
 
 -- ---- writing, then loading
 
--- an image whose header and areas pass answers by its shape, its nodes and its values alone
-judged : (img : List ℕ) (n v : ℕ) → good (headFault img) ≡ true → good (areasFault img) ≡ true
+-- an image whose header passes, each area alone and each two of them, answers by its shape, its nodes and its values alone
+judged : (img : List ℕ) (n v : ℕ) → good (headFault img) ≡ true → good (areasFault img) ≡ true → good (pairsFault img) ≡ true
     → loadFault img n v ≡ (roomsFault (shapeOf img) n v or axesFault (countsOf (shapeOf img)) (nodesIn img) or valuesFault (valuesIn img))
 unfolding loadFault contentsFault
-judged img n v g k = orders.or-good (headFault img) _ g ∙ orders.or-good (areasFault img) _ k
+judged img n v g k p = orders.or-good (headFault img) _ g ∙ orders.or-good (areasFault img) _ k ∙ orders.or-good (pairsFault img) _ p
 
 stored-fine : (values : List Float) → good (valuesFault values) ≡ true → valuesFault values ≡ noFault
 unfolding valuesFault
@@ -193,7 +224,7 @@ module _ (s : Shape) (four : length (s .counts) ≡ 4) (nodes values : List Floa
   pub written-judged : (n v : ℕ) → loadFault image n v ≡ roomsFault (plain s) n v
   written-judged n v =
       ap (λ (l : List ℕ). loadFault l n v) image-is
-      ∙ judged (imageOf s nodes values) n v (made-head s four nodes values w) (made-areas s four nodes values w)
+      ∙ judged (imageOf s nodes values) n v (made-head s four nodes values w) (made-areas s four nodes values w) (made-pairs s four nodes values w)
       ∙ ap (λ (t : Shape). roomsFault t n v or axesFault (countsOf t) (nodesIn (imageOf s nodes values)) or valuesFault (valuesIn (imageOf s nodes values))) (made.shape-back s four nodes values w)
       ∙ ap (λ (t : Fault). roomsFault (plain s) n v or t) contents
       ∙ right
@@ -294,11 +325,11 @@ module _ (img : List ℕ) (n v : ℕ) (g : good (loadFault img n v) ≡ true) wh
     pub again-values : valuesIn again ≡ valuesIn img
     again-values = written-values-back (shapeOf img) four (nodesIn img) (valuesIn img) loaded-held loaded-kept out loaded-writes
 
-    again-fault : (n′ v′ : ℕ) → loadFault again n′ v′ ≡ loadFault img n′ v′
+    pub again-fault : (n′ v′ : ℕ) → loadFault again n′ v′ ≡ loadFault img n′ v′
     again-fault n′ v′ =
         written-judged (shapeOf img) four (nodesIn img) (valuesIn img) loaded-held loaded-kept out loaded-writes n′ v′
         ∙ ap (λ (t : Shape). roomsFault t n′ v′) loaded-plain
-        ∙ sym (judged img n′ v′ (l .head) (l .areas) ∙ ap (λ (t : Fault). roomsFault (shapeOf img) n′ v′ or t) contents ∙ rooms-or (shapeOf img) n′ v′)
+        ∙ sym (judged img n′ v′ (l .head) (l .areas) (l .pairs) ∙ ap (λ (t : Fault). roomsFault (shapeOf img) n′ v′ or t) contents ∙ rooms-or (shapeOf img) n′ v′)
       where
         contents : (axesFault (countsOf (shapeOf img)) (nodesIn img) or valuesFault (valuesIn img)) ≡ noFault
         contents = orders.or-good (axesFault (countsOf (shapeOf img)) (nodesIn img)) _ (l .axes) ∙ stored-fine (valuesIn img) (l .stored)

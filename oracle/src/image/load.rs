@@ -1,5 +1,6 @@
-//! The loading checks of document 01, in its order, and the table of an image that passes
-//! them. 15 is left out: the program's own buffers are never too short.
+//! The loading checks of document 01 in its order, after 14 the one of request C-12, and the
+//! table of an image that passes them. 15 is left out: the program's own buffers are never
+//! too short.
 
 use super::header::{Header, HEADER, LONGEST};
 use crate::header::read_numbers;
@@ -21,6 +22,7 @@ pub fn load(image: &[u8]) -> Result<Table, Refusal> {
         ..Table::default()
     };
     let table = areas(&header, image, table)?;
+    shared(&header, &table.shape(), image.len())?;
     table_refusals::nodes_and_values(&table)?;
     Ok(table)
 }
@@ -95,4 +97,27 @@ fn areas(header: &Header, image: &[u8], mut table: Table) -> Result<Table, Refus
     let size = shape.iter().product();
     table.values = area(image, shape.len(), header.values, size)?;
     Ok(table)
+}
+
+/// Request C-12: no byte lies in two areas, each of which is inside the image. Every byte is
+/// marked with the areas that it lies in, the values counted last, and the lowest pair told.
+fn shared(header: &Header, shape: &[usize], length: usize) -> Result<(), Refusal> {
+    let offsets = header.offsets[..shape.len()].iter().chain([&header.values]);
+    let counts = shape.iter().copied().chain([shape.iter().product()]);
+    let mut marks = vec![0u8; length];
+    for (number, (&from, count)) in offsets.zip(counts).enumerate() {
+        for mark in &mut marks[from as usize..][..8 * count] {
+            *mark |= 1 << number;
+        }
+    }
+    let pair = |mark: u8| (mark.trailing_zeros(), (mark & (mark - 1)).trailing_zeros());
+    let several = marks.into_iter().filter(|mark| mark.count_ones() > 1);
+    match several.map(pair).min() {
+        None => Ok(()),
+        Some((one, other)) => Err(Refusal {
+            number: 18,
+            axis: one as u8,
+            place: other as usize,
+        }),
+    }
 }

@@ -1,4 +1,5 @@
-//! The table image of document 01, section "The image". Written from that document alone.
+//! The table image of document 01, section "The image", and request C-12. Written from these
+//! alone.
 
 pub mod header;
 pub mod load;

@@ -10,7 +10,7 @@ use lib.Ieee.{ofBits, toBits, lt, le, eq, add, sub, mul, div}
 use Rattle.answer.specs.Faults.{refusal, noFault, good, when, _or_, firstOf, given}
 use Rattle.answer.specs.Answer.{refused, answered, _then_, fine}
 use Rattle.checks.specs.Nodes.{gap}
-use Rattle.checks.specs.Numbers.{riseFault, nodeFault, nodesFault, axesCountFault, countFault, roomFault, lengthFault, finiteFault, readingFault, resultFault, productFault, axesFault, rangesFault, valueFault, valuesFault, readingsFault, rangeFault, areaFault, fieldFault, shortFault, statedFault}
+use Rattle.checks.specs.Numbers.{riseFault, nodeFault, nodesFault, axesCountFault, countFault, roomFault, lengthFault, finiteFault, readingFault, resultFault, productFault, axesFault, rangesFault, valueFault, valuesFault, readingsFault, rangeFault, areaFault, fieldFault, shortFault, statedFault, sharing, sharedFault}
 use Rattle.layout.specs.Shape.{size, total}
 use Rattle.layout.specs.Layout.{axesOf, strides, placeBy, table}
 use Rattle.checks.specs.Shapes.{shapeFault, frameFault}
@@ -19,8 +19,8 @@ use Rattle.orders.specs.Orders.{lookupFault}
 use Rattle.blend.specs.Blend.{blended, computed}
 use Rattle.image.proofs.Examples.{img}
 use Rattle.image.specs.Image.{floatsAt, nodesFrom, nodesIn, valuesIn}
-use Rattle.image.specs.Fields.{axesField, countField, offsetField, valuesField, shapeOf}
-use Rattle.image.specs.Load.{areasFault, roomsFault, contentsFault, loadFault}
+use Rattle.image.specs.Fields.{axesField, countField, offsetField, valuesField, shapeOf, areaOf}
+use Rattle.image.specs.Load.{areasFault, pairsFault, roomsFault, contentsFault, loadFault}
 use Rattle.image.specs.Head.{startFault, countRow, offsetRow, headFault}
 use Rattle.lines.specs.Digit.{glyphOf, digits, places, decimal}
 use Rattle.lines.specs.Line.{okLine, noLine, lineOf}
@@ -47,7 +47,7 @@ abbrev printed : List ℕ
 printed = 111 ∷ 107 ∷ 32 ∷ 52 ∷ 48 ∷ 50 ∷ 57 ∷ 48 ∷ 48 ∷ 48 ∷ 48 ∷ 48 ∷ 48 ∷ 48 ∷ 48 ∷ 48 ∷ 48 ∷ 48 ∷ 48 ∷ 10 ∷ 111 ∷ 107 ∷ 32 ∷ 52 ∷ 48 ∷ 51 ∷ 52 ∷ 48 ∷ 48 ∷ 48 ∷ 48 ∷ 48 ∷ 48 ∷ 48 ∷ 48 ∷ 48 ∷ 48 ∷ 48 ∷ 48 ∷ 10 ∷ 110 ∷ 111 ∷ 32 ∷ 49 ∷ 49 ∷ 32 ∷ 48 ∷ 32 ∷ 49 ∷ 10 ∷ []
 
 pub loads : good (loadFault img 256 4096) ≡ true
-unfolding loadFault headFault startFault shortFault fieldFault axesCountFault statedFault countRow productFault offsetRow areaFault areasFault roomFault roomsFault contentsFault axesField countField offsetField valuesField shapeOf floatsAt nodesFrom nodesIn valuesIn ofBytes wordAt floatAt size total axesOf axesFault valueFault valuesFault countFault finiteFault riseFault nodeFault nodesFault refusal answered noFault good when _or_ firstOf given ofBits sub lt
+unfolding loadFault headFault startFault shortFault fieldFault axesCountFault statedFault countRow productFault offsetRow areaOf areaFault areasFault sharing sharedFault pairsFault roomFault roomsFault contentsFault axesField countField offsetField valuesField shapeOf floatsAt nodesFrom nodesIn valuesIn ofBytes wordAt floatAt size total axesOf axesFault valueFault valuesFault countFault finiteFault riseFault nodeFault nodesFault refusal answered noFault good when _or_ firstOf given ofBits sub lt
 loads = refl
 
 three-lines : linesFirst rule 3 three ≡ printed

@@ -1,10 +1,10 @@
 //! Damage to an image. Some of it leaves an image that loads.
 
-use crate::image::header::HEADER;
+use crate::image::header::{Header, HEADER};
 use crate::make::numbers::{not_finite, Seed, LARGEST};
 
 pub fn drawn(image: &mut [u8], seed: &mut Seed) {
-    match seed.under(7) {
+    match seed.under(8) {
         0 => {
             let place = seed.under(HEADER);
             image[place] = seed.word() as u8;
@@ -17,6 +17,7 @@ pub fn drawn(image: &mut [u8], seed: &mut Seed) {
         3 => field(image, 16 + 4 * seed.under(5), 4, 17, seed),
         4 => field(image, 8 + 2 * seed.under(4), 2, 5, seed),
         5 => number(image, seed),
+        6 => area(image, seed),
         _ => neighbours(image, seed),
     }
 }
@@ -54,4 +55,30 @@ fn neighbours(image: &mut [u8], seed: &mut Seed) {
         0 => image[at..at + 16].rotate_left(8),
         _ => image.copy_within(at..at + 8, at + 8),
     }
+}
+
+/// An area of a good image is put beside another one, over it by 8 bytes, on its start or its
+/// end, or anywhere in it.
+fn area(image: &mut [u8], seed: &mut Seed) {
+    let header = Header::read(image);
+    let axes = header.axes as usize;
+    let counts: Vec<u32> = header.counts[..axes].iter().map(|&n| n as u32).collect();
+    let area = |number: usize| match number < axes {
+        true => (header.offsets[number], 8 * counts[number]),
+        false => (header.values, 8 * counts.iter().product::<u32>()),
+    };
+    let moved = seed.under(axes + 1);
+    let other = (moved + 1 + seed.under(axes)) % (axes + 1);
+    let ((_, size), (start, its)) = (area(moved), area(other));
+    let at = match seed.under(7) {
+        0 => start + its,
+        1 => start.wrapping_sub(size),
+        2 => start + its - 8,
+        3 => (start + 8).wrapping_sub(size),
+        4 => start,
+        5 => (start + its).wrapping_sub(size),
+        _ => start + 8 * seed.under(its as usize / 8) as u32,
+    };
+    let field = if moved < axes { 16 + 4 * moved } else { 32 };
+    image[field..field + 4].copy_from_slice(&at.to_le_bytes());
 }

@@ -65,18 +65,20 @@ fn table(seed: &mut Seed) -> Table {
     with_values(&axes, values)
 }
 
-/// Two to four axes of one count, which share their nodes.
-fn shared(seed: &mut Seed) -> Vec<u8> {
+/// Two to four axes of one count and with the same nodes.
+fn alike(seed: &mut Seed) -> Vec<u8> {
     let axes = 2 + seed.under(3);
     let count = 2 + seed.under([63, 15, 7][axes - 2]);
     let nodes = axes::axis(Family::Uniform, count, seed);
     let values = values(count.pow(axes as u32), seed);
-    images::one_area_for_all_axes(&with_values(&vec![nodes; axes], values))
+    write(&with_values(&vec![nodes; axes], values))
 }
 
-fn on_nodes(seed: &mut Seed) -> Vec<u8> {
+/// One axis, whose nodes are the values too.
+fn nodes_as_values(seed: &mut Seed) -> Vec<u8> {
     let count = count(1, 0, seed);
-    images::values_on_nodes(&axes::axis(Family::Any, count, seed))
+    let nodes = axes::axis(Family::Any, count, seed);
+    write(&with_values(&[nodes.clone()], nodes))
 }
 
 fn loaded(image: &[u8]) -> Table {
@@ -86,11 +88,11 @@ fn loaded(image: &[u8]) -> Table {
     }
 }
 
-/// What the writer gives, areas elsewhere, or areas that overlap.
+/// What the writer gives, or areas elsewhere.
 pub fn with_image(seed: &mut Seed) -> (Table, Vec<u8>) {
     let image = match seed.under(10) {
-        0 => shared(seed),
-        1 => on_nodes(seed),
+        0 => alike(seed),
+        1 => nodes_as_values(seed),
         2..=4 => images::drawn(&table(seed), seed),
         _ => write(&table(seed)),
     };

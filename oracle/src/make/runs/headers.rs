@@ -19,6 +19,7 @@ fn one_of_each() -> Vec<Fault> {
         in_header(|h| h.end = 1),
         in_header(|h| h.offsets[1] = 32),
         in_header(|h| h.values = END as u32),
+        in_header(|h| h.offsets[2] = AXES[1] as u32 + 8),
         in_numbers(&[(AXES[0], f64::NAN)]),
         in_numbers(&[(AXES[1] + 8, -1.0)]),
         in_numbers(&[(AXES[2], -LARGEST), (AXES[2] + 8, LARGEST)]),

@@ -1,4 +1,5 @@
-//! Areas in every order, with gaps, and areas that share bytes.
+//! Areas in every order, with gaps, and some that share bytes and are refused: more of them
+//! are in `overlaps`.
 
 use super::{each_kind, Run};
 use crate::image::header::HEADER;

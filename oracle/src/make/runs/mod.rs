@@ -10,6 +10,7 @@ mod large;
 mod layouts;
 mod lengths;
 mod long;
+mod overlaps;
 mod records;
 
 pub use long::long;
@@ -51,6 +52,7 @@ pub fn all() -> Vec<Run> {
         records::runs(),
         answered::runs(&mut seed),
         large::runs(&mut seed),
+        overlaps::runs(),
     ]
     .concat();
     assert!(runs.iter().all(|run| run.len() <= LONGEST));

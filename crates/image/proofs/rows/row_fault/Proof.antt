@@ -12,9 +12,6 @@ returns c = let s = c .before .before .before .before in c .count-row .ensures �
 returns-2 : tie.Need-returns-2
 returns-2 c = let s = c .before .before .before .before in c .offset-row .ensures ∙ ap (λ (k : Rows). rowOf k (now (s .args .img)) (s .args .a)) (sym (c .before .enum-told2 .given .1))
 
-returns-3 : tie.Need-returns-3
-returns-3 c = let s = c .before .before .before .before in c .area-row .ensures ∙ ap (λ (k : Rows). rowOf k (now (s .args .img)) (s .args .a)) (sym (c .before .enum-told3 .given .1))
-
 pub row-fault-spec : {M : Type 1} → statement M
 row-fault-spec =
     tie.close
@@ -23,8 +20,5 @@ row-fault-spec =
     (λ c κs. search needs)
     (λ c. search needs)
     (λ c κs. search needs)
-    (λ c. search needs)
-    (λ c κs. search needs)
     returns
-    returns-2
-    returns-3)
+    returns-2)

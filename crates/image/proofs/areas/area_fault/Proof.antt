@@ -1,8 +1,8 @@
 use Rattle.image.proofs.Tests.{area-early, area-off, area-past, area-right}
 use mathlib.Core.Path.{_∙_}
 use borrow.Author.Needs.{needs}
-use Rattle.image.proofs.rows.area_fault.Statement.{statement}
-use Rattle.image.proofs.rows.area_fault.Tie as tie
+use Rattle.image.proofs.areas.area_fault.Statement.{statement}
+use Rattle.image.proofs.areas.area_fault.Tie as tie
 
 returns : tie.Need-returns
 returns c = c .refusal .ensures ∙ area-early _ _ _ _ (c .before .if1 .taken)

@@ -7,8 +7,8 @@ use Rattle.layout.specs.Shape.{countsOf, total}
 use Rattle.checks.specs.Numbers.{roomFault}
 use Rattle.image.specs.Fields.{shapeOf}
 use Rattle.image.specs.Load.{roomsFault}
-use Rattle.image.proofs.areas.rooms_fault.Statement.{statement}
-use Rattle.image.proofs.areas.rooms_fault.Tie as tie
+use Rattle.image.proofs.contents.rooms_fault.Statement.{statement}
+use Rattle.image.proofs.contents.rooms_fault.Tie as tie
 
 abbrev start : tie.After-room-fault → tie.Start
 start f = f .before .before .before

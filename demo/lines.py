@@ -1,9 +1,9 @@
 #!/usr/bin/env python3
-"""Document 01's program in plain Python: the lines that `lookup` prints for an input.
+"""Document 01's program in plain Python, with request C-12's 18: the lines that `lookup` prints for an input.
 
     python3 demo/lines.py < INPUT
 
-The answers are those of vectors/records.py, which is written from the document alone. make.py takes the expected lines of the demos
+The answers are those of vectors/records.py, which is written from the documents alone. make.py takes the expected lines of the demos
 from here.
 """
 import struct

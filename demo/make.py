@@ -32,14 +32,15 @@ def halves(first, second):
     return tuple(a[:4] + b[4:] for a, b in zip(first, second))
 
 
-def recording(axes, values, *records):
-    """An image, as document 01's writer places it, and records of a kind and a reading for each axis."""
-    return lay(table(axes, values)) + b''.join(struct.pack(f'<B{len(axes)}d', *record) for record in records)
+def recording(axes, values, *records, starts=None):
+    """An image, as document 01's writer places it or with its areas from these bytes on, and records of a kind and a reading for each
+    axis."""
+    return lay(table(axes, values), starts) + b''.join(struct.pack(f'<B{len(axes)}d', *record) for record in records)
 
 
-def demo(nodes, values, *records):
+def demo(nodes, values, *records, starts=None):
     """A table of one axis, and records."""
-    return recording([nodes], values, *records)
+    return recording([nodes], values, *records, starts=starts)
 
 
 def site():
@@ -56,6 +57,7 @@ def site():
 def demos():
     beside_one = 1 - 2.0 ** -53
     below_zero = -(2.0 ** -60)
+    four = [10, 20, 30, 40], [100, 110, 120, 130]
     return {
         'example': demo([0, 2], [10, 20], (LINEAR, 0.5), (NEAREST, 1), (LINEAR, 3)),
         'falling': demo(*halves(OLD, NEW), (LINEAR, 12), (NEAREST, 12)),
@@ -63,6 +65,9 @@ def demos():
         'node': demo([0, 1, 2, 4], [0.1, 0.2, 0.3, 0.4], *((kind, 2) for kind in range(5))),
         'nearest': demo([-1, 1], [10, 20], (NEAREST, below_zero), (NEAREST, -0.5), (NEAREST, 0)),
         'mixed': demo(*halves(NEW, OLD), (LINEAR, -20), (LINEAR, 55), (LINEAR, 22.5), (LINEAR_UNIFORM, 22.5)),
+        # The last node is at byte 64; where two areas overlap, the values are seen.
+        'overlap': demo(*four, (LINEAR, 35), starts=[40, 64]),
+        'touching': demo(*four, (LINEAR, 35), starts=[40, 72]),
         'coverage': site(),
     }
 

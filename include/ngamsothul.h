@@ -69,7 +69,9 @@ enum ng_number {
                         /*                                                        axis, or the number of axes for the values; 0 */
     NG_ROOM = 15,       /* an output buffer too short                                       0; place 0 nodes, 1 values, 2 image */
     NG_SLICE = 16,      /* slice of a one-axis table, no such axis, or not axis 0 for the two linears         0, 0 */
-    NG_LIMIT = 17       /* the tally has 1,000,000 records already                                            0, 0 */
+    NG_LIMIT = 17,      /* the tally has 1,000,000 records already                                            0, 0 */
+    NG_OVERLAP = 18     /* two of the axis and value areas of an image share a byte */
+                        /*              the numbers of the two, lowest pair first: axis, or the number of axes for the values */
 };
 
 /* A table's shape. Counts past its axes are not looked at; in a shape that a call gives they are 0. */
@@ -203,8 +205,12 @@ ng_slice_answer ng_slice_step(
 /* ---- The table image. Outputs may be longer; their rest stays unchanged. */
 
 /* Reads a table out of an image. Refusals: under 40 bytes (13); byte 0 (13); byte 1 (1); bytes 2-3 (13); length (13), equal to the lent
- * length and 40 to 36,864; counts axis by axis (2, or 13 if unused); product (2); unused offsets (13); bytes 36-39 (13); areas (14);
- * room (15, place 0 nodes, 1 values); then 4 to 7. */
+ * length and 40 to 36,864; counts axis by axis (2, or 13 if unused); product (2); unused offsets (13); bytes 36-39 (13); each area (14);
+ * two areas that share a byte (18); room (15, place 0 nodes, 1 values); then 4 to 7.
+ *
+ * 14 and 18 tell an area by its number: that of an axis is the axis, that of the values the number of axes. 14 gives one, in axis. 18
+ * gives two, axis below place: of the pairs 0 1, 0 2, .., 1 2, .. the first that shares a byte. The values, if they are one of the two, are
+ * in place. Areas may touch, lie apart and in any order. */
 ng_load_answer ng_load(
     const uint8_t *image, size_t image_length, double *nodes, size_t nodes_length, double *values, size_t values_length);
 

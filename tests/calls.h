@@ -41,7 +41,7 @@ static const struct { const char *name; unsigned refusals; } known[CALLS] = {
     {"ng_slice_linear_uniform", SLICE | N(8) | N(12)},
     {"ng_slice_nearest", SLICE},
     {"ng_slice_step", SLICE | N(9)},
-    {"ng_load", (TABLE ^ N(3)) | N(13) | N(14) | N(15)},
+    {"ng_load", (TABLE ^ N(3)) | N(13) | N(14) | N(15) | N(18)},
     {"ng_write", TABLE | N(15)},
     {"ng_count_record", N(17)},
 };
@@ -253,7 +253,7 @@ static void judge(const call *c)
     static const ng_shape no_shape;
     static const double plus_zero;
     ng_answer a = result.answer;
-    if (a.number > 17) fail("%s gave the number %u", known[c->what].name, a.number);
+    if (a.number > 18) fail("%s gave the number %u", known[c->what].name, a.number);
     seen[c->what] |= N(a.number);
     if (a.number == 0) {
         made_calls++;

@@ -369,7 +369,8 @@ static void header_bytes(void)
         {0, 0, 13, 0, 0}, {0, 2, 13, 0, 0}, {1, 0, 1, 0, 0}, {1, 5, 1, 0, 0}, {2, 1, 13, 0, 2}, {3, 1, 13, 0, 2},
         {4, IMAGE - 1, 13, 0, 4}, {7, 1, 13, 0, 4}, {8, 1, 2, 0, 0}, {10, 65, 2, 1, 0}, {12, 1, 13, 0, 12}, {15, 1, 13, 0, 14},
         {24, 1, 13, 0, 24}, {31, 1, 13, 0, 28}, {36, 1, 13, 0, 36}, {39, 1, 13, 0, 36}, {16, 41, 14, 0, 0}, {16, 32, 14, 0, 0},
-        {20, IMAGE - 8, 14, 1, 0}, {32, IMAGE - 40, 14, 2, 0}, {35, 255, 14, 2, 0}};
+        {20, IMAGE - 8, 14, 1, 0}, {32, IMAGE - 40, 14, 2, 0}, {35, 255, 14, 2, 0}, {16, 48, 18, 0, 1}, {20, 56, 18, 0, 1},
+        {32, 56, 18, 0, 2}, {32, 72, 18, 1, 2}};
     for (size_t i = 0; i < sizeof faults / sizeof *faults; i++) {
         call c = table(LOAD);
         uint8_t was = image[faults[i].at];
@@ -404,6 +405,135 @@ static void image_contents(void)
     refused("the product", &c, 2, 0, 0);
     memcpy(image + 8, was, 8), image[1] = 2;
     passed("the image again", &c);
+}
+
+/* ---- 18: where the areas of an image lie. at has the offsets, the axes' and last that of the values. */
+static size_t floats(const ng_shape *s, size_t k)
+{
+    size_t all = 1;
+    for (size_t a = 0; a < s->axes; a++) all *= s->counts[a];
+    return k < s->axes ? s->counts[k] : all;
+}
+
+/* An image of so many bytes. The number at each byte 8 * k is k: nodes rise wherever they lie, so that nothing but where areas lie is at
+ * fault, and what was loaded shows where it was read. */
+static call laid(const ng_shape *s, const size_t *at, size_t length)
+{
+    size_t all = 0;
+    memset(image, 0, NG_HEADER_BYTES);
+    image[0] = 1, image[1] = (uint8_t)s->axes;
+    memcpy(image + 4, &length, 4), memcpy(image + 32, at + s->axes, 4);
+    for (size_t a = 0; a < s->axes; a++) {
+        memcpy(image + 8 + 2 * a, s->counts + a, 2), memcpy(image + 16 + 4 * a, at + a, 4);
+        all += s->counts[a];
+    }
+    for (size_t k = 5; k < length / 8; k++) memcpy(image + 8 * k, &(double){(double)k}, 8);
+    return (call){.what = LOAD, .image = image, .image_length = length, .held = held, .room = all, .second_held = second,
+        .second_room = floats(s, s->axes)};
+}
+
+/* How often each pair was the first that shares a byte; at 0, 0 how often none was. */
+static unsigned pairs[5][5];
+
+/* The first pair is found byte by byte: one area is laid on an empty page, and the page is searched where the other lies. Where there is
+ * none, the areas come back. */
+static void lie(const char *why, const ng_shape *s, const size_t *at, size_t length)
+{
+    static uint8_t page[NG_MOST_BYTES];
+    call c = laid(s, at, length);
+    for (size_t i = 0; i < s->axes; i++)
+        for (size_t j = i + 1; j <= s->axes; j++) {
+            memset(page, 0, sizeof page), memset(page + at[i], 1, 8 * floats(s, i));
+            if (!memchr(page + at[j], 1, 8 * floats(s, j))) continue;
+            refused(why, &c, NG_OVERLAP, i, j), pairs[i][j]++;
+            return;
+        }
+    given g = passed(why, &c);
+    const char *node = now.held;
+    same("the shape of areas that lie apart", &g.shape, s, sizeof *s);
+    for (size_t a = 0; a < s->axes; a++) same("nodes that lie apart", node, image + at[a], 8 * s->counts[a]), node += 8 * s->counts[a];
+    same("values that lie apart", now.second_held, image + at[s->axes], 8 * floats(s, s->axes));
+    pairs[0][0]++;
+}
+
+/* Each pair of a table's areas was the first that shares a byte, and sometimes none was. */
+static void all_pairs(size_t axes)
+{
+    for (size_t i = 0; i < axes; i++)
+        for (size_t j = i + 1; j <= axes; j++)
+            if (!pairs[i][j] || !pairs[0][0]) fail("of %zu axes the areas %zu and %zu never shared a byte, or some always did", axes, i, j);
+    memset(pairs, 0, sizeof pairs);
+}
+
+/* Every place of every area, by 8 bytes, in an image with room for two numbers more than it needs. */
+static void areas_anywhere(void)
+{
+    const ng_shape one = {1, {3}}, two = {2, {3, 2}};
+    for (size_t i = 0; i < 6 * 6; i++) lie("two areas", &one, (size_t[]){40 + 8 * (i / 6), 40 + 8 * (i % 6)}, 40 + 8 * 8);
+    all_pairs(1);
+    for (size_t i = 0; i < 11 * 12 * 8; i++)
+        lie("three areas", &two, (size_t[]){40 + 8 * (i / 96), 40 + 8 * (i / 8 % 12), 40 + 8 * (i % 8)}, 40 + 8 * 13);
+    all_pairs(2);
+}
+
+/* Areas that lie a number apart, in their order and turned round: each moved to every place, then each two moved upon others. */
+static void areas_moved(const ng_shape *s)
+{
+    const size_t n = s->axes + 1;
+    for (int turned = 0; turned < 2; turned++) {
+        size_t base[5] = {0}, at[5], end = 40;
+        for (size_t k = 0; k < n; k++) base[turned ? n - 1 - k : k] = end, end += 8 * (floats(s, turned ? n - 1 - k : k) + 1);
+        end += 8 * floats(s, s->axes); /* so that the values have room wherever an area lay */
+        for (size_t k = 0; k < n; k++)
+            for (size_t to = 40; to + 8 * floats(s, k) <= end; to += 8)
+                memcpy(at, base, sizeof at), at[k] = to, lie("one area moved", s, at, end);
+        all_pairs(s->axes);
+        for (size_t i = 0; i < n * n * n * n; i++) {
+            memcpy(at, base, sizeof at), at[i / n / n / n] = at[i / n / n % n], at[i / n % n] = at[i % n];
+            lie("two areas moved", s, at, end);
+        }
+        all_pairs(s->axes);
+    }
+}
+
+/* "checked after 14 and before 15": what is asked before it, and what after it. */
+static void order_of_areas(void)
+{
+    const ng_shape s = {2, {3, 2}};
+    static const struct { size_t at[3]; uint32_t number; size_t axis, place; } asked[] = {
+        {{40, 40, IMAGE - 40}, 14, 2, 0}, {{40, 40, 84}, 14, 2, 0}, {{40, 32, 40}, 14, 1, 0}, {{44, 64, 64}, 14, 0, 0},
+        {{40, 44, 80}, 14, 1, 0}, {{40, 40, 80}, 18, 0, 1}, {{40, 64, 56}, 18, 0, 2}, {{40, 64, 72}, 18, 1, 2}, {{40, 40, 40}, 18, 0, 1}};
+    for (size_t i = 0; i < sizeof asked / sizeof *asked; i++) {
+        call c = laid(&s, asked[i].at, IMAGE);
+        refused("areas", &c, asked[i].number, asked[i].axis, asked[i].place);
+        c.room = c.second_room = 0, c.nulls = 1;
+        refused("areas before room", &c, asked[i].number, asked[i].axis, asked[i].place);
+        memset(image + 40, 0xff, IMAGE - 40);
+        refused("areas before room and NaNs", &c, asked[i].number, asked[i].axis, asked[i].place);
+        c = laid(&s, asked[i].at, IMAGE), memset(image + 40, 0, IMAGE - 40);
+        refused("areas before nodes that do not rise", &c, asked[i].number, asked[i].axis, asked[i].place);
+        image[36] = 1;
+        refused("bytes 36-39 before areas", &c, 13, 0, 36);
+        image[24] = 1;
+        refused("an unused offset before areas", &c, 13, 0, 24);
+        image[8] = 65;
+        refused("a count before areas", &c, 2, 0, 0);
+    }
+}
+
+/* In the longest image, with the most values: areas that touch at its end, and the same 8 bytes nearer to each other. */
+static void long_areas(void)
+{
+    const ng_shape s = {2, {64, 64}};
+    enum { END = NG_MOST_BYTES, VALUES = END - 8 * 4096, NODES_BYTES = 8 * 64 };
+    lie("areas that touch", &s, (size_t[]){40, VALUES - NODES_BYTES, VALUES}, END);
+    lie("areas that touch", &s, (size_t[]){VALUES - NODES_BYTES, VALUES - 2 * NODES_BYTES, VALUES}, END);
+    lie("areas that touch", &s, (size_t[]){END - NODES_BYTES, END - 2 * NODES_BYTES, 40}, END);
+    if (pairs[0][0] != 3) fail("the areas that should touch share a byte");
+    lie("nearer", &s, (size_t[]){40, VALUES - NODES_BYTES + 8, VALUES}, END);
+    lie("nearer", &s, (size_t[]){VALUES - NODES_BYTES + 8, VALUES - 2 * NODES_BYTES, VALUES}, END);
+    lie("nearer", &s, (size_t[]){END - NODES_BYTES - 8, END - 2 * NODES_BYTES, 40}, END);
+    all_pairs(2);
 }
 
 /* ---- the tally. Its counts are all different at first, so that a wrong place shows. */
@@ -574,6 +704,8 @@ static void largest(void)
         passed("its image", &c);
         same("its nodes", now.held, all_nodes, n * 8);
         same("its values", now.second_held, all_values, m * 8);
+        memcpy(image + 32, &(uint32_t){(uint32_t)(40 + 8 * (n - 1))}, 4);
+        refused("its values on its last node", &c, NG_OVERLAP, shapes[s].axes - 1, shapes[s].axes);
     }
 }
 
@@ -592,6 +724,8 @@ int main(void)
     frames(WRITE), contents(WRITE);
     written();
     header_bytes(), image_contents();
+    areas_anywhere(), areas_moved(&(ng_shape){3, {2, 3, 2}}), areas_moved(&(ng_shape){4, {2, 3, 2, 2}});
+    order_of_areas(), long_areas();
     begin_tally(5);
     frames(COUNT_RECORD), contents(COUNT_RECORD);
     counted_kinds(), counted_lengths();

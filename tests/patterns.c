@@ -102,6 +102,14 @@ static void overflow(call *c)
     c->room = 2 + below(9);
 }
 
+/* An area of the image goes to any place in it: to its own, or onto others, as there are no gaps. */
+static void move_area(const call *c)
+{
+    size_t k = below(c->shape.axes + 1), last = k == c->shape.axes, floats = last ? c->values_length : c->shape.counts[k];
+    size_t offset = 40 + 8 * below(c->nodes_length + c->values_length - floats + 1);
+    memcpy(image + (last ? 32 : 16 + 4 * k), &offset, 4);
+}
+
 /* The image of the drawn table, whole or spoilt: a table is written first, then its bytes are changed, or its numbers before. */
 static void to_load(call *c, int whole)
 {
@@ -124,6 +132,7 @@ static void to_load(call *c, int whole)
     at[32] = (uint8_t)offset, at[33] = (uint8_t)(offset >> 8);
     memcpy(at + 40, nodes, 8 * c->nodes_length);
     memcpy(at + 40 + 8 * c->nodes_length, values, 8 * c->values_length);
+    if (!whole && below(6) == 0) move_area(c);
     if (!whole && below(2)) at[below(40)] = (uint8_t)drawn();
     if (!whole && below(6) == 0) length = below(length);
     c->image = image, c->image_length = length;

@@ -1,4 +1,5 @@
-/* Wrong libraries, which the tests must catch: linked by --wrap=ng_slice_nearest and --wrap=ng_count_record, WRONG says which. */
+/* Wrong libraries, which the tests must catch: linked by --wrap=ng_slice_nearest, --wrap=ng_count_record and --wrap=ng_load, WRONG says
+ * which. */
 #include "ngamsothul.h"
 
 #include <string.h>
@@ -69,4 +70,39 @@ ng_answer __wrap_ng_count_record(COUNTED)
         break;
     }
     return a;
+}
+
+#define LOADED                                                                                                                             \
+    const uint8_t *image, size_t image_length, double *nodes, size_t nodes_length, double *values, size_t values_length
+ng_load_answer __real_ng_load(LOADED);
+ng_load_answer __wrap_ng_load(LOADED);
+
+/* Whether an area ends where one of a lower number begins, which the writer's never do; of an image whose header is passed. */
+static int ends_at_a_lower(const uint8_t *image)
+{
+    uint32_t at[5], end[5], axes = image[1], all = 1;
+    for (uint32_t k = 0; k <= axes; k++) {
+        memcpy(at + k, image + (k < axes ? 16 + 4 * k : 32), 4);
+        end[k] = at[k] + 8 * (k < axes ? image[8 + 2 * k] : all);
+        if (k < axes) all *= image[8 + 2 * k];
+        for (uint32_t i = 0; i < k; i++)
+            if (end[k] == at[i]) return 1;
+    }
+    return 0;
+}
+
+ng_load_answer __wrap_ng_load(LOADED)
+{
+    ng_load_answer r = __real_ng_load(image, image_length, nodes, 0, values, 0), wrong = r; /* without room: 15 comes after 18 */
+    switch (WRONG) {
+    case 8: /* 18 tells its two areas in the other order */
+        wrong.answer.axis = r.answer.place, wrong.answer.place = r.answer.axis;
+        if (r.answer.number == NG_OVERLAP) return wrong;
+        break;
+    case 9: /* areas that touch are refused where the one of the higher number lies first */
+        wrong.answer = (ng_answer){.number = NG_OVERLAP, .place = 1};
+        if (r.answer.number == NG_ROOM && ends_at_a_lower(image)) return wrong;
+        break;
+    }
+    return __real_ng_load(image, image_length, nodes, nodes_length, values, values_length);
 }

@@ -14,7 +14,7 @@ use core::fmt::{Display, Formatter, Result};
 pub struct Refusal {
     /// The number that the technician sees, never 0.
     pub number: u32,
-    /// The axis at fault, or 0.
+    /// The axis at fault, or 0; of 14 and 18 the number of an area.
     pub axis: usize,
     /// The place at fault: a node, a value, a byte, or what the number says of it.
     pub place: usize,
@@ -31,6 +31,7 @@ impl Display for Refusal {
             13 => self.header(f),
             14 => self.area(f),
             15..=17 => self.outputs(f),
+            18 => self.shared(f),
             _ => self.bare(f),
         }
     }
@@ -98,7 +99,7 @@ impl Refusal {
         match self.axis {
             0 => write!(f, "the nodes of axis 0")?,
             MOST_AXES => write!(f, "the values")?,
-            axis if axis < MOST_AXES => write!(f, "the nodes of axis {axis}, or the values if there are {axis} axes,")?,
+            axis if axis < MOST_AXES => write!(f, "the nodes of axis {axis}, or the values if there is no axis {axis},")?,
             _ => return self.bare(f),
         }
         write!(f, " do not begin at a multiple of 8 from byte {HEADER_BYTES} on, or end outside the image")
@@ -115,6 +116,18 @@ impl Refusal {
             }
             (17, _) => write!(f, "the tally has {MOST_RECORDS} records already, and counts no more"),
             _ => self.bare(f),
+        }
+    }
+
+    /// 18. The first area, the lower one, is always an axis's; the second is the values' where it is the number of axes, as 4 always is.
+    fn shared(&self, f: &mut Formatter<'_>) -> Result {
+        match (self.axis, self.place) {
+            (axis, other) if axis >= other || other > MOST_AXES => self.bare(f),
+            (axis, MOST_AXES) => write!(f, "the nodes of axis {axis} share a byte of the image with the values"),
+            (axis, other) => {
+                write!(f, "the nodes of axis {axis} share a byte of the image with those of axis {other}")?;
+                write!(f, ", or with the values if there is no axis {other}")
+            }
         }
     }
 

@@ -82,3 +82,36 @@ fn image_there_and_back() {
     assert_eq!(shape.table(&n, &v).nearest(&[1.9, 3.0]), Ok(6.0));
     assert_eq!(shape.table(&n[..4], &v).nearest(&[1.9, 3.0]), no(3, 0, 0));
 }
+
+/// Two nodes and two values, at bytes 40 to 72: their offsets, and what is refused there, 0 where nothing is.
+const AREAS: [(u8, u8, (u32, usize, usize)); 8] = [
+    (40, 56, (0, 0, 0)),
+    (56, 40, (0, 0, 0)),
+    (40, 48, (18, 0, 1)), // the values begin on the last node
+    (48, 40, (18, 0, 1)),
+    (40, 40, (18, 0, 1)),
+    (56, 56, (18, 0, 1)),
+    (40, 64, (14, 1, 0)),
+    (64, 64, (14, 0, 0)),
+];
+
+/// Areas that touch load, in either order. Two that share a byte are refused, before the room is looked at, and nothing is written.
+#[test]
+fn areas() {
+    let mut image = [0; 72];
+    assert_eq!(Table::new(&[2], &[0.0, 2.0], &[10.0, 20.0]).write(&mut image), Ok(72));
+    for (nodes, values, (number, axis, place)) in AREAS {
+        (image[16], image[32]) = (nodes, values);
+        let (mut n, mut v) = ([9.0; 2], [9.0; 2]);
+        let shape = load(&image, &mut n, &mut v);
+        if number == 0 {
+            assert_eq!(shape.map(|shape| shape.counts().to_vec()), Ok(vec![2]));
+            assert_eq!(if nodes < values { (n, v) } else { (v, n) }, ([0.0, 2.0], [10.0, 20.0]));
+            assert_eq!(load(&image, &mut [], &mut []), no(15, 0, 0));
+        } else {
+            assert_eq!(shape, no(number, axis, place));
+            assert_eq!((n, v), ([9.0; 2], [9.0; 2]));
+            assert_eq!(load(&image, &mut [], &mut []), no(number, axis, place));
+        }
+    }
+}

@@ -3,7 +3,7 @@
 use ngamsothul::Refusal;
 use std::collections::HashSet;
 
-const SENTENCES: [(u32, usize, usize, &str); 39] = [
+const SENTENCES: [(u32, usize, usize, &str); 44] = [
     (1, 0, 0, "the table does not have 1 to 4 axes"),
     (2, 0, 0, "axis 0 does not have 2 to 64 nodes, or the table has more than 4096 values"),
     (2, 3, 0, "axis 3 does not have 2 to 64 nodes"),
@@ -40,7 +40,7 @@ const SENTENCES: [(u32, usize, usize, &str); 39] = [
         14,
         2,
         0,
-        "the nodes of axis 2, or the values if there are 2 axes, do not begin at a multiple of 8 from byte 40 on, or end outside the image",
+        "the nodes of axis 2, or the values if there is no axis 2, do not begin at a multiple of 8 from byte 40 on, or end outside the image",
     ),
     (14, 4, 0, "the values do not begin at a multiple of 8 from byte 40 on, or end outside the image"),
     (15, 0, 0, "the room for the nodes is too short"),
@@ -48,6 +48,11 @@ const SENTENCES: [(u32, usize, usize, &str); 39] = [
     (15, 0, 2, "the room for the image is too short"),
     (16, 0, 0, "this axis cannot be sliced away: there is no such axis, or no other one, or the rule slices axis 0 alone"),
     (17, 0, 0, "the tally has 1000000 records already, and counts no more"),
+    (18, 0, 1, "the nodes of axis 0 share a byte of the image with those of axis 1, or with the values if there is no axis 1"),
+    (18, 0, 3, "the nodes of axis 0 share a byte of the image with those of axis 3, or with the values if there is no axis 3"),
+    (18, 1, 2, "the nodes of axis 1 share a byte of the image with those of axis 2, or with the values if there is no axis 2"),
+    (18, 0, 4, "the nodes of axis 0 share a byte of the image with the values"),
+    (18, 3, 4, "the nodes of axis 3 share a byte of the image with the values"),
 ];
 
 #[test]
@@ -61,17 +66,31 @@ fn sentences() {
 #[test]
 fn every_number_has_its_own() {
     let numbers: HashSet<u32> = SENTENCES.iter().map(|case| case.0).collect();
-    assert_eq!(numbers, (1..=17).collect());
+    assert_eq!(numbers, (1..=18).collect());
     let sentences: HashSet<&str> = SENTENCES.iter().map(|case| case.3).collect();
     assert_eq!(sentences.len(), SENTENCES.len());
 }
 
+const NOT_GIVEN: [(u32, usize, usize); 13] = [
+    (0, 1, 2),
+    (3, 0, 4),
+    (11, 0, 2),
+    (13, 0, 5),
+    (14, 5, 0),
+    (15, 0, 3),
+    (18, 0, 0),
+    (18, 2, 1),
+    (18, 4, 4),
+    (18, 3, 5),
+    (18, 4, 5),
+    (19, 0, 1),
+    (u32::MAX, usize::MAX, usize::MAX),
+];
+
 /// What no call gives is told by its numbers, and a refusal is an error as Rust has them.
 #[test]
 fn others() {
-    for (number, axis, place) in
-        [(0, 1, 2), (3, 0, 4), (11, 0, 2), (13, 0, 5), (14, 5, 0), (15, 0, 3), (18, 0, 0), (u32::MAX, usize::MAX, usize::MAX)]
-    {
+    for (number, axis, place) in NOT_GIVEN {
         let error: Box<dyn std::error::Error> = Refusal { number, axis, place }.into();
         assert_eq!(error.to_string(), format!("refusal {number}, axis {axis}, place {place}"));
     }

@@ -66,7 +66,7 @@ fn damaged(image: &mut Vec<u8>, seed: &mut Seed) {
 
 #[test]
 fn drawn_images() {
-    let (mut whole, mut refused, mut numbers) = (0, 0, [0; 17]);
+    let (mut whole, mut refused, mut numbers) = (0, 0, [0; 19]);
     for number in 0..1000 {
         let seed = &mut Seed::of(number);
         let (table, image) = tables::with_image(seed);
@@ -84,7 +84,7 @@ fn drawn_images() {
     }
     println!("drawn images: {whole} whole, {refused} refused");
     assert!(whole == 1000 && refused > 4000, "{whole} whole, {refused} refused");
-    for number in [1, 2, 4, 5, 7, 13, 14] {
+    for number in [1, 2, 4, 5, 7, 13, 14, 18] {
         assert!(numbers[number] > 20, "{number} was given {} times", numbers[number]);
     }
 }

@@ -7,102 +7,102 @@ use borrow.Author.Tests.{eq-eqb}
 use lib.Dec.{eqb}
 use lib.Ieee.{Float}
 use Rattle.answer.specs.Faults.{refusal, good, ◌or◌}
-use Rattle.answer.specs.Answer.{plusZero, refused, answered, fine, ◌then◌}
+use Rattle.answer.specs.Answer.{plus_zero, refused, answered, fine, ◌then◌}
 use Rattle.answer.specs.declared.Fault.{Fault}
 use Rattle.answer.specs.declared.Answer.{Answer}
 use Rattle.answer.proofs.Orders as orders
 
 module _ (f : Fault) (a : Answer) where
-  pub then-good : good f ≡ true → (f then a) ≡ a
+  pub then_good : good f ≡ true → (f then a) ≡ a
   unfolding ◌then◌
-  then-good h = ap (λ (t : Bool). cond t a (refused f)) h
+  then_good h = ap (λ (t : Bool). cond t a (refused f)) h
 
-  pub then-bad : good f ≡ false → (f then a) ≡ refused f
+  pub then_bad : good f ≡ false → (f then a) ≡ refused f
   unfolding ◌then◌
-  then-bad h = ap (λ (t : Bool). cond t a (refused f)) h
+  then_bad h = ap (λ (t : Bool). cond t a (refused f)) h
 
 -- ---- in the code's terms: r is what the checks gave, and its number was tested
 module _ (r f : Fault) (e : r ≡ f) where
-  pub then-stops : (b a : Answer) → (r.number ≡ 0 → ⊥) → b ≡ refused r → b ≡ (f then a)
-  then-stops b a h q = q ∙ ap refused e ∙ sym (then-bad f a (orders.fails r f e h))
+  pub then_stops : (b a : Answer) → (r.number ≡ 0 → ⊥) → b ≡ refused r → b ≡ (f then a)
+  then_stops b a h q = q ∙ ap refused e ∙ sym (then_bad f a (orders.fails r f e h))
 
-  pub then-goes-on : (b a : Answer) → r.number ≡ 0 → b ≡ a → b ≡ (f then a)
-  then-goes-on b a h q = q ∙ sym (then-good f a (orders.passes r f e h))
+  pub then_goes_on : (b a : Answer) → r.number ≡ 0 → b ≡ a → b ≡ (f then a)
+  then_goes_on b a h q = q ∙ sym (then_good f a (orders.passes r f e h))
 
 -- what is asked first of two orders, one after the other
-pub then-or : (f g : Fault) (a : Answer) → ((f or g) then a) ≡ (f then g then a)
-then-or f g a = go (good f) refl
+pub then_or : (f g : Fault) (a : Answer) → ((f or g) then a) ≡ (f then g then a)
+then_or f g a = go (good f) refl
   where
     go : (t : Bool) → good f ≡ t → ((f or g) then a) ≡ (f then g then a)
-    go true e = ap (λ (h : Fault). h then a) (orders.or-good f g e) ∙ sym (then-good f (g then a) e)
-    go false e = ap (λ (h : Fault). h then a) (orders.or-bad f g e) ∙ then-bad f a e ∙ sym (then-bad f (g then a) e)
+    go true e = ap (λ (h : Fault). h then a) (orders.or_good f g e) ∙ sym (then_good f (g then a) e)
+    go false e = ap (λ (h : Fault). h then a) (orders.or_bad f g e) ∙ then_bad f a e ∙ sym (then_bad f (g then a) e)
 
 -- ---- "A refusal has value +0.0"
-pub refused-empty : (f : Fault) → (refused f).value ≡ plusZero
+pub refused_empty : (f : Fault) → (refused f).value ≡ plus_zero
 unfolding refused
-refused-empty f = refl
+refused_empty f = refl
 
 -- the number that the answer tells is the fault's, or 0
-pub refused-number : (f : Fault) → eqb (refused f).number 0 ≡ good f
+pub refused_number : (f : Fault) → eqb (refused f).number 0 ≡ good f
 unfolding refused good
-refused-number f = refl
+refused_number f = refl
 
 -- an answer that tells 0 passed its checks
-pub then-number : (f : Fault) (a : Answer) → (f then a).number ≡ 0 → good f ≡ true
-then-number f a h = go (good f) refl
+pub then_number : (f : Fault) (a : Answer) → (f then a).number ≡ 0 → good f ≡ true
+then_number f a h = go (good f) refl
   where
     go : (b : Bool) → good f ≡ b → b ≡ true
     go true e = refl
-    go false e = orders.clash (good f) (sym (refused-number f) ∙ eq-eqb (refused f).number 0 (sym (ap (λ (x : Answer). x.number) (then-bad f a e)) ∙ h)) e
+    go false e = orders.clash (good f) (sym (refused_number f) ∙ eq-eqb (refused f).number 0 (sym (ap (λ (x : Answer). x.number) (then_bad f a e)) ∙ h)) e
 
-pub answered-number : (v : Float) → (answered v).number ≡ 0
+pub answered_number : (v : Float) → (answered v).number ≡ 0
 unfolding answered
-answered-number v = refl
+answered_number v = refl
 
 -- ---- "Success is 0, 0, 0 and the value"; "A refusal has value +0.0": one fact of an answer, which passes through an order of checks
 pub record Told (a : Answer) : Type 0 where
-  pub empty : (a.number ≡ 0 → ⊥) → a.value ≡ plusZero
+  pub empty : (a.number ≡ 0 → ⊥) → a.value ≡ plus_zero
   pub clear : a.number ≡ 0 → a ≡ answered a.value
 
-pub value-told : (v : Float) → Told (answered v)
+pub value_told : (v : Float) → Told (answered v)
 unfolding answered
-value-told v = record { empty = λ h. absurd (h refl); clear = λ h. refl }
+value_told v = record { empty = λ h. absurd (h refl); clear = λ h. refl }
 
 pub fine-told : Told fine
 unfolding fine
-fine-told = value-told plusZero
+fine-told = value_told plus_zero
 
 pub refused-told : (n axis place : ℕ) → Told (refused (refusal (suc n) axis place))
 unfolding refused refusal
 refused-told n axis place = record { empty = λ h. refl; clear = λ h. absurd (omega (arith, h)) }
 
-pub then-told : (f : Fault) (a : Answer) → Told a → Told (f then a)
-then-told f a t = go (good f) refl
+pub then_told : (f : Fault) (a : Answer) → Told a → Told (f then a)
+then_told f a t = go (good f) refl
   where
     bad : good f ≡ false → Told (refused f)
     bad e = record {
-      empty = λ h. refused-empty f;
-      clear = λ h. orders.clash (good f) (sym (refused-number f) ∙ eq-eqb (refused f).number 0 h) e;
+      empty = λ h. refused_empty f;
+      clear = λ h. orders.clash (good f) (sym (refused_number f) ∙ eq-eqb (refused f).number 0 h) e;
     }
 
     go : (b : Bool) → good f ≡ b → Told (f then a)
-    go true e = subst Told (sym (then-good f a e)) t
-    go false e = subst Told (sym (then-bad f a e)) (bad e)
+    go true e = subst Told (sym (then_good f a e)) t
+    go false e = subst Told (sym (then_bad f a e)) (bad e)
 
 -- ---- "+0.0 where a call gives none": of every answer that follows its checks and gives no value, +0.0 whatever it tells, and on success 0, 0, 0
 pub record Quiet (a : Answer) : Type 0 where
-  pub empty : a.value ≡ plusZero
+  pub empty : a.value ≡ plus_zero
   pub clear : a.number ≡ 0 → a ≡ fine
 
-fine-empty : fine.value ≡ plusZero
+fine_empty : fine.value ≡ plus_zero
 unfolding fine answered
-fine-empty = refl
+fine_empty = refl
 
 pub quiet : (f : Fault) → Quiet (f then fine)
 quiet f = go (good f) refl
   where
     go : (b : Bool) → good f ≡ b → Quiet (f then fine)
-    go true e = subst Quiet (sym (then-good f fine e)) (record { empty = fine-empty; clear = λ h. refl })
+    go true e = subst Quiet (sym (then_good f fine e)) (record { empty = fine_empty; clear = λ h. refl })
     go false e =
-        subst Quiet (sym (then-bad f fine e))
-        (record { empty = refused-empty f; clear = λ h. orders.clash (good f) (sym (refused-number f) ∙ eq-eqb (refused f).number 0 h) e })
+        subst Quiet (sym (then_bad f fine e))
+        (record { empty = refused_empty f; clear = λ h. orders.clash (good f) (sym (refused_number f) ∙ eq-eqb (refused f).number 0 h) e })

@@ -3,37 +3,37 @@ use mathlib.Core.Path.{◌≡◌, sym, ◌∙◌}
 use mathlib.Core.Bool.{true}
 use Prim.Native.Nat.{ℕ, ◌+◌, ◌-◌, ◌≤◌, ◌<◌}
 use native.Mathlib.Omega.{arith}
-use Rattle.answer.specs.Faults.{noFault, good, first_of}
+use Rattle.answer.specs.Faults.{no_fault, good, first_fault}
 use Rattle.answer.specs.declared.Fault.{Fault}
-use Rattle.answer.proofs.Orders.{passes, fails, first-begin, first_step, first-stop, first-end, first-skip}
+use Rattle.answer.proofs.Orders.{passes, fails, first_begin, first_step, first_stop, first_end, first_skip}
 
 -- of the places `from` up to `end`, whose first fault is `whole`, those from i on are left
 pub record Left (f : ℕ → Fault) (whole : Fault) (from end i : ℕ) : Type 0 where
   pub begun : from ≤ i
   pub on : i ≤ end
-  pub order : whole ≡ first_of f i (end - i)
+  pub order : whole ≡ first_fault f i (end - i)
 
 module _ (f : ℕ → Fault) where
   -- the k places from `from` on
-  pub begin : (from k end : ℕ) → from + k ≡ end → Left f (first_of f from k) from end from
-  begin from k end e = record { begun = omega arith; on = omega arith; order = first-begin f from k end e }
+  pub begin : (from k end : ℕ) → from + k ≡ end → Left f (first_fault f from k) from end from
+  begin from k end e = record { begun = omega arith; on = omega arith; order = first_begin f from k end e }
 
   module _ (whole : Fault) (from end i : ℕ) (l : Left f whole from end i) where
     -- what the rest gives is what all give
-    pub rest : (r : Fault) → r ≡ first_of f i (end - i) → r ≡ whole
+    pub rest : (r : Fault) → r ≡ first_fault f i (end - i) → r ≡ whole
     rest r e = e ∙ sym l.order
 
-    pub done : end ≤ i → (r : Fault) → r ≡ noFault → r ≡ whole
-    done h r e = rest r (e ∙ sym (first-end f i end h))
+    pub done : end ≤ i → (r : Fault) → r ≡ no_fault → r ≡ whole
+    done h r e = rest r (e ∙ sym (first_end f i end h))
 
     -- several places that have no fault
     pub skip : (n : ℕ) → i + n ≤ end → ((j : ℕ) → j < n → good (f (i + j)) ≡ true) → Left f whole from end (i + n)
-    skip n h g = record { begun = omega (arith, l.begun); on = h; order = l.order ∙ first-skip f i n end h g }
+    skip n h g = record { begun = omega (arith, l.begun); on = h; order = l.order ∙ first_skip f i n end h g }
 
     -- one place: r is its fault, and its number was tested
     module _ (here : i < end) (r : Fault) (e : r ≡ f i) where
       pub stop : (r.number ≡ 0 → ⊥) → r ≡ whole
-      stop h = rest r (e ∙ sym (first-stop f i end here (fails r (f i) e h)))
+      stop h = rest r (e ∙ sym (first_stop f i end here (fails r (f i) e h)))
 
       pub again : r.number ≡ 0 → Left f whole from end (i + 1)
       again h = record { begun = omega (arith, l.begun); on = omega arith; order = l.order ∙ first_step f i end here (passes r (f i) e h) }

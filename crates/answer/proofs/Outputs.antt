@@ -4,23 +4,23 @@ use mathlib.Core.Bool.{Bool, true, false, cond}
 use mathlib.Core.List.{List, ◌++◌}
 use lib.ListN.{length, take, drop}
 use lib.Seq.{take_at, drop_at}
-use Rattle.answer.specs.Faults.{good, given, filledInto}
+use Rattle.answer.specs.Faults.{good, given, filled_into}
 use Rattle.answer.specs.declared.Fault.{Fault}
 
-pub refused-keeps : {A : Type 0} (a : Fault) (xs out : List A) → good a ≡ false → filledInto a xs out ≡ out
-unfolding filledInto given
-refused-keeps a xs out h = ap (λ (t : Bool). cond t (xs ++ drop (length xs) out) out) h
+pub refused_keeps : {A : Type 0} (a : Fault) (xs out : List A) → good a ≡ false → filled_into a xs out ≡ out
+unfolding filled_into given
+refused_keeps a xs out h = ap (λ (t : Bool). cond t (xs ++ drop (length xs) out) out) h
 
-pub filled-good : {A : Type 0} (a : Fault) (xs out : List A) → good a ≡ true → filledInto a xs out ≡ xs ++ drop (length xs) out
-unfolding filledInto given
-filled-good a xs out h = ap (λ (t : Bool). cond t (xs ++ drop (length xs) out) out) h
+pub filled_good : {A : Type 0} (a : Fault) (xs out : List A) → good a ≡ true → filled_into a xs out ≡ xs ++ drop (length xs) out
+unfolding filled_into given
+filled_good a xs out h = ap (λ (t : Bool). cond t (xs ++ drop (length xs) out) out) h
 
-pub given-front : {A : Type 0} (a : Fault) (xs out : List A) → good a ≡ true → take (length xs) (filledInto a xs out) ≡ xs
-given-front a xs out h = ap (take (length xs)) (filled-good a xs out h) ∙ take_at xs (drop (length xs) out) (length xs) refl
+pub given_front : {A : Type 0} (a : Fault) (xs out : List A) → good a ≡ true → take (length xs) (filled_into a xs out) ≡ xs
+given_front a xs out h = ap (take (length xs)) (filled_good a xs out h) ∙ take_at xs (drop (length xs) out) (length xs) refl
 
-pub beyond-kept : {A : Type 0} (a : Fault) (xs out : List A) → drop (length xs) (filledInto a xs out) ≡ drop (length xs) out
-unfolding filledInto given
-beyond-kept a xs out = go (good a)
+pub beyond_kept : {A : Type 0} (a : Fault) (xs out : List A) → drop (length xs) (filled_into a xs out) ≡ drop (length xs) out
+unfolding filled_into given
+beyond_kept a xs out = go (good a)
   where
     go : (t : Bool) → drop (length xs) (cond t (xs ++ drop (length xs) out) out) ≡ drop (length xs) out
     go true = drop_at xs (drop (length xs) out) (length xs) refl

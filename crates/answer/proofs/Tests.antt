@@ -6,9 +6,9 @@ use borrow.Author.Tests.{ltb-true, ltb-false, eqb-true, eqb-false}
 use lib.Dec.{eqb, ltb}
 use Rattle.answer.proofs.Orders.{clash}
 
-pub and-false : (p q : Bool) → q ≡ false → p && q ≡ false
-and-false true q e = e
-and-false false q e = refl
+pub and_false : (p q : Bool) → q ≡ false → p && q ≡ false
+and_false true q e = e
+and_false false q e = refl
 
 pub and_left : (p q : Bool) → p && q ≡ true → p ≡ true
 and_left true q e = refl
@@ -22,9 +22,9 @@ pub or_right : (p q : Bool) → q ≡ true → p || q ≡ true
 or_right true q e = refl
 or_right false q e = e
 
-pub not-false : (b : Bool) → not b ≡ false → b ≡ true
-not-false true e = refl
-not-false false e = sym e
+pub not_false : (b : Bool) → not b ≡ false → b ≡ true
+not_false true e = refl
+not_false false e = sym e
 
 pub neither_left : (p q : Bool) → p || q ≡ false → p ≡ false
 neither_left true q e = e
@@ -40,15 +40,15 @@ either P true x y p q = p
 either P false x y p q = q
 
 -- what holds where a number is below another and where it is not, and the same of equal ones
-pub by-lt : {P : Type 0} (a b : ℕ) → (a < b → P) → (b ≤ a → P) → P
-by-lt {P} a b y n = go (ltb a b) (ltb-true a b) (ltb-false a b)
+pub by_lt : {P : Type 0} (a b : ℕ) → (a < b → P) → (b ≤ a → P) → P
+by_lt {P} a b y n = go (ltb a b) (ltb-true a b) (ltb-false a b)
   where
     go : (t : Bool) → (t ≡ true → a < b) → (t ≡ false → b ≤ a) → P
     go true p q = y (p refl)
     go false p q = n (q refl)
 
-pub by-eq : {P : Type 0} (a b : ℕ) → (a ≡ b → P) → ((a ≡ b → ⊥) → P) → P
-by-eq {P} a b y n = go (eqb a b) (eqb-true a b) (eqb-false a b)
+pub by_eq : {P : Type 0} (a b : ℕ) → (a ≡ b → P) → ((a ≡ b → ⊥) → P) → P
+by_eq {P} a b y n = go (eqb a b) (eqb-true a b) (eqb-false a b)
   where
     go : (t : Bool) → (t ≡ true → a ≡ b) → (t ≡ false → a ≡ b → ⊥) → P
     go true p q = y (p refl)

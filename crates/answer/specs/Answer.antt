@@ -6,12 +6,12 @@ use Rattle.answer.specs.declared.Fault.{Fault}
 use Rattle.answer.specs.declared.Answer.{Answer}
 
 -- +0.0
-abbrev pub plusZero : Float
-plusZero = fin false 0 (pos 0)
+abbrev pub plus_zero : Float
+plus_zero = fin false 0 (pos 0)
 
 -- "A refusal has value +0.0"
 unfoldable pub refused : Fault → Answer
-refused f = record { number = f.number; axis = f.axis; place = f.place; value = plusZero }
+refused f = record { number = f.number; axis = f.axis; place = f.place; value = plus_zero }
 
 -- "Success is 0, 0, 0 and the value"
 unfoldable pub answered : Float → Answer
@@ -19,7 +19,7 @@ answered value = record { number = 0; axis = 0; place = 0; value = value }
 
 -- "(+0.0 where a call gives none)"
 unfoldable pub fine : Answer
-fine = answered plusZero
+fine = answered plus_zero
 
 -- what a call answers: the fault that its checks find, else what follows
 infixr 15 ◌then◌

@@ -1,6 +1,6 @@
 // What judges gives a fault. The answer that all calls share is made of a fault or of a value, here and nowhere else.
 ghost use Rattle.std.specs.Prelude.{◌≡◌};
-ghost use Rattle.answer.specs.Faults.{refusal, noFault, when, ◌or◌};
+ghost use Rattle.answer.specs.Faults.{refusal, no_fault, when, ◌or◌};
 ghost use Rattle.answer.specs.Answer.{refused, answered, fine};
 
 // What is wrong, and where: its number, axis and place. The number 0 says that nothing is.
@@ -34,7 +34,7 @@ pub fn refusal(number: u32, axis: usize, place: usize) -> Fault
 
 // Nothing is wrong.
 pub fn no_fault() -> Fault
-    ensures { result ≡ noFault }
+    ensures { result ≡ no_fault }
 {
     refusal(0, 0, 0)
 }

@@ -3,14 +3,14 @@ use Rattle.std.specs.Prelude.{ℕ, ◌+◌, ◌-◌, min, Bool, cond, List, [], 
 use Rattle.std.specs.Float.Ieee.{lt}
 
 -- how many nodes pass a test
-unfoldable pub howMany : (Float → Bool) → List Float → ℕ
-howMany test [] = 0
-howMany test (x ∷ xs) = cond (test x) 1 0 + howMany test xs
+unfoldable pub how_many : (Float → Bool) → List Float → ℕ
+how_many test [] = 0
+how_many test (x ∷ xs) = cond (test x) 1 0 + how_many test xs
 
 -- "the count of nodes strictly below the reading"
-abbrev pub countBelow : List Float → Float → ℕ
-countBelow nodes p = howMany (λ x. lt x p) nodes
+abbrev pub count_below : List Float → Float → ℕ
+count_below nodes p = how_many (λ x. lt x p) nodes
 
 -- "less 1, held between 0 and n-2"
-unfoldable pub lowerIndex : List Float → Float → ℕ
-lowerIndex nodes p = min (countBelow nodes p - 1) (length nodes - 2)
+unfoldable pub lower_index : List Float → Float → ℕ
+lower_index nodes p = min (count_below nodes p - 1) (length nodes - 2)

@@ -6,5 +6,5 @@ use Rattle.rust.specs.declared.MaybeIndex.{MaybeIndex}
 use Rattle.rust.specs.declared.MaybeIndex.TheVariants.{Some, None}
 
 -- "lower if that node equals the reading, else lower+1 if that one does, else none"
-unfoldable pub exactNode : List Float → ℕ → Float → MaybeIndex
-exactNode nodes lower p = cond (eq (node nodes lower) p) (Some lower) (cond (eq (node nodes (lower + 1)) p) (Some (lower + 1)) None)
+unfoldable pub exact_node : List Float → ℕ → Float → MaybeIndex
+exact_node nodes lower p = cond (eq (node nodes lower) p) (Some lower) (cond (eq (node nodes (lower + 1)) p) (Some (lower + 1)) None)

@@ -2,7 +2,7 @@
 // compiler counts several at a time, and a reading that is anywhere costs the same.
 ghost use Rattle.std.specs.Prelude.{◌≡◌, ◌+◌, ◌<◌, ◌≤◌, length, if◌then◌else◌};
 ghost use Rattle.std.specs.Float.Ieee.{lt};
-ghost use Rattle.axis.specs.Cells.{countBelow, lowerIndex};
+ghost use Rattle.axis.specs.Cells.{count_below, lower_index};
 
 // 1 where a node lies strictly below the reading, else 0.
 fn one_if_below(node: f64, point: f64) -> usize
@@ -13,7 +13,7 @@ fn one_if_below(node: f64, point: f64) -> usize
 
 // How many nodes lie strictly below the reading.
 fn count_below(grid: &[f64], point: f64) -> usize
-    ensures { result ≡ countBelow grid.now point }
+    ensures { result ≡ count_below grid.now point }
 {
     let mut count: usize = 0;
     let mut i: usize = 0;
@@ -27,7 +27,7 @@ fn count_below(grid: &[f64], point: f64) -> usize
 // The lower node of the reading's cell, on an axis that has one.
 pub(crate) fn cell_index(grid: &[f64], point: f64) -> usize
     requires { 2 ≤ length grid.now }
-    ensures { (result ≡ lowerIndex grid.now point) × (result + 1 < length grid.now) }
+    ensures { (result ≡ lower_index grid.now point) × (result + 1 < length grid.now) }
 {
     let n = grid.len();
     let count = count_below(grid, point);
@@ -42,7 +42,7 @@ pub(crate) fn cell_index(grid: &[f64], point: f64) -> usize
 
 // The same of any nodes: 0 on fewer than two, which have no cell.
 pub fn lower_index(grid: &[f64], point: f64) -> usize
-    ensures { result ≡ lowerIndex grid.now point }
+    ensures { result ≡ lower_index grid.now point }
 {
     if grid.len() < 2 {
         return 0;

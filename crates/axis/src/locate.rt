@@ -1,7 +1,7 @@
 // The location of a reading: the exact node, or the cell with a fraction. By Linear's rule or by LinearUniform's.
 ghost use Rattle.std.specs.Prelude.{◌≡◌, ◌≤◌, length};
-ghost use Rattle.axis.specs.Locations.{axisLocation, locationIndex, uniformLocation};
-ghost use Rattle.axis.specs.Scaffolding.{locationFound};
+ghost use Rattle.axis.specs.Locations.{axis_location, location_index, uniform_location};
+ghost use Rattle.axis.specs.Scaffolding.{location_found};
 
 use crate::{cells, exact, uniform};
 use rust::{AxisLocation, MaybeIndex};
@@ -9,7 +9,7 @@ use rust::{AxisLocation, MaybeIndex};
 // The location by Linear's rule.
 fn axis_location(grid: &[f64], point: f64) -> AxisLocation
     requires { 2 ≤ length grid.now }
-    ensures { result ≡ axisLocation grid.now point }
+    ensures { result ≡ axis_location grid.now point }
 {
     let lower = cells::cell_index(grid, point);
     match exact::exact_node(grid, lower, point) {
@@ -24,7 +24,7 @@ fn axis_location(grid: &[f64], point: f64) -> AxisLocation
 // LinearUniform's: no exact shortcut, and the first gap for every cell.
 fn uniform_location(grid: &[f64], point: f64) -> AxisLocation
     requires { 2 ≤ length grid.now }
-    ensures { result ≡ uniformLocation grid.now point }
+    ensures { result ≡ uniform_location grid.now point }
 {
     let step = grid[1] - grid[0];
     let lower = uniform::uniform_index(grid[0], step, grid.len(), point);
@@ -34,7 +34,7 @@ fn uniform_location(grid: &[f64], point: f64) -> AxisLocation
 
 // The location by either rule; 0 and +0.0 on fewer than two nodes, which have no cell.
 pub fn location_by(uniform: bool, grid: &[f64], point: f64) -> AxisLocation
-    ensures { result ≡ locationFound uniform grid.now point }
+    ensures { result ≡ location_found uniform grid.now point }
 {
     if grid.len() < 2 {
         return AxisLocation::Between {
@@ -51,7 +51,7 @@ pub fn location_by(uniform: bool, grid: &[f64], point: f64) -> AxisLocation
 
 // The node of an exact axis, the lower one of any other.
 pub fn lower_node(location: AxisLocation) -> usize
-    ensures { result ≡ locationIndex location }
+    ensures { result ≡ location_index location }
 {
     match location {
         AxisLocation::Exact(node) => node,

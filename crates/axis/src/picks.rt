@@ -1,17 +1,17 @@
 // The node that a rule picks: Step's, by the Rust's own expressions, or Nearest's. A pick of 0 is Lower, of 1 Upper, of anything else
 // Nearest.
 ghost use Rattle.std.specs.Prelude.{◌≡◌, ◌≤◌, length};
-ghost use Rattle.axis.specs.Cells.{lowerIndex};
-ghost use Rattle.rust.specs.Utils.{lowerBy, upperBy};
-ghost use Rattle.axis.specs.Picks.{nearestIndex};
-ghost use Rattle.axis.specs.Scaffolding.{rustStep, pickFound};
+ghost use Rattle.axis.specs.Cells.{lower_index};
+ghost use Rattle.rust.specs.Utils.{lower_by, upper_by};
+ghost use Rattle.axis.specs.Picks.{nearest_index};
+ghost use Rattle.axis.specs.Scaffolding.{rust_step, pick_found};
 
 use crate::cells;
 
 // Step's lower node: a reading on a node lies in the cell below it, so the node is one further up.
 fn lower_step(grid: &[f64], point: f64) -> usize
     requires { 2 ≤ length grid.now }
-    ensures { result ≡ lowerBy grid.now (lowerIndex grid.now point) point }
+    ensures { result ≡ lower_by grid.now (lower_index grid.now point) point }
 {
     let n = grid.len();
     let lower = cells::cell_index(grid, point);
@@ -27,7 +27,7 @@ fn lower_step(grid: &[f64], point: f64) -> usize
 // Step's upper node.
 fn upper_step(grid: &[f64], point: f64) -> usize
     requires { 2 ≤ length grid.now }
-    ensures { result ≡ upperBy grid.now (lowerIndex grid.now point) point }
+    ensures { result ≡ upper_by grid.now (lower_index grid.now point) point }
 {
     if point == grid[0] {
         0
@@ -39,7 +39,7 @@ fn upper_step(grid: &[f64], point: f64) -> usize
 // Step's node by its direction.
 fn step_index(direction: u8, grid: &[f64], point: f64) -> usize
     requires { 2 ≤ length grid.now }
-    ensures { result ≡ rustStep direction grid.now point }
+    ensures { result ≡ rust_step direction grid.now point }
 {
     if direction == 0 {
         lower_step(grid, point)
@@ -51,7 +51,7 @@ fn step_index(direction: u8, grid: &[f64], point: f64) -> usize
 // Nearest's: the lower node where the reading is less far from it, as rounded, else the upper.
 fn nearest_index(grid: &[f64], point: f64) -> usize
     requires { 2 ≤ length grid.now }
-    ensures { result ≡ nearestIndex grid.now point }
+    ensures { result ≡ nearest_index grid.now point }
 {
     let lower = cells::cell_index(grid, point);
     if point - grid[lower] < grid[lower + 1] - point {
@@ -63,7 +63,7 @@ fn nearest_index(grid: &[f64], point: f64) -> usize
 
 // The index that a pick gives; 0 on fewer than two nodes, which have no cell.
 pub fn pick_index(pick: u8, grid: &[f64], point: f64) -> usize
-    ensures { result ≡ pickFound pick grid.now point }
+    ensures { result ≡ pick_found pick grid.now point }
 {
     if grid.len() < 2 {
         return 0;

@@ -1,11 +1,11 @@
 // The index of a reading on a uniform axis, for every input.
 ghost use Rattle.std.specs.Prelude.{◌≡◌};
-ghost use Rattle.axis.specs.Uniform.{uniformCell, uniformIndex};
+ghost use Rattle.axis.specs.Uniform.{uniform_cell, uniform_index};
 
 // The cell of t on a uniform axis: its whole part, at most the last cell; 0 where t is below 0, 2^64 or more or no number, and where there
 // is no cell.
 fn uniform_cell(n: usize, t: f64) -> usize
-    ensures { result ≡ uniformCell n t }
+    ensures { result ≡ uniform_cell n t }
 {
     if n < 2 {
         return 0;
@@ -23,7 +23,7 @@ fn uniform_cell(n: usize, t: f64) -> usize
 
 // The index by the first node and the step.
 pub fn uniform_index(first: f64, step: f64, n: usize, point: f64) -> usize
-    ensures { result ≡ uniformIndex first step n point }
+    ensures { result ≡ uniform_index first step n point }
 {
     uniform_cell(n, (point - first) / step)
 }

@@ -16,36 +16,36 @@ use lib.Ieee.Order.{round_mono}
 use lib.Ieee.Positive.{den, den_pos, above, above_of_le}
 use lib.Ieee.Scale.{round_same}
 use lib.Ieee.Bits.{is_true}
-use Rattle.binary64.proofs.Order.{Fin, left, right, over, under, lt-cross, le-cross, eq-cross, clash}
+use Rattle.binary64.proofs.Order.{Fin, left, right, over, under, lt_cross, le_cross, eq_cross, clash}
 use Rattle.binary64.proofs.Order as order
 
 -- ---- zeros
 abbrev pub naught : Bool → Float
 naught s = fin s 0 (pos 0)
 
-pub round-zero : (s : Bool) (c : ℕ) → 0 < c → round binary64 s 0 c ≡ naught s
+pub round_zero : (s : Bool) (c : ℕ) → 0 < c → round binary64 s 0 c ≡ naught s
 unfolding round
-round-zero s c h = round_same binary64 s 0 c 0 1 h (omega arith) (omega arith)
+round_zero s c h = round_same binary64 s 0 c 0 1 h (omega arith) (omega arith)
 
 -- a zero of either sign
 abbrev pub Zero : Float → Type 0
 Zero z = (z ≡ naught false) ⊎ (z ≡ naught true)
 
 -- ---- ±a / c - ±b / c where the two are equal
-level-same : (s : Bool) (a b c : ℕ) → a ≡ b → 0 < c → sum binary64 s a (not s) b c ≡ naught false
+level_same : (s : Bool) (a b c : ℕ) → a ≡ b → 0 < c → sum binary64 s a (not s) b c ≡ naught false
 unfolding sum
-level-same s a b c e h = ap (λ (z : ℕ). sum binary64 s a (not s) z c) (sym e) ∙ itself s
+level_same s a b c e h = ap (λ (z : ℕ). sum binary64 s a (not s) z c) (sym e) ∙ itself s
   where
     gone : a - a ≡ 0
     gone = omega arith
 
     itself : (t : Bool) → sum binary64 t a (not t) a c ≡ naught false
-    itself true = ap₂ (λ (u : Bool) (z : ℕ). cond u (round binary64 false z c) (round binary64 (true && u) z c)) (le-ltb a a (omega arith)) gone ∙ round-zero false c h
-    itself false = ap₂ (λ (u : Bool) (z : ℕ). cond u (round binary64 true z c) (round binary64 (false && u) z c)) (le-ltb a a (omega arith)) gone ∙ round-zero false c h
+    itself true = ap₂ (λ (u : Bool) (z : ℕ). cond u (round binary64 false z c) (round binary64 (true && u) z c)) (le-ltb a a (omega arith)) gone ∙ round_zero false c h
+    itself false = ap₂ (λ (u : Bool) (z : ℕ). cond u (round binary64 true z c) (round binary64 (false && u) z c)) (le-ltb a a (omega arith)) gone ∙ round_zero false c h
 
-level-opposite : (s : Bool) (a b c : ℕ) → a + b ≡ 0 → 0 < c → sum binary64 s a s b c ≡ naught s
+level_opposite : (s : Bool) (a b c : ℕ) → a + b ≡ 0 → 0 < c → sum binary64 s a s b c ≡ naught s
 unfolding sum
-level-opposite s a b c e h = added s ∙ ap (λ (z : ℕ). round binary64 s z c) e ∙ round-zero s c h
+level_opposite s a b c e h = added s ∙ ap (λ (z : ℕ). round binary64 s z c) e ∙ round_zero s c h
   where
     added : (t : Bool) → sum binary64 t a t b c ≡ round binary64 t (a + b) c
     added true = refl
@@ -53,9 +53,9 @@ level-opposite s a b c e h = added s ∙ ap (λ (z : ℕ). round binary64 s z c)
 
 -- ---- ±a / c - ±b / c, by the signs, where the first is the larger
 module _ (f : Format) (a b c : ℕ) where
-  both-over : b < a → sum f false a true b c ≡ round f false (a - b) c
+  both_over : b < a → sum f false a true b c ≡ round f false (a - b) c
   unfolding sum
-  both-over h = ap (λ (t : Bool). cond t (round f true (b - a) c) (round f false (a - b) c)) (le-ltb a b (omega arith))
+  both_over h = ap (λ (t : Bool). cond t (round f true (b - a) c) (round f false (a - b) c)) (le-ltb a b (omega arith))
 
   both_under : a < b → sum f true a false b c ≡ round f false (b - a) c
   unfolding sum
@@ -75,49 +75,49 @@ module _ (f : Format) (c : ℕ) where
 
 -- the signs' cases on plain numbers
 module _ (f : Format) (A B p q : ℕ) where
-  case-ff : B * p + 0 * q < A * q + 0 * p → sum f false (A * q) true (B * p) (p * q) ≡ round f false (A * q + 0 * p - (B * p + 0 * q)) (p * q)
-  case-ff h = both-over f (A * q) (B * p) (p * q) (omega arith) ∙ same f (p * q) _ _ (omega arith)
+  case_ff : B * p + 0 * q < A * q + 0 * p → sum f false (A * q) true (B * p) (p * q) ≡ round f false (A * q + 0 * p - (B * p + 0 * q)) (p * q)
+  case_ff h = both_over f (A * q) (B * p) (p * q) (omega arith) ∙ same f (p * q) _ _ (omega arith)
 
-  case-ft : sum f false (A * q) false (B * p) (p * q) ≡ round f false (A * q + B * p - (0 * p + 0 * q)) (p * q)
-  case-ft = across f (A * q) (B * p) (p * q) ∙ same f (p * q) _ _ (omega arith)
+  case_ft : sum f false (A * q) false (B * p) (p * q) ≡ round f false (A * q + B * p - (0 * p + 0 * q)) (p * q)
+  case_ft = across f (A * q) (B * p) (p * q) ∙ same f (p * q) _ _ (omega arith)
 
-  case-tt : 0 * p + A * q < 0 * q + B * p → sum f true (A * q) false (B * p) (p * q) ≡ round f false (0 * q + B * p - (0 * p + A * q)) (p * q)
-  case-tt h = both_under f (A * q) (B * p) (p * q) (omega arith) ∙ same f (p * q) _ _ (omega arith)
+  case_tt : 0 * p + A * q < 0 * q + B * p → sum f true (A * q) false (B * p) (p * q) ≡ round f false (0 * q + B * p - (0 * p + A * q)) (p * q)
+  case_tt h = both_under f (A * q) (B * p) (p * q) (omega arith) ∙ same f (p * q) _ _ (omega arith)
 
-cross-of : (y x : Float) → Fin y → Fin x → lt y x ≡ true → left y x < right y x
-cross-of y x g h l = ltb-true (left y x) (right y x) (sym (lt-cross y x g h) ∙ l)
+cross_of : (y x : Float) → Fin y → Fin x → lt y x ≡ true → left y x < right y x
+cross_of y x g h l = ltb-true (left y x) (right y x) (sym (lt_cross y x g h) ∙ l)
 
-by-signs : (f : Format) (x y : Float) → Fin x → Fin y → left y x < right y x → sub f x y ≡ round f false (right y x - left y x) (den x * den y)
-by-signs f nan y h g l = clash (sym h)
-by-signs f (inf s) y h g l = clash (sym h)
-by-signs f (fin s m e) nan h g l = clash (sym g)
-by-signs f (fin s m e) (inf t) h g l = clash (sym g)
-by-signs f (fin false m e) (fin false n d) h g l = opened f false false m n e d ∙ case-ff f (m * up e) (n * up d) (down e) (down d) l
-by-signs f (fin false m e) (fin true n d) h g l = opened f false true m n e d ∙ case-ft f (m * up e) (n * up d) (down e) (down d)
-by-signs f (fin true m e) (fin false n d) h g l = absurd (omega arith)
-by-signs f (fin true m e) (fin true n d) h g l = opened f true true m n e d ∙ case-tt f (m * up e) (n * up d) (down e) (down d) l
+by_signs : (f : Format) (x y : Float) → Fin x → Fin y → left y x < right y x → sub f x y ≡ round f false (right y x - left y x) (den x * den y)
+by_signs f nan y h g l = clash (sym h)
+by_signs f (inf s) y h g l = clash (sym h)
+by_signs f (fin s m e) nan h g l = clash (sym g)
+by_signs f (fin s m e) (inf t) h g l = clash (sym g)
+by_signs f (fin false m e) (fin false n d) h g l = opened f false false m n e d ∙ case_ff f (m * up e) (n * up d) (down e) (down d) l
+by_signs f (fin false m e) (fin true n d) h g l = opened f false true m n e d ∙ case_ft f (m * up e) (n * up d) (down e) (down d)
+by_signs f (fin true m e) (fin false n d) h g l = absurd (omega arith)
+by_signs f (fin true m e) (fin true n d) h g l = opened f true true m n e d ∙ case_tt f (m * up e) (n * up d) (down e) (down d) l
 
-level-signs : (x y : Float) → Fin x → Fin y → left x y ≡ right x y → Zero (sub binary64 x y)
-level-signs nan y h g l = clash (sym h)
-level-signs (inf s) y h g l = clash (sym h)
-level-signs (fin s m e) nan h g l = clash (sym g)
-level-signs (fin s m e) (inf t) h g l = clash (sym g)
-level-signs (fin false m e) (fin false n d) h g l =
-    inl (opened binary64 false false m n e d ∙ level-same false (m * up e * down d) (n * up d * down e) (down e * down d) (omega arith) (mul-pos (down_pos e) (down_pos d)))
-level-signs (fin false m e) (fin true n d) h g l =
-    inl (opened binary64 false true m n e d ∙ level-opposite false (m * up e * down d) (n * up d * down e) (down e * down d) (omega arith) (mul-pos (down_pos e) (down_pos d)))
-level-signs (fin true m e) (fin false n d) h g l =
-    inr (opened binary64 true false m n e d ∙ level-opposite true (m * up e * down d) (n * up d * down e) (down e * down d) (omega arith) (mul-pos (down_pos e) (down_pos d)))
-level-signs (fin true m e) (fin true n d) h g l =
-    inl (opened binary64 true true m n e d ∙ level-same true (m * up e * down d) (n * up d * down e) (down e * down d) (omega arith) (mul-pos (down_pos e) (down_pos d)))
+level_signs : (x y : Float) → Fin x → Fin y → left x y ≡ right x y → Zero (sub binary64 x y)
+level_signs nan y h g l = clash (sym h)
+level_signs (inf s) y h g l = clash (sym h)
+level_signs (fin s m e) nan h g l = clash (sym g)
+level_signs (fin s m e) (inf t) h g l = clash (sym g)
+level_signs (fin false m e) (fin false n d) h g l =
+    inl (opened binary64 false false m n e d ∙ level_same false (m * up e * down d) (n * up d * down e) (down e * down d) (omega arith) (mul-pos (down_pos e) (down_pos d)))
+level_signs (fin false m e) (fin true n d) h g l =
+    inl (opened binary64 false true m n e d ∙ level_opposite false (m * up e * down d) (n * up d * down e) (down e * down d) (omega arith) (mul-pos (down_pos e) (down_pos d)))
+level_signs (fin true m e) (fin false n d) h g l =
+    inr (opened binary64 true false m n e d ∙ level_opposite true (m * up e * down d) (n * up d * down e) (down e * down d) (omega arith) (mul-pos (down_pos e) (down_pos d)))
+level_signs (fin true m e) (fin true n d) h g l =
+    inl (opened binary64 true true m n e d ∙ level_same true (m * up e * down d) (n * up d * down e) (down e * down d) (omega arith) (mul-pos (down_pos e) (down_pos d)))
 
 -- x - y for x equal to y, plus and minus zero being equal
-pub sub-level : (x y : Float) → Fin x → Fin y → eq x y ≡ true → Zero (sub binary64 x y)
-sub-level x y h g l = level-signs x y h g (eqb-true (left x y) (right x y) (sym (eq-cross x y h g) ∙ l))
+pub sub_level : (x y : Float) → Fin x → Fin y → eq x y ≡ true → Zero (sub binary64 x y)
+sub_level x y h g l = level_signs x y h g (eqb-true (left x y) (right x y) (sym (eq_cross x y h g) ∙ l))
 
 -- x - y for y < x
 pub sub_is : (f : Format) (x y : Float) → Fin x → Fin y → lt y x ≡ true → sub f x y ≡ round f false (right y x - left y x) (den x * den y)
-sub_is f x y h g l = by-signs f x y h g (cross-of y x g h l)
+sub_is f x y h g l = by_signs f x y h g (cross_of y x g h l)
 
 -- ---- p - y ≤ x - y for y < p ≤ x
 widen : (P N D P' N' D' P'' N'' D'' : ℕ)
@@ -128,12 +128,12 @@ widen P N D P' N' D' P'' N'' D'' h k l = go (P' * D + N * D' - (P * D' + N' * D)
     go : (u v : ℕ) → P * D' + N' * D + u ≡ P' * D + N * D' → P * D'' + N'' * D + v ≡ P'' * D + N * D'' → u * (D'' * D) ≤ v * (D' * D)
     go u v a b = omega (arith, ap (λ (z : ℕ). z * (D'' * D)) a, ap (λ (z : ℕ). z * (D' * D)) b, mul-le-mul_right (D * D) l)
 
-pub sub-grows : (f : Format) (x p y : Float) → Fin x → Fin p → Fin y → lt y p ≡ true → lt y x ≡ true → le p x ≡ true → T (le (sub f p y) (sub f x y))
-sub-grows f x p y fx fp fy h k l =
+pub sub_grows : (f : Format) (x p y : Float) → Fin x → Fin p → Fin y → lt y p ≡ true → lt y x ≡ true → le p x ≡ true → T (le (sub f p y) (sub f x y))
+sub_grows f x p y fx fp fy h k l =
     subst (λ (z : Float). T (le z (sub f x y))) (sym (sub_is f p y fp fy h))
     (subst (λ (z : Float). T (le (round f false (right y p - left y p) (den p * den y)) z)) (sym (sub_is f x y fx fy k))
     (round_mono f (right y p - left y p) (den p * den y) (right y x - left y x) (den x * den y) (mul-pos (den_pos p) (den_pos y)) (mul-pos (den_pos x) (den_pos y))
-    (widen (over y) (under y) (den y) (over p) (under p) (den p) (over x) (under x) (den x) (cross-of y p fy fp h) (cross-of y x fy fx k) (leb-true (left p x) (right p x) (sym (le-cross p x fp fx) ∙ l)))))
+    (widen (over y) (under y) (den y) (over p) (under p) (den p) (over x) (under x) (den x) (cross_of y p fy fp h) (cross_of y x fy fx k) (leb-true (left p x) (right p x) (sym (le_cross p x fp fx) ∙ l)))))
 
 -- ---- x - y is above zero for y < x, where the format holds both: it is a whole number of the format's smallest values
 pub either : (i j : ℕ) → (i ≤ j) ⊎ (j < i)
@@ -162,8 +162,8 @@ module _ (P N D P' N' D' G : ℕ) (a : D ≤ G) (b : D' ≤ G) (lt : P * D' + N'
       in
       subst (λ (z : ℕ). z ≤ (P' * D + N * D' - (P * D' + N' * D)) * G) (mul_comm D D') (mul-le-mul g b)
 
-  by-second : (k : ℕ) → D ≡ D' * k → D' * D ≤ (P' * D + N * D' - (P * D' + N' * D)) * G
-  by-second k e =
+  by_second : (k : ℕ) → D ≡ D' * k → D' * D ≤ (P' * D + N * D' - (P * D' + N' * D)) * G
+  by_second k e =
       let g : D' ≤ P' * D + N * D' - (P * D' + N' * D) =
       whole-gap D' (P' * D + N * D') (P * D' + N' * D) (P' * k + N) (P + N' * k) (omega (arith, ap (λ (z : ℕ). P' * z) e)) (omega (arith, ap (λ (z : ℕ). N' * z) e)) lt
       in
@@ -189,19 +189,19 @@ exponent nan = 0
 exponent (inf s) = 0
 exponent (fin s m e) = place e
 
-pub den-is : (x : Float) → den x ≡ 2 ^ exponent x
+pub den_is : (x : Float) → den x ≡ 2 ^ exponent x
 unfolding exponent
-den-is nan = refl
-den-is (inf s) = refl
-den-is (fin s m e) = down_is e
+den_is nan = refl
+den_is (inf s) = refl
+den_is (fin s m e) = down_is e
 
-pub noFault : (x : Float) → T (fits binary64 x) → den x ≤ 2 ^ 1074
+pub no_fault : (x : Float) → T (fits binary64 x) → den x ≤ 2 ^ 1074
 unfolding fits
-noFault nan t = lit≤ tt
-noFault (inf s) t = lit≤ tt
-noFault (fin s zero (pos k)) t = lit≤ tt
-noFault (fin s zero (negsuc k)) t = let e : 1 * 2 ^ suc k ≡ 1 = eqb→eq (1 * 2 ^ suc k) 1 t in le_trans (omega arith) (lit≤ {m = 1} {n = 2 ^ 1074} tt)
-noFault (fin s (suc m) e) t = leb→le (down e) (2 ^ 1074) (third (eqb (suc m % 2) 1) (ltb (suc m) (2 ^ 53)) (leb (down e) (2 ^ 1074)) (ltb (suc m * up e) (2 ^ 1024 * down e)) t)
+no_fault nan t = lit≤ tt
+no_fault (inf s) t = lit≤ tt
+no_fault (fin s zero (pos k)) t = lit≤ tt
+no_fault (fin s zero (negsuc k)) t = let e : 1 * 2 ^ suc k ≡ 1 = eqb→eq (1 * 2 ^ suc k) 1 t in le_trans (omega arith) (lit≤ {m = 1} {n = 2 ^ 1074} tt)
+no_fault (fin s (suc m) e) t = leb→le (down e) (2 ^ 1074) (third (eqb (suc m % 2) 1) (ltb (suc m) (2 ^ 53)) (leb (down e) (2 ^ 1074)) (ltb (suc m * up e) (2 ^ 1024 * down e)) t)
   where
     third : (p q r s : Bool) → T (p && q && r && s) → T r
     third true true true s t = tt
@@ -209,91 +209,91 @@ noFault (fin s (suc m) e) t = leb→le (down e) (2 ^ 1074) (third (eqb (suc m % 
     third true false r s t = absurd t
     third false q r s t = absurd t
 
-least-is : round binary64 false 1 (2 ^ 1074) ≡ fin false 1 (negsuc 1073)
+least_is : round binary64 false 1 (2 ^ 1074) ≡ fin false 1 (negsuc 1073)
 unfolding round
-least-is = refl
+least_is = refl
 
-sub-high : (x y : Float) → Fin x → Fin y → T (fits binary64 x) → T (fits binary64 y) → lt y x ≡ true → T (above (sub binary64 x y))
-sub-high x y fx fy tx ty l =
+sub_high : (x y : Float) → Fin x → Fin y → T (fits binary64 x) → T (fits binary64 y) → lt y x ≡ true → T (above (sub binary64 x y))
+sub_high x y fx fy tx ty l =
     above_of_le (fin false 1 (negsuc 1073)) (sub binary64 x y) tt
     (subst (λ (z : Float). T (le (fin false 1 (negsuc 1073)) z)) (sym (sub_is binary64 x y fx fy l))
-    (subst (λ (z : Float). T (le z (round binary64 false (right y x - left y x) (den x * den y)))) least-is
+    (subst (λ (z : Float). T (le z (round binary64 false (right y x - left y x) (den x * den y)))) least_is
     (round_mono binary64 1 (2 ^ 1074) (right y x - left y x) (den x * den y) (lit< tt) (mul-pos (den_pos x) (den_pos y)) (subst (λ (z : ℕ). z ≤ (right y x - left y x) * 2 ^ 1074) (sym (one-mul (den x * den y))) far))))
   where
     far : den x * den y ≤ (right y x - left y x) * 2 ^ 1074
     far = elim (either (exponent y) (exponent x)) [
-      | inl h ↦ by_first (over y) (under y) (den y) (over x) (under x) (den x) (2 ^ 1074) (noFault y ty) (noFault x tx) (cross-of y x fy fx l) (2 ^ (exponent x - exponent y)) (den-is x ∙ divides (exponent y) (exponent x) h ∙ ap (λ (z : ℕ). z * 2 ^ (exponent x - exponent y)) (sym (den-is y)))
-      | inr h ↦ by-second (over y) (under y) (den y) (over x) (under x) (den x) (2 ^ 1074) (noFault y ty) (noFault x tx) (cross-of y x fy fx l) (2 ^ (exponent y - exponent x)) (den-is y ∙ divides (exponent x) (exponent y) (le_of_lt h) ∙ ap (λ (z : ℕ). z * 2 ^ (exponent y - exponent x)) (sym (den-is x)))
+      | inl h ↦ by_first (over y) (under y) (den y) (over x) (under x) (den x) (2 ^ 1074) (no_fault y ty) (no_fault x tx) (cross_of y x fy fx l) (2 ^ (exponent x - exponent y)) (den_is x ∙ divides (exponent y) (exponent x) h ∙ ap (λ (z : ℕ). z * 2 ^ (exponent x - exponent y)) (sym (den_is y)))
+      | inr h ↦ by_second (over y) (under y) (den y) (over x) (under x) (den x) (2 ^ 1074) (no_fault y ty) (no_fault x tx) (cross_of y x fy fx l) (2 ^ (exponent y - exponent x)) (den_is y ∙ divides (exponent x) (exponent y) (le_of_lt h) ∙ ap (λ (z : ℕ). z * 2 ^ (exponent y - exponent x)) (sym (den_is x)))
     ]
 
-above-lt : (z : Float) → T (above z) → lt (naught false) z ≡ true
+above_lt : (z : Float) → T (above z) → lt (naught false) z ≡ true
 unfolding lt
-above-lt nan t = absurd t
-above-lt (inf s) t = is_true (not s) t
-above-lt (fin true m e) t = absurd t
-above-lt (fin false m e) t = lt-ltb (0 * 1 * down e) (m * up e * 1) (let h : 0 < m * up e = mul-pos (ltb→lt 0 m t) (up_pos e) in omega (arith, zero-mul (down e)))
+above_lt nan t = absurd t
+above_lt (inf s) t = is_true (not s) t
+above_lt (fin true m e) t = absurd t
+above_lt (fin false m e) t = lt-ltb (0 * 1 * down e) (m * up e * 1) (let h : 0 < m * up e = mul-pos (ltb→lt 0 m t) (up_pos e) in omega (arith, zero-mul (down e)))
 
 -- the difference of two numbers, the first above the second, is above zero
-pub sub-above : (x y : Float) → Fin x → Fin y → T (fits binary64 x) → T (fits binary64 y) → lt y x ≡ true → lt (naught false) (sub binary64 x y) ≡ true
-sub-above x y fx fy tx ty l = above-lt (sub binary64 x y) (sub-high x y fx fy tx ty l)
+pub sub_above : (x y : Float) → Fin x → Fin y → T (fits binary64 x) → T (fits binary64 y) → lt y x ≡ true → lt (naught false) (sub binary64 x y) ≡ true
+sub_above x y fx fy tx ty l = above_lt (sub binary64 x y) (sub_high x y fx fy tx ty l)
 
 -- ---- it keeps the order
-pub round-not-below : (a c : ℕ) → 0 < c → le (naught false) (round binary64 false a c) ≡ true
-round-not-below a c h =
-    subst (λ (z : Float). le z (round binary64 false a c) ≡ true) (round-zero false 1 (omega arith))
+pub round_not_below : (a c : ℕ) → 0 < c → le (naught false) (round binary64 false a c) ≡ true
+round_not_below a c h =
+    subst (λ (z : Float). le z (round binary64 false a c) ≡ true) (round_zero false 1 (omega arith))
     (is_true (le (round binary64 false 0 1) (round binary64 false a c)) (round_mono binary64 0 1 a c (omega arith) h (omega arith)))
 
-le-zeros : (a b : Float) → Zero a → Zero b → le a b ≡ true
+le_zeros : (a b : Float) → Zero a → Zero b → le a b ≡ true
 unfolding le lt eq
-le-zeros a b (inl p) (inl q) = rw (p, q)
-le-zeros a b (inl p) (inr q) = rw (p, q)
-le-zeros a b (inr p) (inl q) = rw (p, q)
-le-zeros a b (inr p) (inr q) = rw (p, q)
+le_zeros a b (inl p) (inl q) = rw (p, q)
+le_zeros a b (inl p) (inr q) = rw (p, q)
+le_zeros a b (inr p) (inl q) = rw (p, q)
+le_zeros a b (inr p) (inr q) = rw (p, q)
 
-le-minus-zero : (y : Float) → le (naught false) y ≡ true → le (naught true) y ≡ true
+le_minus_zero : (y : Float) → le (naught false) y ≡ true → le (naught true) y ≡ true
 unfolding le lt eq
-le-minus-zero nan q = q
-le-minus-zero (inf s) q = q
-le-minus-zero (fin s m e) q = order.le_trans (naught true) (naught false) (fin s m e) refl refl refl refl q
+le_minus_zero nan q = q
+le_minus_zero (inf s) q = q
+le_minus_zero (fin s m e) q = order.le_trans (naught true) (naught false) (fin s m e) refl refl refl refl q
 
-le-zero-round : (z : Float) (a c : ℕ) → Zero z → 0 < c → le z (round binary64 false a c) ≡ true
-le-zero-round z a c (inl p) h = rw p (round-not-below a c h)
-le-zero-round z a c (inr p) h = rw p (le-minus-zero (round binary64 false a c) (round-not-below a c h))
+le_zero_round : (z : Float) (a c : ℕ) → Zero z → 0 < c → le z (round binary64 false a c) ≡ true
+le_zero_round z a c (inl p) h = rw p (round_not_below a c h)
+le_zero_round z a c (inr p) h = rw p (le_minus_zero (round binary64 false a c) (round_not_below a c h))
 
 -- p - y ≤ x - y for y ≤ p ≤ x
 module _ (x p y : Float) (fx : Fin x) (fp : Fin p) (fy : Fin y) (l : le p x ≡ true) where
-  sub-keeps : (lt y p ≡ true) ⊎ (eq y p ≡ true) → (lt y x ≡ true) ⊎ (eq y x ≡ true) → le (sub binary64 p y) (sub binary64 x y) ≡ true
-  sub-keeps (inl h) (inl k) = is_true (le (sub binary64 p y) (sub binary64 x y)) (sub-grows binary64 x p y fx fp fy h k l)
-  sub-keeps (inl h) (inr k) = clash (sym (order.lt_of_lt_of_le y p x fy fp fx h l) ∙ order.lt-of-eq y x fy fx k)
-  sub-keeps (inr h) (inl k) =
+  sub_keeps : (lt y p ≡ true) ⊎ (eq y p ≡ true) → (lt y x ≡ true) ⊎ (eq y x ≡ true) → le (sub binary64 p y) (sub binary64 x y) ≡ true
+  sub_keeps (inl h) (inl k) = is_true (le (sub binary64 p y) (sub binary64 x y)) (sub_grows binary64 x p y fx fp fy h k l)
+  sub_keeps (inl h) (inr k) = clash (sym (order.lt_of_lt_of_le y p x fy fp fx h l) ∙ order.lt_of_eq y x fy fx k)
+  sub_keeps (inr h) (inl k) =
       subst (λ (z : Float). le (sub binary64 p y) z ≡ true) (sym (sub_is binary64 x y fx fy k))
-      (le-zero-round (sub binary64 p y) (right y x - left y x) (den x * den y) (sub-level p y fp fy (order.eq-sym y p fy fp h)) (mul-pos (den_pos x) (den_pos y)))
-  sub-keeps (inr h) (inr k) = le-zeros (sub binary64 p y) (sub binary64 x y) (sub-level p y fp fy (order.eq-sym y p fy fp h)) (sub-level x y fx fy (order.eq-sym y x fy fx k))
+      (le_zero_round (sub binary64 p y) (right y x - left y x) (den x * den y) (sub_level p y fp fy (order.eq_sym y p fy fp h)) (mul-pos (den_pos x) (den_pos y)))
+  sub_keeps (inr h) (inr k) = le_zeros (sub binary64 p y) (sub binary64 x y) (sub_level p y fp fy (order.eq_sym y p fy fp h)) (sub_level x y fx fy (order.eq_sym y x fy fx k))
 
-  pub sub-keeps-order : le y p ≡ true → le (sub binary64 p y) (sub binary64 x y) ≡ true
-  sub-keeps-order h = sub-keeps (order.lt_or_eq_of_le y p fy fp h) (order.lt_or_eq_of_le y x fy fx (order.le_trans y p x fy fp fx h l))
+  pub sub_keeps_order : le y p ≡ true → le (sub binary64 p y) (sub binary64 x y) ≡ true
+  sub_keeps_order h = sub_keeps (order.lt_or_eq_of_le y p fy fp h) (order.lt_or_eq_of_le y x fy fx (order.le_trans y p x fy fp fx h l))
 
 -- 0 ≤ x - y for y ≤ x
-pub sub-not-below : (x y : Float) → Fin x → Fin y → le y x ≡ true → le (naught false) (sub binary64 x y) ≡ true
-sub-not-below x y fx fy l = go (order.lt_or_eq_of_le y x fy fx l)
+pub sub_not_below : (x y : Float) → Fin x → Fin y → le y x ≡ true → le (naught false) (sub binary64 x y) ≡ true
+sub_not_below x y fx fy l = go (order.lt_or_eq_of_le y x fy fx l)
   where
     go : (lt y x ≡ true) ⊎ (eq y x ≡ true) → le (naught false) (sub binary64 x y) ≡ true
-    go (inl h) = rw (sub_is binary64 x y fx fy h) (round-not-below (right y x - left y x) (den x * den y) (mul-pos (den_pos x) (den_pos y)))
-    go (inr h) = le-zeros (naught false) (sub binary64 x y) (inl refl) (sub-level x y fx fy (order.eq-sym y x fy fx h))
+    go (inl h) = rw (sub_is binary64 x y fx fy h) (round_not_below (right y x - left y x) (den x * den y) (mul-pos (den_pos x) (den_pos y)))
+    go (inr h) = le_zeros (naught false) (sub binary64 x y) (inl refl) (sub_level x y fx fy (order.eq_sym y x fy fx h))
 
 -- ---- a zero of either sign beside a number above zero
-pub zero-below : (a b : Float) → Zero a → lt (naught false) b ≡ true → lt a b ≡ true
+pub zero_below : (a b : Float) → Zero a → lt (naught false) b ≡ true → lt a b ≡ true
 unfolding lt
-zero-below a b (inl p) h = rw p h
-zero-below a nan (inr p) h = clash (sym h)
-zero-below a (inf t) (inr p) h = rw p h
-zero-below a (fin t n d) (inr p) h = rw p (order.lt_of_le_of_lt (naught true) (naught false) (fin t n d) refl refl refl (le-zeros (naught true) (naught false) (inr refl) (inl refl)) h)
+zero_below a b (inl p) h = rw p h
+zero_below a nan (inr p) h = clash (sym h)
+zero_below a (inf t) (inr p) h = rw p h
+zero_below a (fin t n d) (inr p) h = rw p (order.lt_of_le_of_lt (naught true) (naught false) (fin t n d) refl refl refl (le_zeros (naught true) (naught false) (inr refl) (inl refl)) h)
 
-pub not-below-zero : (a b : Float) → Zero a → lt (naught false) b ≡ true → lt b a ≡ false
+pub not_below_zero : (a b : Float) → Zero a → lt (naught false) b ≡ true → lt b a ≡ false
 unfolding lt
-not-below-zero a nan z h = clash (sym h)
-not-below-zero a (inf true) z h = clash (sym h)
-not-below-zero a (inf false) (inl p) h = rw p
-not-below-zero a (inf false) (inr p) h = rw p
-not-below-zero a (fin t n d) (inl p) h = rw p (order.lt-asym (naught false) (fin t n d) refl refl h)
-not-below-zero a (fin t n d) (inr p) h = rw p (order.lt-asym (naught true) (fin t n d) refl refl (zero-below (naught true) (fin t n d) (inr refl) h))
+not_below_zero a nan z h = clash (sym h)
+not_below_zero a (inf true) z h = clash (sym h)
+not_below_zero a (inf false) (inl p) h = rw p
+not_below_zero a (inf false) (inr p) h = rw p
+not_below_zero a (fin t n d) (inl p) h = rw p (order.lt_asym (naught false) (fin t n d) refl refl h)
+not_below_zero a (fin t n d) (inr p) h = rw p (order.lt_asym (naught true) (fin t n d) refl refl (zero_below (naught true) (fin t n d) (inr refl) h))

@@ -9,26 +9,26 @@ no : {A : Type 0} → false ≡ true → A
 no e = absurd (subst T (sym e) tt)
 
 -- whichever of two that are not finite
-either-wild : {A : Type 0} (b : Bool) (x y : Float) → finite x ≡ false → finite y ≡ false → finite (cond b x y) ≡ true → A
-either-wild true x y p q h = no (sym p ∙ h)
-either-wild false x y p q h = no (sym q ∙ h)
+either_wild : {A : Type 0} (b : Bool) (x y : Float) → finite x ≡ false → finite y ≡ false → finite (cond b x y) ≡ true → A
+either_wild true x y p q h = no (sym p ∙ h)
+either_wild false x y p q h = no (sym q ∙ h)
 
-pub add-finite : (x y : Float) → finite (add binary64 x y) ≡ true → (finite x ≡ true) × (finite y ≡ true)
+pub add_finite : (x y : Float) → finite (add binary64 x y) ≡ true → (finite x ≡ true) × (finite y ≡ true)
 unfolding add
-add-finite nan y h = no h
-add-finite (inf s) nan h = no h
-add-finite (inf s) (inf t) h = either-wild (beq s t) (inf s) nan refl refl h
-add-finite (inf s) (fin t n d) h = no h
-add-finite (fin s m e) nan h = no h
-add-finite (fin s m e) (inf t) h = no h
-add-finite (fin s m e) (fin t n d) h = (refl, refl)
+add_finite nan y h = no h
+add_finite (inf s) nan h = no h
+add_finite (inf s) (inf t) h = either_wild (beq s t) (inf s) nan refl refl h
+add_finite (inf s) (fin t n d) h = no h
+add_finite (fin s m e) nan h = no h
+add_finite (fin s m e) (inf t) h = no h
+add_finite (fin s m e) (fin t n d) h = (refl, refl)
 
-pub mul-finite : (x y : Float) → finite (mul binary64 x y) ≡ true → (finite x ≡ true) × (finite y ≡ true)
+pub mul_finite : (x y : Float) → finite (mul binary64 x y) ≡ true → (finite x ≡ true) × (finite y ≡ true)
 unfolding mul
-mul-finite nan y h = no h
-mul-finite (inf s) nan h = no h
-mul-finite (inf s) (inf t) h = no h
-mul-finite (inf s) (fin t n d) h = either-wild (eqb n 0) nan (inf (unlike s t)) refl refl h
-mul-finite (fin s m e) nan h = no h
-mul-finite (fin s m e) (inf t) h = either-wild (eqb m 0) nan (inf (unlike s t)) refl refl h
-mul-finite (fin s m e) (fin t n d) h = (refl, refl)
+mul_finite nan y h = no h
+mul_finite (inf s) nan h = no h
+mul_finite (inf s) (inf t) h = no h
+mul_finite (inf s) (fin t n d) h = either_wild (eqb n 0) nan (inf (unlike s t)) refl refl h
+mul_finite (fin s m e) nan h = no h
+mul_finite (fin s m e) (inf t) h = either_wild (eqb m 0) nan (inf (unlike s t)) refl refl h
+mul_finite (fin s m e) (fin t n d) h = (refl, refl)

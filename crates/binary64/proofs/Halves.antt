@@ -24,8 +24,8 @@ below_half q Ordering.lt h k = refl
 below_half q Ordering.eq h k = clash k
 below_half q Ordering.gt h k = clash (sym h)
 
-closest-half : (n u : ℕ) → 2 * (closest n u * u) ≤ 2 * n + u
-closest-half n u = ⊎_elim high low (either u (n % u * 2))
+closest_half : (n u : ℕ) → 2 * (closest n u * u) ≤ 2 * n + u
+closest_half n u = ⊎_elim high low (either u (n % u * 2))
   where
     parts : n / u * u + n % u ≡ n
     parts = div-add-mod' n u
@@ -49,11 +49,11 @@ module _ (n c : ℕ) (C : 0 < c) where
   abbrev last : ℕ
   last = 2 ^ drop 53 n c
 
-  pub rounded-half : 2 * (rounded n c * c) ≤ 2 * n + c * 2 ^ drop 53 n c
-  rounded-half = omega (arith, closest-half n (c * last))
+  pub rounded_half : 2 * (rounded n c * c) ≤ 2 * n + c * 2 ^ drop 53 n c
+  rounded_half = omega (arith, closest_half n (c * last))
 
-  kept-le : kept 53 n c ≤ 2 ^ 53
-  kept-le = le_trans (nearest-le (n / (c * last)) (compare (n % (c * last) * 2) (c * last))) (subst (λ (x : ℕ). x < 2 ^ 53) (div-div-eq-div-mul n c last) (kept-lt 53 (n / c)))
+  kept_le : kept 53 n c ≤ 2 ^ 53
+  kept_le = le_trans (nearest-le (n / (c * last)) (compare (n % (c * last) * 2) (c * last))) (subst (λ (x : ℕ). x < 2 ^ 53) (div-div-eq-div-mul n c last) (kept-lt 53 (n / c)))
 
   -- what is below 2 ^ (53 + j) drops j digits at most
   pub drop_le : (j : ℕ) → n < 2 ^ 53 * 2 ^ j * c → drop 53 n c ≤ j
@@ -62,15 +62,15 @@ module _ (n c : ℕ) (C : 0 < c) where
       omega (arith, k)
 
   -- where any digit is dropped, all 53 are in use
-  pub drop-reaches : 0 < drop 53 n c → 2 ^ 52 * (c * 2 ^ drop 53 n c) ≤ n
-  drop-reaches h =
+  pub drop_reaches : 0 < drop 53 n c → 2 ^ 52 * (c * 2 ^ drop 53 n c) ≤ n
+  drop_reaches h =
       let k : 2 ^ (52 + drop 53 n c) ≤ n / c = size_reaches (n / c) (52 + drop 53 n c) (omega (arith, h)) in
       let m : 2 ^ (52 + drop 53 n c) * c ≤ n = (le-div_iff_mul-le C).0 k in
       omega (arith, m, ap (λ (x : ℕ). x * c) (pow-add 2 52 (drop 53 n c)))
 
   -- below the middle between K * 2 ^ j and the next number of the format it is K * 2 ^ j at most
-  pub rounded-middle : (K j : ℕ) → 2 ^ 52 ≤ K → K < 2 ^ 53 → 2 * n < (2 * K + 1) * (2 ^ j * c) → rounded n c ≤ K * 2 ^ j
-  rounded-middle K j low high h = ⊎_elim same fewer (either j (drop 53 n c))
+  pub rounded_middle : (K j : ℕ) → 2 ^ 52 ≤ K → K < 2 ^ 53 → 2 * n < (2 * K + 1) * (2 ^ j * c) → rounded n c ≤ K * 2 ^ j
+  rounded_middle K j low high h = ⊎_elim same fewer (either j (drop 53 n c))
     where
       top : n < 2 ^ 53 * 2 ^ j * c
       top = omega (arith, h, mul-le-mul_right (2 ^ j * c) high)
@@ -78,7 +78,7 @@ module _ (n c : ℕ) (C : 0 < c) where
       same : j ≤ drop 53 n c → rounded n c ≤ K * 2 ^ j
       same l =
           let e : drop 53 n c ≡ j = omega (arith, l, drop_le j top) in
-          let m : 2 * (kept 53 n c * 2 ^ j * c) ≤ 2 * n + c * 2 ^ j = subst (λ (d : ℕ). 2 * (kept 53 n c * 2 ^ d * c) ≤ 2 * n + c * 2 ^ d) e rounded-half in
+          let m : 2 * (kept 53 n c * 2 ^ j * c) ≤ 2 * n + c * 2 ^ j = subst (λ (d : ℕ). 2 * (kept 53 n c * 2 ^ d * c) ≤ 2 * n + c * 2 ^ d) e rounded_half in
           let k : kept 53 n c < K + 1 = lt_of_mul-lt-mul_right (2 ^ j * c) (omega (arith, m, h)) in
           subst (λ (d : ℕ). kept 53 n c * 2 ^ d ≤ K * 2 ^ j) (sym e) (mul-le-mul_right (2 ^ j) (omega (arith, k)))
 
@@ -86,21 +86,21 @@ module _ (n c : ℕ) (C : 0 < c) where
       fewer l =
           let a : 2 ^ (1 + drop 53 n c) ≤ 2 ^ j = pow_mono (omega (arith, l)) in
           let b : 2 * last ≤ 2 ^ j = subst (λ (x : ℕ). x ≤ 2 ^ j) (pow-add 2 1 (drop 53 n c)) a in
-          omega (arith, mul-le-mul_right last kept-le, b, mul-le-mul_right (2 ^ j) low)
+          omega (arith, mul-le-mul_right last kept_le, b, mul-le-mul_right (2 ^ j) low)
 
   -- what is at most 1 - 2 ^ -53 of w, w being 2 ^ 53 units or more, is rounded to less than w
-  pub rounded-less : (w : ℕ) → 2 ^ 53 * n + w * c ≤ 2 ^ 53 * (w * c) → 2 ^ 53 ≤ w → rounded n c < w
-  rounded-less w h big = ⊎_elim none some (either (drop 53 n c) 0)
+  pub rounded_less : (w : ℕ) → 2 ^ 53 * n + w * c ≤ 2 ^ 53 * (w * c) → 2 ^ 53 ≤ w → rounded n c < w
+  rounded_less w h big = ⊎_elim none some (either (drop 53 n c) 0)
     where
       none : drop 53 n c ≤ 0 → rounded n c < w
       none l =
           let e : drop 53 n c ≡ 0 = omega (arith, l) in
-          let m : 2 * (rounded n c * c) ≤ 2 * n + c * 2 ^ 0 = subst (λ (d : ℕ). 2 * (rounded n c * c) ≤ 2 * n + c * 2 ^ d) e rounded-half in
+          let m : 2 * (rounded n c * c) ≤ 2 * n + c * 2 ^ 0 = subst (λ (d : ℕ). 2 * (rounded n c * c) ≤ 2 * n + c * 2 ^ d) e rounded_half in
           lt_of_mul-lt-mul_right c (omega (arith, m, h, mul-le-mul_right c big, C))
 
       some : 0 < drop 53 n c → rounded n c < w
       some l =
-          let a : 2 ^ 53 * (rounded n c * c) ≤ 2 ^ 53 * n + n = omega (arith, rounded-half, drop-reaches l) in
+          let a : 2 ^ 53 * (rounded n c * c) ≤ 2 ^ 53 * n + n = omega (arith, rounded_half, drop_reaches l) in
           let b : 0 < w * c = mul-pos (omega (arith, big)) C in
           let d : n < w * c = omega (arith, h, b) in
           lt_of_mul-lt-mul_right c (less (2 ^ 53) (rounded n c * c) (w * c) n a h d)

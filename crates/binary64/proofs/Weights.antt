@@ -16,10 +16,10 @@ use lib.Ieee.Fits.{sub-fits}
 use lib.Ieee.Positive.{num, den, den_pos}
 use lib.Ieee.Scale.{finite}
 use Rattle.binary64.proofs.Order.{Fin, clash, left, right, le→}
-use Rattle.binary64.proofs.Difference.{naught, either, divides, exponent, den-is}
-use Rattle.binary64.proofs.Quotient.{Unit, one, unit-finite}
-use Rattle.binary64.proofs.Halves.{rounded, rounded-half, rounded-middle, rounded-less, drop_le}
-use Rattle.binary64.proofs.Sizes.{Sized, Counted, counted, largest, digits, round-sized, mul-sized, add-stays}
+use Rattle.binary64.proofs.Difference.{naught, either, divides, exponent, den_is}
+use Rattle.binary64.proofs.Quotient.{Unit, one, unit_finite}
+use Rattle.binary64.proofs.Halves.{rounded, rounded_half, rounded_middle, rounded_less, drop_le}
+use Rattle.binary64.proofs.Sizes.{Sized, Counted, counted, largest, digits, round_sized, mul_sized, add_stays}
 
 -- ---- a weight of the format above a half, up to 1, is a whole number of 2 ^ -53: `below` + 1
 record Heavy (G : ℕ) : Type 0 where
@@ -28,8 +28,8 @@ record Heavy (G : ℕ) : Type 0 where
   low : 2 ^ 52 ≤ below
   high : below < 2 ^ 53
 
-heavy-from : (G q : ℕ) → G ≡ q * 2 ^ 1021 → 2 ^ 1073 < G → G ≤ 2 ^ 1074 → Heavy G
-heavy-from G q e h k = record { below = q - 1; is = e ∙ ap (λ (z : ℕ). z * 2 ^ 1021) same; low = omega (arith, more); high = omega (arith, most, more) }
+heavy_from : (G q : ℕ) → G ≡ q * 2 ^ 1021 → 2 ^ 1073 < G → G ≤ 2 ^ 1074 → Heavy G
+heavy_from G q e h k = record { below = q - 1; is = e ∙ ap (λ (z : ℕ). z * 2 ^ 1021) same; low = omega (arith, more); high = omega (arith, most, more) }
   where
     more : 2 ^ 52 < q
     more = lt_of_mul-lt-mul_right (2 ^ 1021) (subst (λ (z : ℕ). 2 ^ 52 * 2 ^ 1021 < z) e h)
@@ -47,24 +47,24 @@ few (fin s zero e) t h = subst (λ (z : ℕ). z < 2 ^ 53) (sym (zero-mul (up e))
 few (fin s (suc m) (pos k)) t h = absurd (omega arith)
 few (fin s (suc m) (negsuc k)) t h = subst (λ (z : ℕ). z < 2 ^ 53) (sym (mul-one (suc m))) (digits s m (negsuc k) t)
 
-heavy-of : (w : Float) (G : ℕ) → T (fits binary64 w) → Sized w G → 2 ^ 1073 < G → G ≤ 2 ^ 1074 → Heavy G
-heavy-of w G t z h k = ⊎_elim coarse fine (either (exponent w) 53)
+heavy_of : (w : Float) (G : ℕ) → T (fits binary64 w) → Sized w G → 2 ^ 1073 < G → G ≤ 2 ^ 1074 → Heavy G
+heavy_of w G t z h k = ⊎_elim coarse fine (either (exponent w) 53)
   where
     coarse : exponent w ≤ 53 → Heavy G
-    coarse l = heavy-from G (num w * 2 ^ (53 - exponent w)) (eq_of_mul-eq-mul_right (2 ^ exponent w) (pow_pos (exponent w)) G (num w * 2 ^ (53 - exponent w) * 2 ^ 1021) spread) h k
+    coarse l = heavy_from G (num w * 2 ^ (53 - exponent w)) (eq_of_mul-eq-mul_right (2 ^ exponent w) (pow_pos (exponent w)) G (num w * 2 ^ (53 - exponent w) * 2 ^ 1021) spread) h k
       where
         apart : (N a b Y : ℕ) → N * (a * b * Y) ≡ N * b * Y * a
         apart N a b Y = omega arith
 
         spread : G * 2 ^ exponent w ≡ num w * 2 ^ (53 - exponent w) * 2 ^ 1021 * 2 ^ exponent w
         spread =
-            ap (λ (d : ℕ). G * d) (sym (den-is w)) ∙ sym z.units
+            ap (λ (d : ℕ). G * d) (sym (den_is w)) ∙ sym z.units
             ∙ ap (λ (p : ℕ). num w * (p * 2 ^ 1021)) (divides (exponent w) 53 l)
             ∙ apart (num w) (2 ^ exponent w) (2 ^ (53 - exponent w)) (2 ^ 1021)
 
     fine : 53 < exponent w → Heavy G
     fine l =
-        let d : 2 ^ 54 ≤ den w = subst (λ (d : ℕ). 2 ^ 54 ≤ d) (sym (den-is w)) (pow_mono l) in
+        let d : 2 ^ 54 ≤ den w = subst (λ (d : ℕ). 2 ^ 54 ≤ d) (sym (den_is w)) (pow_mono l) in
         let b : G * den w < 2 ^ 53 * 2 ^ 1074 = subst (λ (n : ℕ). n < 2 ^ 53 * 2 ^ 1074) z.units (mul-lt-mul_of_pos_right (few w t d) (pow_pos 1074)) in
         absurd (not-le_of_lt b (mul-le-mul (le_of_lt h) d))
 
@@ -72,17 +72,17 @@ heavy-of w G t z h k = ⊎_elim coarse fine (either (exponent w) 53)
 capped : (X M A D W Q G E : ℕ) → X ≤ M * A * D → W * Q ≡ G * E → X * W * Q ≤ M * (A * G) * (D * E)
 capped X M A D W Q G E h e = omega (arith, mul-le-mul_right (G * E) h, ap (λ (z : ℕ). X * z) e)
 
-heavy-middle : (n c M K Y : ℕ) → 0 < Y * c → M ≤ 2 * K → n ≤ M * ((K + 1) * Y) * c → 2 * n < (2 * K + 1) * (suc M * Y * c)
-heavy-middle n c M K Y C h k = omega (arith, mul-le-mul_right (Y * c) h)
+heavy_middle : (n c M K Y : ℕ) → 0 < Y * c → M ≤ 2 * K → n ≤ M * ((K + 1) * Y) * c → 2 * n < (2 * K + 1) * (suc M * Y * c)
+heavy_middle n c M K Y C h k = omega (arith, mul-le-mul_right (Y * c) h)
 
 twice : (K : ℕ) → 2 ^ 52 ≤ K → 2 ^ 53 - 1 ≤ 2 * K
 twice K h = omega arith
 
-light-scale : (n c M Z Y : ℕ) → Z ≤ Y → n ≤ M * Z * c → suc M * n + suc M * Y * c ≤ suc M * (suc M * Y * c)
-light-scale n c M Z Y h k = omega (arith, mul-le-mul_left (suc M) k, mul-le-mul_right c (mul-le-mul_left (suc M * M) h))
+light_scale : (n c M Z Y : ℕ) → Z ≤ Y → n ≤ M * Z * c → suc M * n + suc M * Y * c ≤ suc M * (suc M * Y * c)
+light_scale n c M Z Y h k = omega (arith, mul-le-mul_left (suc M) k, mul-le-mul_right c (mul-le-mul_left (suc M * M) h))
 
-half-middle : (n c M Z Y : ℕ) → 0 < Y * c → Z ≤ Y → n ≤ M * Z * c → 2 * n < (2 * M + 1) * (Y * c)
-half-middle n c M Z Y C h k = omega (arith, mul-le-mul_right c (mul-le-mul_left M h))
+half_middle : (n c M Z Y : ℕ) → 0 < Y * c → Z ≤ Y → n ≤ M * Z * c → 2 * n < (2 * M + 1) * (Y * c)
+half_middle n c M Z Y C h k = omega (arith, mul-le-mul_right c (mul-le-mul_left M h))
 
 -- the product as rounded, in units
 abbrev share : Float → Float → ℕ
@@ -96,25 +96,25 @@ module _ (x w : Float) (G : ℕ) (t : T (fits binary64 x)) (z : Sized w G) where
   exact = capped (num x) (2 ^ 53 - 1) (2 ^ 971) (den x) (num w) (2 ^ 1074) G (den w) (largest x t) z.units
 
   -- by a weight above a half: a last digit of the largest number less than the weight's share of 2 ^ 1024
-  share-heavy : (h : Heavy G) → share x w ≤ h.below * 2 ^ 2045
-  share-heavy h =
-      rounded-middle (num x * num w * 2 ^ 1074) (den x * den w) c_pos h.below 2045 h.low h.high
-      (heavy-middle (num x * num w * 2 ^ 1074) (den x * den w) (2 ^ 53 - 1) h.below (2 ^ 1992) (mul-pos (pow_pos 1992) c_pos) (twice h.below h.low)
+  share_heavy : (h : Heavy G) → share x w ≤ h.below * 2 ^ 2045
+  share_heavy h =
+      rounded_middle (num x * num w * 2 ^ 1074) (den x * den w) c_pos h.below 2045 h.low h.high
+      (heavy_middle (num x * num w * 2 ^ 1074) (den x * den w) (2 ^ 53 - 1) h.below (2 ^ 1992) (mul-pos (pow_pos 1992) c_pos) (twice h.below h.low)
       (subst (λ (g : ℕ). num x * num w * 2 ^ 1074 ≤ (2 ^ 53 - 1) * g * (den x * den w)) (ap (λ (g : ℕ). 2 ^ 971 * g) h.is ∙ mul_left_comm (2 ^ 971) (h.below + 1) (2 ^ 1021)) exact))
 
   -- by any weight up to J: less than its share of 2 ^ 1024
-  share-light : (J : ℕ) → 0 < J → G ≤ J → share x w < 2 ^ 1024 * J
-  share-light J j h =
+  share_light : (J : ℕ) → 0 < J → G ≤ J → share x w < 2 ^ 1024 * J
+  share_light J j h =
       subst (λ (g : ℕ). share x w < g) (sym (mul_assoc (2 ^ 53) (2 ^ 971) J))
-      (rounded-less (num x * num w * 2 ^ 1074) (den x * den w) c_pos (2 ^ 53 * (2 ^ 971 * J))
-      (light-scale (num x * num w * 2 ^ 1074) (den x * den w) (2 ^ 53 - 1) (2 ^ 971 * G) (2 ^ 971 * J) (mul-le-mul_left (2 ^ 971) h) exact)
+      (rounded_less (num x * num w * 2 ^ 1074) (den x * den w) c_pos (2 ^ 53 * (2 ^ 971 * J))
+      (light_scale (num x * num w * 2 ^ 1074) (den x * den w) (2 ^ 53 - 1) (2 ^ 971 * G) (2 ^ 971 * J) (mul-le-mul_left (2 ^ 971) h) exact)
       (mul-le-mul_left (2 ^ 53) (mul-pos (pow_pos 971) j)))
 
   -- by a half at most: half of the largest number
-  share-half : G ≤ 2 ^ 1073 → share x w ≤ (2 ^ 53 - 1) * 2 ^ 2044
-  share-half h =
-      rounded-middle (num x * num w * 2 ^ 1074) (den x * den w) c_pos (2 ^ 53 - 1) 2044 (lit≤ tt) (lit< tt)
-      (half-middle (num x * num w * 2 ^ 1074) (den x * den w) (2 ^ 53 - 1) (2 ^ 971 * G) (2 ^ 2044) (mul-pos (pow_pos 2044) c_pos) (mul-le-mul_left (2 ^ 971) h) exact)
+  share_half : G ≤ 2 ^ 1073 → share x w ≤ (2 ^ 53 - 1) * 2 ^ 2044
+  share_half h =
+      rounded_middle (num x * num w * 2 ^ 1074) (den x * den w) c_pos (2 ^ 53 - 1) 2044 (lit≤ tt) (lit< tt)
+      (half_middle (num x * num w * 2 ^ 1074) (den x * den w) (2 ^ 53 - 1) (2 ^ 971 * G) (2 ^ 2044) (mul-pos (pow_pos 2044) c_pos) (mul-le-mul_left (2 ^ 971) h) exact)
 
 -- ---- two products together: below the middle between the largest number and 2 ^ 1024
 abbrev Together : ℕ → ℕ → Type 0
@@ -140,16 +140,16 @@ whole_sum g h K A E G J p q r s =
     flat : (g h U e x y K : ℕ) → g ≤ K * U → h < y → x ≡ (K + 1) * (2 * e) → x + y ≡ 2 ^ 54 * e + e → U ≡ 2 * e → 2 * (g + h) < (2 * (2 ^ 53 - 1) + 1) * U
     flat g h U e x y K p q a b c = omega (arith, ap (λ (z : ℕ). K * z) c)
 
-half-sum : (g h Y : ℕ) → 0 < Y → g ≤ (2 ^ 53 - 1) * Y → h ≤ (2 ^ 53 - 1) * Y → 2 * (g + h) < (2 * (2 ^ 53 - 1) + 1) * (2 * Y)
-half-sum g h Y y p q = omega arith
+half_sum : (g h Y : ℕ) → 0 < Y → g ≤ (2 ^ 53 - 1) * Y → h ≤ (2 ^ 53 - 1) * Y → 2 * (g + h) < (2 * (2 ^ 53 - 1) + 1) * (2 * Y)
+half_sum g h Y y p q = omega arith
 
 module _ (x w y v : Float) (G H : ℕ) (tx : T (fits binary64 x)) (ty : T (fits binary64 y)) (zw : Sized w G) (zv : Sized v H) where
   -- one weight above a half
   uneven : T (fits binary64 w) → 2 ^ 1073 < G → G ≤ 2 ^ 1074 → G + H ≤ 2 ^ 1074 + 2 ^ 1020 → Together (share x w) (share y v)
   uneven tw h k l =
-      let big : Heavy G = heavy-of w G tw zw h k in
-      whole_sum (share x w) (share y v) big.below (2 ^ 1024) (2 ^ 1020) G (2 ^ 1074 + 2 ^ 1020 - G) (share-heavy x w G tx zw big)
-      (share-light y v H ty zv (2 ^ 1074 + 2 ^ 1020 - G) (some G (2 ^ 1074) (2 ^ 1020) (pow_pos 1020) k) (rest G H (2 ^ 1074 + 2 ^ 1020) l)) big.is (back G (2 ^ 1074) (2 ^ 1020) k)
+      let big : Heavy G = heavy_of w G tw zw h k in
+      whole_sum (share x w) (share y v) big.below (2 ^ 1024) (2 ^ 1020) G (2 ^ 1074 + 2 ^ 1020 - G) (share_heavy x w G tx zw big)
+      (share_light y v H ty zv (2 ^ 1074 + 2 ^ 1020 - G) (some G (2 ^ 1074) (2 ^ 1020) (pow_pos 1020) k) (rest G H (2 ^ 1074 + 2 ^ 1020) l)) big.is (back G (2 ^ 1074) (2 ^ 1020) k)
     where
       some : (g a b : ℕ) → 0 < b → g ≤ a → 0 < a + b - g
       some g a b p q = omega arith
@@ -162,12 +162,12 @@ module _ (x w y v : Float) (G H : ℕ) (tx : T (fits binary64 x)) (ty : T (fits 
 
   -- both a half at most
   even : G ≤ 2 ^ 1073 → H ≤ 2 ^ 1073 → Together (share x w) (share y v)
-  even h k = half-sum (share x w) (share y v) (2 ^ 2044) (pow_pos 2044) (share-half x w G tx zw h) (share-half y v H ty zv k)
+  even h k = half_sum (share x w) (share y v) (2 ^ 2044) (pow_pos 2044) (share_half x w G tx zw h) (share_half y v H ty zv k)
 
   stays : Fin x → Fin y → Together (share x w) (share y v) → finite (add binary64 (mul binary64 x w) (mul binary64 y v)) ≡ true
   stays fx fy l =
-      add-stays (mul binary64 x w) (mul binary64 y v) (share x w) (share y v) (mul-sized x w fx zw.fin-is (first (share x w) (share y v) (2 ^ 53 - 1) (2 ^ 2045) l))
-      (mul-sized y v fy zv.fin-is (first (share y v) (share x w) (2 ^ 53 - 1) (2 ^ 2045) (swapped (share x w) (share y v) _ l))) l
+      add_stays (mul binary64 x w) (mul binary64 y v) (share x w) (share y v) (mul_sized x w fx zw.fin_is (first (share x w) (share y v) (2 ^ 53 - 1) (2 ^ 2045) l))
+      (mul_sized y v fy zv.fin_is (first (share y v) (share x w) (2 ^ 53 - 1) (2 ^ 2045) (swapped (share x w) (share y v) _ l))) l
     where
       first : (g h M U : ℕ) → 2 * (g + h) < (2 * M + 1) * U → g < suc M * U
       first g h M U l = omega arith
@@ -176,11 +176,11 @@ module _ (x w y v : Float) (G H : ℕ) (tx : T (fits binary64 x)) (ty : T (fits 
 nothing : (m : ℕ) (e : ℤ) → Unit (fin true m e) → m * up e ≤ 0
 nothing m e u = let k : left (naught false) (fin true m e) ≤ right (naught false) (fin true m e) = le→ (naught false) (fin true m e) refl refl u.low in omega arith
 
-unit-num : (f : Float) → Unit f → num f ≤ den f
-unit-num nan u = clash (sym (unit-finite nan u))
-unit-num (inf s) u = clash (sym (unit-finite (inf s) u))
-unit-num (fin false m e) u = let k : left (fin false m e) one ≤ right (fin false m e) one = le→ (fin false m e) one refl refl u.high in omega arith
-unit-num (fin true m e) u = le_trans (nothing m e u) zero-le
+unit_num : (f : Float) → Unit f → num f ≤ den f
+unit_num nan u = clash (sym (unit_finite nan u))
+unit_num (inf s) u = clash (sym (unit_finite (inf s) u))
+unit_num (fin false m e) u = let k : left (fin false m e) one ≤ right (fin false m e) one = le→ (fin false m e) one refl refl u.high in omega arith
+unit_num (fin true m e) u = le_trans (nothing m e u) zero-le
 
 -- by the sign of f, N / D in size
 over_zero : (N D : ℕ) → N ≤ D → sum binary64 false (1 * D) true (N * 1) (1 * D) ≡ round binary64 false (D - N) D
@@ -192,26 +192,26 @@ over_zero N D h =
     less : 1 * D - N * 1 ≡ D - N
     less = omega arith
 
-minus-zero : (N D : ℕ) → N ≤ 0 → round binary64 false (1 * D + N * 1) (1 * D) ≡ round binary64 false (D - N) D
-minus-zero N D h = ap₂ (λ (n d : ℕ). round binary64 false n d) same (one-mul D)
+minus_zero : (N D : ℕ) → N ≤ 0 → round binary64 false (1 * D + N * 1) (1 * D) ≡ round binary64 false (D - N) D
+minus_zero N D h = ap₂ (λ (n d : ℕ). round binary64 false n d) same (one-mul D)
   where
     same : 1 * D + N * 1 ≡ D - N
     same = omega arith
 
 one_less : (f : Float) → Unit f → sub binary64 one f ≡ round binary64 false (den f - num f) (den f)
 unfolding sub neg add sum
-one_less nan u = clash (sym (unit-finite nan u))
-one_less (inf s) u = clash (sym (unit-finite (inf s) u))
-one_less (fin false m e) u = over_zero (m * up e) (down e) (unit-num (fin false m e) u)
-one_less (fin true m e) u = minus-zero (m * up e) (down e) (nothing m e u)
+one_less nan u = clash (sym (unit_finite nan u))
+one_less (inf s) u = clash (sym (unit_finite (inf s) u))
+one_less (fin false m e) u = over_zero (m * up e) (down e) (unit_num (fin false m e) u)
+one_less (fin true m e) u = minus_zero (m * up e) (down e) (nothing m e u)
 
 -- N / D is f in size, and `other` is 1 - f as rounded, in units
 module _ (N D : ℕ) (d : 0 < D) (h : N ≤ D) where
   abbrev other : ℕ
   other = rounded ((D - N) * 2 ^ 1074) D
 
-  other-high : other ≤ 2 ^ 1074
-  other-high = rounded-middle ((D - N) * 2 ^ 1074) D d (2 ^ 52) 1022 (lit≤ tt) (lit< tt) (under (2 ^ 1022) (mul-pos (pow_pos 1022) d))
+  other_high : other ≤ 2 ^ 1074
+  other_high = rounded_middle ((D - N) * 2 ^ 1074) D d (2 ^ 52) 1022 (lit≤ tt) (lit< tt) (under (2 ^ 1022) (mul-pos (pow_pos 1022) d))
     where
       under : (Y : ℕ) → 0 < Y * D → 2 * ((D - N) * (2 ^ 52 * Y)) < (2 * 2 ^ 52 + 1) * (Y * D)
       under Y y = let k : D - N ≤ D = omega arith in omega (arith, y, mul-le-mul_right Y k)
@@ -224,7 +224,7 @@ module _ (N D : ℕ) (d : 0 < D) (h : N ≤ D) where
       at_one n Q E G l k = omega (arith, mul-le-mul_right D k, mul-le-mul_right Q l)
 
       none : N ≤ 0 → other * D + N * 2 ^ 1074 ≤ (2 ^ 1074 + 2 ^ 1020) * D
-      none l = at_one N (2 ^ 1074) (2 ^ 1020) other l other-high
+      none l = at_one N (2 ^ 1074) (2 ^ 1020) other l other_high
 
       less : (k Q : ℕ) → 0 < Q → k < D → k * Q < Q * D
       less k Q q l = omega (arith, mul-lt-mul_of_pos_right l q)
@@ -238,24 +238,24 @@ module _ (N D : ℕ) (d : 0 < D) (h : N ≤ D) where
       some : 0 < N → other * D + N * 2 ^ 1074 ≤ (2 ^ 1074 + 2 ^ 1020) * D
       some l =
           let k : D - N < D = omega (arith, l, d) in
-          tight (2 ^ 1074) (2 ^ 1020) other _ (rounded-half ((D - N) * 2 ^ 1074) D d) (pow_mono (drop_le ((D - N) * 2 ^ 1074) D d 1021 (less (D - N) (2 ^ 1074) (pow_pos 1074) k)))
+          tight (2 ^ 1074) (2 ^ 1020) other _ (rounded_half ((D - N) * 2 ^ 1074) D d) (pow_mono (drop_le ((D - N) * 2 ^ 1074) D d 1021 (less (D - N) (2 ^ 1074) (pow_pos 1074) k)))
 
 -- ---- so the blend is finite
 module _ (a b f : Float) (fa : Fin a) (fb : Fin b) (ta : T (fits binary64 a)) (tb : T (fits binary64 b)) (u : Unit f) (tf : T (fits binary64 f)) where
   n≤d : num f ≤ den f
-  n≤d = unit-num f u
+  n≤d = unit_num f u
 
   abbrev G : ℕ
   G = other (num f) (den f) (den_pos f) n≤d
 
   G-high : G ≤ 2 ^ 1074
-  G-high = other-high (num f) (den f) (den_pos f) n≤d
+  G-high = other_high (num f) (den f) (den_pos f) n≤d
 
   zg : Sized (sub binary64 one f) G
-  zg = subst (λ (g : Float). Sized g G) (sym (one_less f u)) (round-sized false (den f - num f) (den f) (lt_of_le_of_lt G-high (lit< tt)))
+  zg = subst (λ (g : Float). Sized g G) (sym (one_less f u)) (round_sized false (den f - num f) (den f) (lt_of_le_of_lt G-high (lit< tt)))
 
   known : Counted f
-  known = counted f (unit-finite f u) tf
+  known = counted f (unit_finite f u) tf
 
   F-high : known.count ≤ 2 ^ 1074
   F-high = le_of_mul-le-mul_right (subst (λ (z : ℕ). z ≤ 2 ^ 1074 * den f) known.sized.units (subst (λ (z : ℕ). num f * 2 ^ 1074 ≤ z) (mul_comm (den f) (2 ^ 1074)) (mul-le-mul_right (2 ^ 1074) n≤d))) (den_pos f)
@@ -267,18 +267,18 @@ module _ (a b f : Float) (fa : Fin a) (fb : Fin b) (ta : T (fits binary64 a)) (t
       (den_pos f)
 
   together : Together (share a (sub binary64 one f)) (share b f)
-  together = ⊎_elim g-low g-high (either G (2 ^ 1073))
+  together = ⊎_elim g_low g_high (either G (2 ^ 1073))
     where
-      g-high : 2 ^ 1073 < G → Together (share a (sub binary64 one f)) (share b f)
-      g-high h = uneven a (sub binary64 one f) b f G known.count ta tb zg known.sized (sub-fits binary64 one f) h G-high total
+      g_high : 2 ^ 1073 < G → Together (share a (sub binary64 one f)) (share b f)
+      g_high h = uneven a (sub binary64 one f) b f G known.count ta tb zg known.sized (sub-fits binary64 one f) h G-high total
 
-      f-high : 2 ^ 1073 < known.count → Together (share a (sub binary64 one f)) (share b f)
-      f-high h =
+      f_high : 2 ^ 1073 < known.count → Together (share a (sub binary64 one f)) (share b f)
+      f_high h =
           swapped (share b f) (share a (sub binary64 one f)) _
           (uneven b f a (sub binary64 one f) known.count G tb ta known.sized zg tf h F-high (subst (λ (z : ℕ). z ≤ 2 ^ 1074 + 2 ^ 1020) (add_comm G known.count) total))
 
-      g-low : G ≤ 2 ^ 1073 → Together (share a (sub binary64 one f)) (share b f)
-      g-low h = ⊎_elim (even a (sub binary64 one f) b f G known.count ta tb zg known.sized h) f-high (either known.count (2 ^ 1073))
+      g_low : G ≤ 2 ^ 1073 → Together (share a (sub binary64 one f)) (share b f)
+      g_low h = ⊎_elim (even a (sub binary64 one f) b f G known.count ta tb zg known.sized h) f_high (either known.count (2 ^ 1073))
 
-  pub weighed-finite : finite (add binary64 (mul binary64 a (sub binary64 one f)) (mul binary64 b f)) ≡ true
-  weighed-finite = stays a (sub binary64 one f) b f G known.count ta tb zg known.sized fa fb together
+  pub weighed_finite : finite (add binary64 (mul binary64 a (sub binary64 one f)) (mul binary64 b f)) ≡ true
+  weighed_finite = stays a (sub binary64 one f) b f G known.count ta tb zg known.sized fa fb together

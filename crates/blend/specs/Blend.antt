@@ -4,7 +4,7 @@ use Rattle.std.specs.Float.{fin, binary64}
 use Rattle.std.specs.Float.Ieee.{add, sub, mul}
 use Rattle.answer.specs.Answer.{answered, ◌then◌}
 use Rattle.answer.specs.declared.Answer.{Answer}
-use Rattle.checks.specs.Numbers.{resultFault}
+use Rattle.checks.specs.Numbers.{result_fault}
 use Rattle.rust.specs.declared.AxisLocation.{AxisLocation}
 use Rattle.rust.specs.declared.AxisLocation.TheVariants.{Exact, Between}
 
@@ -28,4 +28,4 @@ linear (p ∷ ps) g = linear ps (sliced p g)
 
 -- 12: "computed result not finite"
 unfoldable pub computed : Float → Answer
-computed x = resultFault 0 x then answered x
+computed x = result_fault 0 x then answered x

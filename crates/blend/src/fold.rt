@@ -2,7 +2,7 @@
 ghost use Rattle.std.specs.Prelude.{◌≡◌, ◌+◌, ◌^◌, ◌≤◌, length, take};
 ghost use Rattle.blend.specs.Blend.{computed};
 ghost use Rattle.rust.specs.Scaffolding.{diffs, butterfly};
-ghost use Rattle.blend.specs.Scaffolding.{passedOver, merged, half_of, grown};
+ghost use Rattle.blend.specs.Scaffolding.{passed_over, merged, half_of, grown};
 
 use answer::Answer;
 use checks::numbers;
@@ -11,7 +11,7 @@ use rust::AxisLocation;
 // One pass: each of the first `half` values blended with the one `half` places on.
 fn pass_over(vals: &mut [f64], half: usize, f: f64)
     requires { half + half ≤ length vals.old }
-    ensures { vals.new ≡ passedOver f half vals.old }
+    ensures { vals.new ≡ passed_over f half vals.old }
 {
     let mut i: usize = 0;
     while i < half {

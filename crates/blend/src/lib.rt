@@ -1,7 +1,7 @@
 // What the two linears compute with: the blend of two values, and how many corners one axis more gives.
 ghost use Rattle.std.specs.Prelude.{◌≡◌, ◌+◌, min};
 ghost use Rattle.blend.specs.Blend.{blended};
-ghost use Rattle.blend.specs.Scaffolding.{moreCorners};
+ghost use Rattle.blend.specs.Scaffolding.{more_corners};
 
 // The fold of the corners of a reading, and the answer that it gives.
 pub mod fold;
@@ -28,7 +28,7 @@ fn double(count: usize) -> usize
 
 // How many corners there are with one axis more.
 pub fn grow(location: AxisLocation, count: usize) -> usize
-    ensures { result ≡ moreCorners location count }
+    ensures { result ≡ more_corners location count }
 {
     match location {
         AxisLocation::Exact(_) => count,

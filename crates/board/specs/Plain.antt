@@ -1,11 +1,11 @@
 -- "When an answer is an enum, a definition gives this paper's number and values for each of its cases": what C gets in the place of one.
 use Rattle.std.specs.Prelude.{cond, ℕ, eqb, Float}
-use Rattle.axis.specs.Locations.{locationIndex}
+use Rattle.axis.specs.Locations.{location_index}
 use Rattle.rust.specs.declared.MaybeIndex.{MaybeIndex}
 use Rattle.rust.specs.declared.MaybeIndex.TheVariants.{Some, None}
 use Rattle.rust.specs.declared.AxisLocation.{AxisLocation}
 use Rattle.rust.specs.declared.AxisLocation.TheVariants.{Exact, Between}
-use Rattle.utils.specs.Calls.{index_of, locationFraction}
+use Rattle.utils.specs.Calls.{index_of, location_fraction}
 use Rattle.utils.specs.declared.ExactAnswer.{ExactAnswer}
 use Rattle.utils.specs.declared.AxisAnswer.{AxisAnswer}
 use Rattle.utils.specs.declared.Tolerance.{Tolerance}
@@ -14,22 +14,22 @@ use Rattle.board.specs.declared.plain.PlainExact.{PlainExact}
 use Rattle.board.specs.declared.plain.PlainLocation.{PlainLocation}
 
 -- "else none": 1 where there is such a node
-abbrev pub foundOf : MaybeIndex → ℕ
-foundOf (Some i) = 1
-foundOf None = 0
+abbrev pub found_of : MaybeIndex → ℕ
+found_of (Some i) = 1
+found_of None = 0
 
-unfoldable pub plainExact : ExactAnswer → PlainExact
-plainExact a = record { answer = a.answer; found = foundOf a.index; index = index_of a.index }
+unfoldable pub plain_exact : ExactAnswer → PlainExact
+plain_exact a = record { answer = a.answer; found = found_of a.index; index = index_of a.index }
 
 -- "either the exact node or a lower index with a fraction": 1 where it is the second
-abbrev pub betweenOf : AxisLocation → ℕ
-betweenOf (Exact node) = 0
-betweenOf (Between lower frac) = 1
+abbrev pub between_of : AxisLocation → ℕ
+between_of (Exact node) = 0
+between_of (Between lower frac) = 1
 
-unfoldable pub plainLocation : AxisAnswer → PlainLocation
-plainLocation a =
-    record { answer = a.answer; between = betweenOf a.location; index = locationIndex a.location; fraction = locationFraction a.location }
+unfoldable pub plain_location : AxisAnswer → PlainLocation
+plain_location a =
+    record { answer = a.answer; between = between_of a.location; index = location_index a.location; fraction = location_fraction a.location }
 
 -- a tolerance that is lent, or the default where lent is 0
-unfoldable pub toleranceBy : ℕ → Float → Tolerance
-toleranceBy lent tolerance = cond (eqb lent 0) Default (Lent tolerance)
+unfoldable pub tolerance_by : ℕ → Float → Tolerance
+tolerance_by lent tolerance = cond (eqb lent 0) Default (Lent tolerance)

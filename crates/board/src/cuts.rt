@@ -1,7 +1,7 @@
 // The four slices: one axis is removed at a reading, and the values of the other axes are written.
 ghost use Rattle.std.specs.Prelude.{◌≡◌, length};
-ghost use Rattle.slices.specs.LinearSlices.{linearSlice, linearSliced, linearUniformSlice, linearUniformSliced};
-ghost use Rattle.slices.specs.Slices.{nearestSlice, nearestSliced, stepSlice, stepSliced};
+ghost use Rattle.slices.specs.LinearSlices.{linear_slice, linear_sliced, linear_uniform_slice, linear_uniform_sliced};
+ghost use Rattle.slices.specs.Slices.{nearest_slice, nearest_sliced, step_slice, step_sliced};
 
 use layout::Shape;
 use slices::SliceAnswer;
@@ -16,9 +16,9 @@ pub extern "C" fn ng_slice_linear(
     point: f64,
     out: &mut [f64],
 ) -> SliceAnswer
-    ensures value { result ≡ linearSlice shape nodes.now values.now axis point
+    ensures value { result ≡ linear_slice shape nodes.now values.now axis point
         (length out.old) }
-    ensures out_after { out.new ≡ linearSliced shape nodes.now values.now axis point
+    ensures out_after { out.new ≡ linear_sliced shape nodes.now values.now axis point
         out.old }
 {
     slices::linear(shape, nodes, values, axis, point, out)
@@ -34,9 +34,9 @@ pub extern "C" fn ng_slice_linear_uniform(
     point: f64,
     out: &mut [f64],
 ) -> SliceAnswer
-    ensures value { result ≡ linearUniformSlice shape nodes.now values.now axis point
+    ensures value { result ≡ linear_uniform_slice shape nodes.now values.now axis point
         (length out.old) }
-    ensures out_after { out.new ≡ linearUniformSliced shape nodes.now values.now axis point
+    ensures out_after { out.new ≡ linear_uniform_sliced shape nodes.now values.now axis point
         out.old }
 {
     slices::linear_uniform(shape, nodes, values, axis, point, out)
@@ -52,9 +52,9 @@ pub extern "C" fn ng_slice_nearest(
     point: f64,
     out: &mut [f64],
 ) -> SliceAnswer
-    ensures value { result ≡ nearestSlice shape nodes.now values.now axis point
+    ensures value { result ≡ nearest_slice shape nodes.now values.now axis point
         (length out.old) }
-    ensures out_after { out.new ≡ nearestSliced shape nodes.now values.now axis point
+    ensures out_after { out.new ≡ nearest_sliced shape nodes.now values.now axis point
         out.old }
 {
     slices::nearest(shape, nodes, values, axis, point, out)
@@ -71,9 +71,9 @@ pub extern "C" fn ng_slice_step(
     point: f64,
     out: &mut [f64],
 ) -> SliceAnswer
-    ensures value { result ≡ stepSlice shape nodes.now values.now directions.now axis point
+    ensures value { result ≡ step_slice shape nodes.now values.now directions.now axis point
         (length out.old) }
-    ensures out_after { out.new ≡ stepSliced shape nodes.now values.now directions.now axis point
+    ensures out_after { out.new ≡ step_sliced shape nodes.now values.now directions.now axis point
         out.old }
 {
     slices::step(shape, nodes, values, directions, axis, point, out)

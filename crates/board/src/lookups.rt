@@ -1,7 +1,7 @@
 // The four lookups.
 ghost use Rattle.std.specs.Prelude.{◌≡◌};
-ghost use Rattle.ninterp.specs.Linears.{linearAnswer, linearUniformAnswer};
-ghost use Rattle.ninterp.specs.Tables.{nearestAnswer, stepAnswer};
+ghost use Rattle.ninterp.specs.Linears.{linear_answer, linear_uniform_answer};
+ghost use Rattle.ninterp.specs.Tables.{nearest_answer, step_answer};
 
 use answer::Answer;
 use layout::Shape;
@@ -15,7 +15,7 @@ pub extern "C" fn ng_interpolate_linear(
     values: &[f64],
     point: &[f64],
 ) -> Answer
-    ensures { result ≡ linearAnswer shape nodes.now values.now point.now }
+    ensures { result ≡ linear_answer shape nodes.now values.now point.now }
 {
     n::linear::interpolate(shape, nodes, values, point)
 }
@@ -28,7 +28,7 @@ pub extern "C" fn ng_interpolate_linear_uniform(
     values: &[f64],
     point: &[f64],
 ) -> Answer
-    ensures { result ≡ linearUniformAnswer shape nodes.now values.now point.now }
+    ensures { result ≡ linear_uniform_answer shape nodes.now values.now point.now }
 {
     n::linear_uniform::interpolate(shape, nodes, values, point)
 }
@@ -41,7 +41,7 @@ pub extern "C" fn ng_interpolate_nearest(
     values: &[f64],
     point: &[f64],
 ) -> Answer
-    ensures { result ≡ nearestAnswer shape nodes.now values.now point.now }
+    ensures { result ≡ nearest_answer shape nodes.now values.now point.now }
 {
     n::nearest::interpolate(shape, nodes, values, point)
 }
@@ -55,7 +55,7 @@ pub extern "C" fn ng_interpolate_step(
     point: &[f64],
     directions: &[u8],
 ) -> Answer
-    ensures { result ≡ stepAnswer shape nodes.now values.now point.now
+    ensures { result ≡ step_answer shape nodes.now values.now point.now
         directions.now }
 {
     n::step::interpolate(shape, nodes, values, point, directions)

@@ -1,6 +1,6 @@
 // What C has no enum for, as plain numbers: the answers of `exact_index` and `locate_axis`, and a tolerance that is lent or not.
 ghost use Rattle.std.specs.Prelude.{◌≡◌};
-ghost use Rattle.board.specs.Plain.{plainExact, plainLocation, toleranceBy};
+ghost use Rattle.board.specs.Plain.{plain_exact, plain_location, tolerance_by};
 
 use answer::Answer;
 use rust::{AxisLocation, MaybeIndex};
@@ -27,7 +27,7 @@ pub struct PlainLocation {
 
 // An index or none, as plain numbers.
 pub(crate) fn plain_exact(exact: ExactAnswer) -> PlainExact
-    ensures { result ≡ plainExact exact }
+    ensures { result ≡ plain_exact exact }
 {
     let answer = exact.answer;
     let index = exact.index;
@@ -47,7 +47,7 @@ pub(crate) fn plain_exact(exact: ExactAnswer) -> PlainExact
 
 // A location, as plain numbers.
 pub(crate) fn plain_location(located: AxisAnswer) -> PlainLocation
-    ensures { result ≡ plainLocation located }
+    ensures { result ≡ plain_location located }
 {
     let answer = located.answer;
     let location = located.location;
@@ -69,7 +69,7 @@ pub(crate) fn plain_location(located: AxisAnswer) -> PlainLocation
 
 // The tolerance that is lent, or the default one where lent is 0.
 pub(crate) fn tolerance_by(lent: u32, tolerance: f64) -> Tolerance
-    ensures { result ≡ toleranceBy lent tolerance }
+    ensures { result ≡ tolerance_by lent tolerance }
 {
     if lent == 0 {
         return Tolerance::Default;

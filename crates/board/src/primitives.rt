@@ -1,8 +1,8 @@
 // The seven axis primitives, in the order of the Rust's strategy/utils.rs.
 ghost use Rattle.std.specs.Prelude.{◌≡◌};
-ghost use Rattle.utils.specs.Calls.{locateLowerIndex, exactIndex, locateAxis, locateStepIndex};
-ghost use Rattle.utils.specs.Calls.{locateLowerIndexUniform, validateUniformGrid, validateUniformGridEpsilon};
-ghost use Rattle.board.specs.Plain.{plainExact, plainLocation, toleranceBy};
+ghost use Rattle.utils.specs.Calls.{locate_lower_index, exact_index, locate_axis, locate_step_index};
+ghost use Rattle.utils.specs.Calls.{locate_lower_index_uniform, validate_uniform_grid, validate_uniform_grid_epsilon};
+ghost use Rattle.board.specs.Plain.{plain_exact, plain_location, tolerance_by};
 
 use crate::plain;
 use crate::plain::{PlainExact, PlainLocation};
@@ -12,7 +12,7 @@ use utils::IndexAnswer;
 // The lower node of a reading's cell.
 #[unsafe(no_mangle)]
 pub extern "C" fn ng_locate_lower_index(grid: &[f64], point: f64) -> IndexAnswer
-    ensures { result ≡ locateLowerIndex grid.now point }
+    ensures { result ≡ locate_lower_index grid.now point }
 {
     utils::locate_lower_index(grid, point)
 }
@@ -20,7 +20,7 @@ pub extern "C" fn ng_locate_lower_index(grid: &[f64], point: f64) -> IndexAnswer
 // Where a reading lies for Linear: on a node, or at a fraction of a cell.
 #[unsafe(no_mangle)]
 pub extern "C" fn ng_locate_axis(grid: &[f64], point: f64) -> PlainLocation
-    ensures { result ≡ plainLocation (locateAxis grid.now point) }
+    ensures { result ≡ plain_location (locate_axis grid.now point) }
 {
     plain::plain_location(utils::locate_axis(grid, point))
 }
@@ -28,7 +28,7 @@ pub extern "C" fn ng_locate_axis(grid: &[f64], point: f64) -> PlainLocation
 // The node that Step takes: at or below a reading by the direction 0, at or above it by 1.
 #[unsafe(no_mangle)]
 pub extern "C" fn ng_locate_step_index(direction: u8, grid: &[f64], point: f64) -> IndexAnswer
-    ensures { result ≡ locateStepIndex direction grid.now point }
+    ensures { result ≡ locate_step_index direction grid.now point }
 {
     utils::locate_step_index(direction, grid, point)
 }
@@ -36,7 +36,7 @@ pub extern "C" fn ng_locate_step_index(direction: u8, grid: &[f64], point: f64) 
 // The node of a cell that equals a reading, if one does.
 #[unsafe(no_mangle)]
 pub extern "C" fn ng_exact_index(grid: &[f64], lower: usize, point: f64) -> PlainExact
-    ensures { result ≡ plainExact (exactIndex grid.now lower point) }
+    ensures { result ≡ plain_exact (exact_index grid.now lower point) }
 {
     plain::plain_exact(utils::exact_index(grid, lower, point))
 }
@@ -49,7 +49,7 @@ pub extern "C" fn ng_locate_lower_index_uniform(
     n: usize,
     point: f64,
 ) -> IndexAnswer
-    ensures { result ≡ locateLowerIndexUniform first step n point }
+    ensures { result ≡ locate_lower_index_uniform first step n point }
 {
     utils::locate_lower_index_uniform(first, step, n, point)
 }
@@ -57,7 +57,7 @@ pub extern "C" fn ng_locate_lower_index_uniform(
 // Whether an axis is uniform within a lent tolerance.
 #[unsafe(no_mangle)]
 pub extern "C" fn ng_validate_uniform_grid(grid: &[f64], tolerance: f64) -> Answer
-    ensures { result ≡ validateUniformGrid grid.now tolerance }
+    ensures { result ≡ validate_uniform_grid grid.now tolerance }
 {
     utils::validate_uniform_grid(grid, tolerance)
 }
@@ -69,7 +69,7 @@ pub extern "C" fn ng_validate_uniform_grid_epsilon(
     lent: u32,
     tolerance: f64,
 ) -> Answer
-    ensures { result ≡ validateUniformGridEpsilon grid.now (toleranceBy lent tolerance) }
+    ensures { result ≡ validate_uniform_grid_epsilon grid.now (tolerance_by lent tolerance) }
 {
     utils::validate_uniform_grid_epsilon(grid, plain::tolerance_by(lent, tolerance))
 }

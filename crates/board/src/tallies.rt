@@ -1,6 +1,6 @@
 // The coverage tally: a record of a lent table counted where the tally stands.
 ghost use Rattle.std.specs.Prelude.{◌≡◌};
-ghost use Rattle.ninterp.specs.Counting.{countedRecord};
+ghost use Rattle.ninterp.specs.Counting.{counted_record};
 
 use answer::Answer;
 use layout::Shape;
@@ -16,9 +16,9 @@ pub extern "C" fn ng_count_record(
     values: &[f64],
     rec: &[u8],
 ) -> Answer
-    ensures value { result ≡ (countedRecord tally.old shape nodes.now values.now rec.now).answer }
+    ensures value { result ≡ (counted_record tally.old shape nodes.now values.now rec.now).answer }
     ensures tally_after { tally.new
-        ≡ (countedRecord tally.old shape nodes.now values.now rec.now).tally }
+        ≡ (counted_record tally.old shape nodes.now values.now rec.now).tally }
 {
     let counted = count::counted_record(*tally, shape, nodes, values, rec);
     *tally = counted.tally;

@@ -2,21 +2,21 @@
 use Rattle.std.specs.Prelude.{List, ℕ, length, Float}
 use Rattle.answer.specs.Faults.{◌or◌}
 use Rattle.answer.specs.declared.Fault.{Fault}
-use Rattle.layout.specs.Shape.{countsOf, size, total}
+use Rattle.layout.specs.Shape.{counts_of, size, total}
 use Rattle.layout.specs.declared.Shape.{Shape}
-use Rattle.checks.specs.Numbers.{axesCountFault, countFault, countsFault, productFault, lengthFault, nodesFault}
+use Rattle.checks.specs.Numbers.{axes_count_fault, count_fault, counts_fault, product_fault, length_fault, nodes_fault}
 
 -- 1, then 2: "a count outside 2 to 64, else product above 4,096"
-unfoldable pub shapeFault : Shape → Fault
-shapeFault s = axesCountFault s.axes or countsFault s or productFault s
+unfoldable pub shape_fault : Shape → Fault
+shape_fault s = axes_count_fault s.axes or counts_fault s or product_fault s
 
 -- "1, 2, 3", of the nodes and the values
-unfoldable pub frameFault : Shape → ℕ → ℕ → Fault
-frameFault s nodes values =
-    shapeFault s
-    or lengthFault 0 (total (countsOf s)) nodes
-    or lengthFault 1 (size (countsOf s)) values
+unfoldable pub frame_fault : Shape → ℕ → ℕ → Fault
+frame_fault s nodes values =
+    shape_fault s
+    or length_fault 0 (total (counts_of s)) nodes
+    or length_fault 1 (size (counts_of s)) values
 
 -- "Primitives on one axis use 2, 4, 5, 6 .. in that order .., axis 0"
-unfoldable pub axisFault : List Float → Fault
-axisFault nodes = countFault 0 (length nodes) or nodesFault 0 nodes
+unfoldable pub axis_fault : List Float → Fault
+axis_fault nodes = count_fault 0 (length nodes) or nodes_fault 0 nodes

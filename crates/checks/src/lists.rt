@@ -1,13 +1,13 @@
 // The checks of a list by itself, for every input.
 ghost use Rattle.std.specs.Prelude.{◌≡◌};
-ghost use Rattle.checks.specs.Numbers.{directionsFault, readingsFault};
+ghost use Rattle.checks.specs.Numbers.{directions_fault, readings_fault};
 
 use crate::{lent, numbers};
 use answer::Fault;
 
 // 9 of all axes.
 pub fn directions_fault(directions: &[u8]) -> Fault
-    ensures { result ≡ directionsFault directions.now }
+    ensures { result ≡ directions_fault directions.now }
 {
     let mut a: usize = 0;
     while a < directions.len() {
@@ -22,7 +22,7 @@ pub fn directions_fault(directions: &[u8]) -> Fault
 
 // 10 of all axes.
 pub fn readings_fault(readings: &[f64]) -> Fault
-    ensures { result ≡ readingsFault readings.now }
+    ensures { result ≡ readings_fault readings.now }
 {
     let mut a: usize = 0;
     while a < readings.len() {

@@ -2,7 +2,7 @@
 ghost use Rattle.std.specs.Prelude.{◌≡◌, not};
 ghost use Rattle.std.specs.Float.Ieee.Scale.{finite};
 ghost use Rattle.answer.specs.Faults.{refusal, when};
-ghost use Rattle.checks.specs.Numbers.{finiteFault, readingFault, resultFault};
+ghost use Rattle.checks.specs.Numbers.{finite_fault, reading_fault, result_fault};
 
 use answer::Fault;
 
@@ -15,21 +15,21 @@ pub(crate) fn wild_fault(number: u32, axis: usize, place: usize, x: f64) -> Faul
 
 // 4: a node not finite.
 pub fn finite_fault(axis: usize, i: usize, node: f64) -> Fault
-    ensures { result ≡ finiteFault axis i node }
+    ensures { result ≡ finite_fault axis i node }
 {
     wild_fault(4, axis, i, node)
 }
 
 // 10: a reading NaN or infinite.
 pub fn reading_fault(axis: usize, point: f64) -> Fault
-    ensures { result ≡ readingFault axis point }
+    ensures { result ≡ reading_fault axis point }
 {
     wild_fault(10, axis, 0, point)
 }
 
 // 12: a computed result not finite.
 pub fn result_fault(place: usize, value: f64) -> Fault
-    ensures { result ≡ resultFault place value }
+    ensures { result ≡ result_fault place value }
 {
     wild_fault(12, 0, place, value)
 }

@@ -1,7 +1,7 @@
 // A reading in the range of an axis, 11; what stands at a place of a list. For every input.
 ghost use Rattle.std.specs.Prelude.{◌≡◌, ◌-◌, get_or};
 ghost use Rattle.std.specs.Float.{nan};
-ghost use Rattle.checks.specs.Numbers.{rangeFault};
+ghost use Rattle.checks.specs.Numbers.{range_fault};
 
 use answer::Fault;
 
@@ -21,7 +21,7 @@ fn less_one(n: usize) -> usize
 
 // 11: a reading outside its axis.
 pub fn range_fault(axis: usize, nodes: &[f64], reading: f64) -> Fault
-    ensures { result ≡ rangeFault axis nodes.now reading }
+    ensures { result ≡ range_fault axis nodes.now reading }
 {
     let last = less_one(nodes.len());
     answer::or(

@@ -1,8 +1,8 @@
 // 1 and 2, which judge a table's shape, with how many nodes and values it has; 3 of the nodes and the values lent with it.
 ghost use Rattle.std.specs.Prelude.{◌≡◌, ◌≤◌};
-ghost use Rattle.checks.specs.Numbers.{countsFault};
-ghost use Rattle.checks.specs.Shapes.{shapeFault, frameFault};
-ghost use Rattle.checks.specs.Scaffolding.{Few, sumsOf, sizesOf};
+ghost use Rattle.checks.specs.Numbers.{counts_fault};
+ghost use Rattle.checks.specs.Shapes.{shape_fault, frame_fault};
+ghost use Rattle.checks.specs.Scaffolding.{Few, sums_of, sizes_of};
 
 use crate::{counts, lent};
 use answer::Fault;
@@ -11,7 +11,7 @@ use layout::Shape;
 // 2 of the first bad count.
 fn counts_fault(shape: Shape) -> Fault
     requires { shape.axes ≤ 4 }
-    ensures { result ≡ countsFault shape }
+    ensures { result ≡ counts_fault shape }
 {
     let axes = shape.axes;
     let counts = shape.counts;
@@ -37,7 +37,7 @@ pub struct Holding {
 // How many nodes and values a shape has whose counts are few.
 fn sums_of(shape: Shape) -> Holding
     requires { Few shape }
-    ensures { result ≡ sumsOf shape }
+    ensures { result ≡ sums_of shape }
 {
     let counts = layout::counts_of(shape);
     let mut nodes: usize = 0;
@@ -58,7 +58,7 @@ fn sums_of(shape: Shape) -> Holding
 
 // 1, 2 of a shape.
 pub fn shape_fault(shape: Shape) -> Fault
-    ensures { result ≡ shapeFault shape }
+    ensures { result ≡ shape_fault shape }
 {
     let fault = counts::axes_count_fault(shape.axes);
     if fault.number != 0 {
@@ -74,7 +74,7 @@ pub fn shape_fault(shape: Shape) -> Fault
 
 // What a shape holds: nothing where it is refused.
 pub fn sizes(shape: Shape) -> Holding
-    ensures { result ≡ sizesOf shape }
+    ensures { result ≡ sizes_of shape }
 {
     let fault = shape_fault(shape);
     if fault.number != 0 {
@@ -94,7 +94,7 @@ pub fn sizes(shape: Shape) -> Holding
 
 // 1, 2, 3 of a shape and the lengths of its nodes and values.
 pub fn frame_fault(shape: Shape, nodes: usize, values: usize) -> Fault
-    ensures { result ≡ frameFault shape nodes values }
+    ensures { result ≡ frame_fault shape nodes values }
 {
     let held = sizes(shape);
     if held.fault.number != 0 {

@@ -1,8 +1,8 @@
 // The checks of all axes of a table and of the range of its readings, for every input.
 ghost use Rattle.std.specs.Prelude.{◌≡◌, ◌≤◌, min};
-ghost use Rattle.layout.specs.Shape.{countsOf};
-ghost use Rattle.checks.specs.Numbers.{axesFault, axesUniformFault, rangesFault};
-ghost use Rattle.checks.specs.Scaffolding.{End, axisRow, axesRow};
+ghost use Rattle.layout.specs.Shape.{counts_of};
+ghost use Rattle.checks.specs.Numbers.{axes_fault, axes_uniform_fault, ranges_fault};
+ghost use Rattle.checks.specs.Scaffolding.{End, axis_row, axes_row};
 
 use crate::{nodes, ranges, spacing};
 use answer::Fault;
@@ -25,7 +25,7 @@ fn axis_end(at: usize, count: usize, len: usize) -> usize
 
 // 8 of one axis, or 4, 5, 6.
 fn axis_row(uniform: bool, axis: usize, grid: &[f64]) -> Fault
-    ensures { result ≡ axisRow uniform axis grid.now }
+    ensures { result ≡ axis_row uniform axis grid.now }
 {
     if uniform {
         spacing::default_fault(axis, grid)
@@ -36,7 +36,7 @@ fn axis_row(uniform: bool, axis: usize, grid: &[f64]) -> Fault
 
 // The same of all axes, one after the other.
 fn axes_row(uniform: bool, shape: Shape, nodes: &[f64]) -> Fault
-    ensures { result ≡ axesRow uniform (countsOf shape) nodes.now }
+    ensures { result ≡ axes_row uniform (counts_of shape) nodes.now }
 {
     let counts = layout::counts_of(shape);
     let axes = axes_of(shape);
@@ -56,21 +56,21 @@ fn axes_row(uniform: bool, shape: Shape, nodes: &[f64]) -> Fault
 
 // 4, 5, 6 of all axes.
 pub fn axes_fault(shape: Shape, nodes: &[f64]) -> Fault
-    ensures { result ≡ axesFault (countsOf shape) nodes.now }
+    ensures { result ≡ axes_fault (counts_of shape) nodes.now }
 {
     axes_row(false, shape, nodes)
 }
 
 // 8 of all axes, by the default tolerance.
 pub fn axes_uniform_fault(shape: Shape, nodes: &[f64]) -> Fault
-    ensures { result ≡ axesUniformFault (countsOf shape) nodes.now }
+    ensures { result ≡ axes_uniform_fault (counts_of shape) nodes.now }
 {
     axes_row(true, shape, nodes)
 }
 
 // 11 of all axes.
 pub fn ranges_fault(shape: Shape, nodes: &[f64], readings: &[f64]) -> Fault
-    ensures { result ≡ rangesFault (countsOf shape) nodes.now readings.now }
+    ensures { result ≡ ranges_fault (counts_of shape) nodes.now readings.now }
 {
     let counts = layout::counts_of(shape);
     let axes = axes_of(shape);

@@ -2,8 +2,8 @@
 ghost use Rattle.std.specs.Prelude.{◌≡◌, true, ℕ, ◌+◌, ◌-◌, ◌<◌, ◌≤◌, length, get_or};
 ghost use Rattle.std.specs.Float.{nan};
 ghost use Rattle.std.specs.Float.Ieee.Scale.{finite};
-ghost use Rattle.answer.specs.Faults.{first_of};
-ghost use Rattle.checks.specs.Numbers.{valueFault, valuesFault};
+ghost use Rattle.answer.specs.Faults.{first_fault};
+ghost use Rattle.checks.specs.Numbers.{value_fault, values_fault};
 
 use crate::numbers;
 use answer::Fault;
@@ -24,7 +24,7 @@ fn eight_finite(values: &[f64], at: usize) -> bool
 // 7 at one place.
 fn value_fault(values: &[f64], i: usize) -> Fault
     requires { i < length values.now }
-    ensures { result ≡ valueFault values.now i }
+    ensures { result ≡ value_fault values.now i }
 {
     numbers::wild_fault(7, 0, i, values[i])
 }
@@ -32,7 +32,7 @@ fn value_fault(values: &[f64], i: usize) -> Fault
 // The first fault from a place on, value by value.
 fn values_fault_from(values: &[f64], from: usize) -> Fault
     requires { from ≤ length values.now }
-    ensures { result ≡ first_of (valueFault values.now) from (length values.now - from) }
+    ensures { result ≡ first_fault (value_fault values.now) from (length values.now - from) }
 {
     let mut i = from;
     while i < values.len() {
@@ -47,7 +47,7 @@ fn values_fault_from(values: &[f64], from: usize) -> Fault
 
 // 7 of the first value that is not finite. Eight by eight; the place is searched for only where eight have a fault, and in the rest.
 pub fn values_fault(values: &[f64]) -> Fault
-    ensures { result ≡ valuesFault values.now }
+    ensures { result ≡ values_fault values.now }
 {
     let n = values.len();
     let mut i: usize = 0;

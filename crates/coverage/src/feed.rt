@@ -1,7 +1,7 @@
 // Records from standard input, counted block by block.
 ghost use Rattle.std.specs.Prelude.{◌≡◌, ◌&&◌, ◌≤◌, ltb, length};
-ghost use Rattle.lines.specs.Report.{reportMost};
-ghost use Rattle.program.specs.Coverage.{lastReport};
+ghost use Rattle.lines.specs.Report.{report_most};
+ghost use Rattle.program.specs.Coverage.{last_report};
 ghost use Rattle.program.specs.Whole.{TableOf};
 ghost use Rattle.coverage.specs.Whole.{Whole, Reported};
 ghost use Rattle.coverage.specs.Scaffolding.{Room, Stepped};
@@ -73,9 +73,9 @@ fn end(
     read: usize,
     out: &mut [u8],
 ) -> Printed
-    requires reported { Reported img.now read (lastReport t shape nodes.now values.now rest.now) }
-    requires report_most_in_bounds { reportMost ≤ length out.old }
-    ensures { result.bytes ≡ length (lastReport t shape nodes.now values.now rest.now) }
+    requires reported { Reported img.now read (last_report t shape nodes.now values.now rest.now) }
+    requires report_most_in_bounds { report_most ≤ length out.old }
+    ensures { result.bytes ≡ length (last_report t shape nodes.now values.now rest.now) }
 {
     let n = coverage::finish(t, shape, nodes, values, rest, out);
     print::report(img, read, &out[..n])
@@ -91,7 +91,7 @@ fn count_blocks(
     out: &mut [u8],
 ) -> Counts
     requires table_of { TableOf img.now shape nodes.now values.now }
-    requires buf_len { (length buf.old ≡ 32768) × (length out.old ≡ reportMost) }
+    requires buf_len { (length buf.old ≡ 32768) × (length out.old ≡ report_most) }
     ensures { Whole img.now result }
 {
     let size = 1 + 8 * shape.axes;

@@ -1,6 +1,6 @@
 // The image that was read: loaded and its records counted, or refused.
 ghost use Rattle.std.specs.Prelude.{◌≡◌, length};
-ghost use Rattle.program.specs.Input.{imageIn};
+ghost use Rattle.program.specs.Input.{image_in};
 ghost use Rattle.coverage.specs.Whole.{Whole};
 
 use crate::feed;
@@ -9,7 +9,7 @@ use program::{Counts, front, refused};
 // Loads the image into two outputs, and counts the records by what stands at their fronts.
 pub(crate) fn count_image(img: &[u8], nodes: &mut [f64], values: &mut [f64]) -> Counts
     requires nodes_len { (length nodes.old ≡ 256) × (length values.old ≡ 4096) }
-    requires img_value { imageIn img.now ≡ img.now }
+    requires img_value { image_in img.now ≡ img.now }
     ensures { Whole img.now result }
 {
     let loaded = front::load(img, nodes, values);

@@ -8,7 +8,7 @@ mod loaded;
 mod print;
 
 ghost use Rattle.std.specs.Prelude.{◌≡◌, length, take};
-ghost use Rattle.program.specs.Input.{imageIn};
+ghost use Rattle.program.specs.Input.{image_in};
 ghost use Rattle.coverage.specs.Whole.{Whole};
 
 use program::{Totals, stdin};
@@ -16,7 +16,7 @@ use program::{Totals, stdin};
 // One whole run: the image, and what follows it.
 fn run(img: &mut [u8], nodes: &mut [f64], values: &mut [f64]) -> Totals
     requires { (length nodes.old ≡ 256) × (length values.old ≡ 4096) }
-    ensures img_after { imageIn (take result.image img.new) ≡ take result.image img.new }
+    ensures img_after { image_in (take result.image img.new) ≡ take result.image img.new }
     ensures whole { Whole (take result.image img.new) result.after }
 {
     let size = stdin::read_image(img);

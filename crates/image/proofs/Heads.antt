@@ -7,85 +7,85 @@ use native.Mathlib.Omega.{arith}
 use borrow.Author.Tests.{leb-true, eqb-true}
 use lib.Dec.{leb, eqb}
 use lib.ListN.{length, get_or}
-use Rattle.answer.specs.Faults.{good, first_of}
+use Rattle.answer.specs.Faults.{good, first_fault}
 use Rattle.answer.proofs.Orders as orders
-use Rattle.checks.specs.Numbers.{axesCountFault, countFault, productFault, fieldFault, shortFault, statedFault}
-use Rattle.checks.proofs.counts.Rows.{axes-four}
-use Rattle.answer.proofs.Tests.{not-false, and_left, and_right}
+use Rattle.checks.specs.Numbers.{axes_count_fault, count_fault, product_fault, field_fault, short_fault, stated_fault}
+use Rattle.checks.proofs.counts.Rows.{axes_four}
+use Rattle.answer.proofs.Tests.{not_false, and_left, and_right}
 use Rattle.layout.specs.Layout.{tabulate}
-use Rattle.checks.specs.Shapes.{shapeFault}
+use Rattle.checks.specs.Shapes.{shape_fault}
 use Rattle.layout.specs.declared.Shape.{Shape}
 use Rattle.layout.proofs.Layouts.{get_d_tabulate}
-use Rattle.bytes.specs.Words.{word_at}
-use Rattle.image.specs.Fields.{axesField, countField, shape_of}
-use Rattle.image.specs.Head.{startFault, countRow, headFault}
+use Rattle.little_endian.specs.Words.{word_at}
+use Rattle.image.specs.Fields.{axes_field, count_field, shape_of}
+use Rattle.image.specs.Head.{start_fault, count_row, head_fault}
 use Rattle.image.specs.Scaffolding.{ShapeJudged}
-use Rattle.image.proofs.Tests.{field_is, count-used, count-unused}
+use Rattle.image.proofs.Tests.{field_is, count_used, count_unused}
 
-pub shape_same : (img : List ℕ) (n a b c d : ℕ) → n ≡ axesField img → a ≡ countField img 0 → b ≡ countField img 1 → c ≡ countField img 2 → d ≡ countField img 3
+pub shape_same : (img : List ℕ) (n a b c d : ℕ) → n ≡ axes_field img → a ≡ count_field img 0 → b ≡ count_field img 1 → c ≡ count_field img 2 → d ≡ count_field img 3
     → ◌≡◌ {A = Shape} (record { axes = n; counts = a ∷ b ∷ c ∷ d ∷ [] }) (shape_of img)
 unfolding shape_of
 shape_same img n a b c d e p q r s =
     ap (λ (m : ℕ). record { axes = m; counts = a ∷ b ∷ c ∷ d ∷ [] }) e
-    ∙ ap₂ (λ (x y : ℕ). record { axes = axesField img; counts = x ∷ y ∷ c ∷ d ∷ [] }) p q
-    ∙ ap₂ (λ (x y : ℕ). record { axes = axesField img; counts = countField img 0 ∷ countField img 1 ∷ x ∷ y ∷ [] }) r s
+    ∙ ap₂ (λ (x y : ℕ). record { axes = axes_field img; counts = x ∷ y ∷ c ∷ d ∷ [] }) p q
+    ∙ ap₂ (λ (x y : ℕ). record { axes = axes_field img; counts = count_field img 0 ∷ count_field img 1 ∷ x ∷ y ∷ [] }) r s
 
 module _ (img : List ℕ) where
-  pub start-axes : good (startFault img) ≡ true → good (axesCountFault (axesField img)) ≡ true
-  unfolding startFault
-  start-axes h = orders.first-passed (axesCountFault (axesField img)) _ (orders.second-passed (fieldFault 0 1 (word_at 1 img 0)) _ (orders.second-passed (shortFault (length img)) _ h))
+  pub start_axes : good (start_fault img) ≡ true → good (axes_count_fault (axes_field img)) ≡ true
+  unfolding start_fault
+  start_axes h = orders.first-passed (axes_count_fault (axes_field img)) _ (orders.second_passed (field_fault 0 1 (word_at 1 img 0)) _ (orders.second_passed (short_fault (length img)) _ h))
 
-  module _ (h : good (axesCountFault (axesField img)) ≡ true) where
+  module _ (h : good (axes_count_fault (axes_field img)) ≡ true) where
     -- 1 and the counts are told before: what is left of the shape's faults is the product
-    module _ (g : good (first_of (countRow img) 0 4) ≡ true) where
-      each : (a : ℕ) → 0 ≤ a → a < 0 + axesField img → good (countFault a (get_or (tabulate 4 (countField img)) a 0)) ≡ true
+    module _ (g : good (first_fault (count_row img) 0 4) ≡ true) where
+      each : (a : ℕ) → 0 ≤ a → a < 0 + axes_field img → good (count_fault a (get_or (tabulate 4 (count_field img)) a 0)) ≡ true
       each a l m =
-          let four : a < 4 = omega (arith, axes-four (axesField img) h) in
-          ap good (ap (countFault a) (get_d_tabulate 4 a (countField img) 0 four) ∙ count-used img a (omega (arith, m)))
-          ∙ orders.all-passed (countRow img) 0 4 g a (omega arith) (omega (arith, four))
+          let four : a < 4 = omega (arith, axes_four (axes_field img) h) in
+          ap good (ap (count_fault a) (get_d_tabulate 4 a (count_field img) 0 four) ∙ count_used img a (omega (arith, m)))
+          ∙ orders.all_passed (count_row img) 0 4 g a (omega arith) (omega (arith, four))
 
-      pub product-only : shapeFault (shape_of img) ≡ productFault (shape_of img)
-      unfolding shapeFault productFault shape_of
-      product-only =
-          orders.or-good (axesCountFault (axesField img)) _ h
-          ∙ orders.or-good (first_of (λ a. countFault a (get_or (tabulate 4 (countField img)) a 0)) 0 (axesField img)) _
-          (ap good (orders.none-good (λ a. countFault a (get_or (tabulate 4 (countField img)) a 0)) 0 (axesField img) each) ∙ orders.good-no-fault)
+      pub product_only : shape_fault (shape_of img) ≡ product_fault (shape_of img)
+      unfolding shape_fault product_fault shape_of
+      product_only =
+          orders.or_good (axes_count_fault (axes_field img)) _ h
+          ∙ orders.or_good (first_fault (λ a. count_fault a (get_or (tabulate 4 (count_field img)) a 0)) 0 (axes_field img)) _
+          (ap good (orders.none_good (λ a. count_fault a (get_or (tabulate 4 (count_field img)) a 0)) 0 (axes_field img) each) ∙ orders.good-no_fault)
 
 -- where the whole header passes, so does its shape
-pub head-shape : (img : List ℕ) → good (headFault img) ≡ true → ShapeJudged img
-unfolding headFault
-head-shape img h =
-    let h1 = orders.second-passed (startFault img) _ h in
-    let s : good (startFault img) ≡ true = orders.first-passed (startFault img) _ h in
-    let c : good (first_of (countRow img) 0 4) ≡ true = orders.first-passed (first_of (countRow img) 0 4) _ h1 in
-    let p : good (productFault (shape_of img)) ≡ true = orders.first-passed (productFault (shape_of img)) _ (orders.second-passed (first_of (countRow img) 0 4) _ h1) in
-    ap good (product-only img (start-axes img s) c) ∙ p
+pub head_shape : (img : List ℕ) → good (head_fault img) ≡ true → ShapeJudged img
+unfolding head_fault
+head_shape img h =
+    let h1 = orders.second_passed (start_fault img) _ h in
+    let s : good (start_fault img) ≡ true = orders.first-passed (start_fault img) _ h in
+    let c : good (first_fault (count_row img) 0 4) ≡ true = orders.first-passed (first_fault (count_row img) 0 4) _ h1 in
+    let p : good (product_fault (shape_of img)) ≡ true = orders.first-passed (product_fault (shape_of img)) _ (orders.second_passed (first_fault (count_row img) 0 4) _ h1) in
+    ap good (product_only img (start_axes img s) c) ∙ p
 
 -- its unused counts are zero
-pub unused-zero : (img : List ℕ) → good (headFault img) ≡ true → (a : ℕ) → a < 4 → axesField img ≤ a → countField img a ≡ 0
-unfolding headFault
-unused-zero img h a m l =
-    let c : good (first_of (countRow img) 0 4) ≡ true = orders.first-passed (first_of (countRow img) 0 4) _ (orders.second-passed (startFault img) _ h) in
-    field_is (8 + 2 * a) 0 (countField img a) (ap good (count-unused img a l) ∙ orders.all-passed (countRow img) 0 4 c a (omega arith) (omega (arith, m)))
+pub unused_zero : (img : List ℕ) → good (head_fault img) ≡ true → (a : ℕ) → a < 4 → axes_field img ≤ a → count_field img a ≡ 0
+unfolding head_fault
+unused_zero img h a m l =
+    let c : good (first_fault (count_row img) 0 4) ≡ true = orders.first-passed (first_fault (count_row img) 0 4) _ (orders.second_passed (start_fault img) _ h) in
+    field_is (8 + 2 * a) 0 (count_field img a) (ap good (count_unused img a l) ∙ orders.all_passed (count_row img) 0 4 c a (omega arith) (omega (arith, m)))
 
 -- it is as long as it states, and no longer than an image may be
-module _ (img : List ℕ) (h : good (headFault img) ≡ true) where
-  starts : good (startFault img) ≡ true
-  unfolding headFault
-  starts = orders.first-passed (startFault img) _ h
+module _ (img : List ℕ) (h : good (head_fault img) ≡ true) where
+  starts : good (start_fault img) ≡ true
+  unfolding head_fault
+  starts = orders.first-passed (start_fault img) _ h
 
   row : eqb (word_at 4 img 4) (length img) && (leb 40 (word_at 4 img 4) && leb (word_at 4 img 4) 36864) ≡ true
-  unfolding startFault statedFault
+  unfolding start_fault stated_fault
   row =
-      let h1 = orders.second-passed (shortFault (length img)) _ starts in
-      let h2 = orders.second-passed (fieldFault 0 1 (word_at 1 img 0)) _ h1 in
-      let h3 = orders.second-passed (axesCountFault (axesField img)) _ h2 in
-      let h4 = orders.second-passed (fieldFault 2 0 (word_at 2 img 2)) (statedFault (word_at 4 img 4) (length img)) h3 in
-      not-false (eqb (word_at 4 img 4) (length img) && (leb 40 (word_at 4 img 4) && leb (word_at 4 img 4) 36864))
-      (orders.row-good (not (eqb (word_at 4 img 4) (length img) && (leb 40 (word_at 4 img 4) && leb (word_at 4 img 4) 36864))) 12 0 4 h4)
+      let h1 = orders.second_passed (short_fault (length img)) _ starts in
+      let h2 = orders.second_passed (field_fault 0 1 (word_at 1 img 0)) _ h1 in
+      let h3 = orders.second_passed (axes_count_fault (axes_field img)) _ h2 in
+      let h4 = orders.second_passed (field_fault 2 0 (word_at 2 img 2)) (stated_fault (word_at 4 img 4) (length img)) h3 in
+      not_false (eqb (word_at 4 img 4) (length img) && (leb 40 (word_at 4 img 4) && leb (word_at 4 img 4) 36864))
+      (orders.row_good (not (eqb (word_at 4 img 4) (length img) && (leb 40 (word_at 4 img 4) && leb (word_at 4 img 4) 36864))) 12 0 4 h4)
 
-  pub stated-length : (word_at 4 img 4 ≡ length img) × ((40 ≤ word_at 4 img 4) × (word_at 4 img 4 ≤ 36864))
-  stated-length =
+  pub stated_length : (word_at 4 img 4 ≡ length img) × ((40 ≤ word_at 4 img 4) × (word_at 4 img 4 ≤ 36864))
+  stated_length =
       let both = and_right (eqb (word_at 4 img 4) (length img)) (leb 40 (word_at 4 img 4) && leb (word_at 4 img 4) 36864) row in (
         eqb-true (word_at 4 img 4) (length img) (and_left (eqb (word_at 4 img 4) (length img)) (leb 40 (word_at 4 img 4) && leb (word_at 4 img 4) 36864) row),
         (

@@ -7,14 +7,14 @@ use Rattle.answer.specs.Faults.{good}
 use Rattle.answer.proofs.Orders as orders
 use Rattle.answer.proofs.Answers.{Quiet, quiet}
 use Rattle.image.specs.Fields.{shape_of}
-use Rattle.image.specs.Load.{loadFault, loadAnswer}
+use Rattle.image.specs.Load.{load_fault, load_answer}
 use Rattle.layout.specs.Shape.{no_shape}
 
 module _ (img : List ℕ) (nodes values : ℕ) where
-  pub load-quiet : Quiet (loadAnswer img nodes values).answer
-  unfolding loadAnswer
-  load-quiet = quiet _
+  pub load_quiet : Quiet (load_answer img nodes values).answer
+  unfolding load_answer
+  load_quiet = quiet _
 
-  pub load-no-shape : good (loadFault img nodes values) ≡ false → (loadAnswer img nodes values).shape ≡ no_shape
-  unfolding loadAnswer
-  load-no-shape h = orders.given-bad (loadFault img nodes values) (shape_of img) no_shape h
+  pub load-no_shape : good (load_fault img nodes values) ≡ false → (load_answer img nodes values).shape ≡ no_shape
+  unfolding load_answer
+  load-no_shape h = orders.given_bad (load_fault img nodes values) (shape_of img) no_shape h

@@ -7,40 +7,40 @@ use Prim.Native.Nat.{ℕ, ◌+◌, ◌≤◌, ◌<◌, min, max}
 use native.Mathlib.Omega.{arith}
 use borrow.Author.Tests.{lt-ltb, le-ltb, ltb-true}
 use lib.Dec.{ltb}
-use Rattle.answer.specs.Faults.{refusal, noFault, good}
-use Rattle.answer.proofs.Orders.{row-met, row-passed, row-good, clash, passed-no-fault}
-use Rattle.checks.specs.Numbers.{sharing, sharedFault}
-use Rattle.layout.specs.Shape.{countsOf, size}
-use Rattle.image.specs.Fields.{axesField, countField, offsetField, valuesField, shape_of, areaOf}
+use Rattle.answer.specs.Faults.{refusal, no_fault, good}
+use Rattle.answer.proofs.Orders.{row_met, row_passed, row_good, clash, passed-no_fault}
+use Rattle.checks.specs.Numbers.{sharing, shared_fault}
+use Rattle.layout.specs.Shape.{counts_of, size}
+use Rattle.image.specs.Fields.{axes_field, count_field, offset_field, values_field, shape_of, area_of}
 use Rattle.image.specs.declared.areas.Area.{Area}
 
 -- ---- an area by its number
 module _ (img : List ℕ) (k : ℕ) where
   abbrev either : Bool → Area
-  either b = cond b (record { at = offsetField img k; floats = countField img k }) (record { at = valuesField img; floats = size (countsOf (shape_of img)) })
+  either b = cond b (record { at = offset_field img k; floats = count_field img k }) (record { at = values_field img; floats = size (counts_of (shape_of img)) })
 
-  pub area-axis : k < axesField img → areaOf img k ≡ record { at = offsetField img k; floats = countField img k }
-  unfolding areaOf
-  area-axis h = ap either (lt-ltb k (axesField img) h)
+  pub area_axis : k < axes_field img → area_of img k ≡ record { at = offset_field img k; floats = count_field img k }
+  unfolding area_of
+  area_axis h = ap either (lt-ltb k (axes_field img) h)
 
-  pub area-values : axesField img ≤ k → areaOf img k ≡ record { at = valuesField img; floats = size (countsOf (shape_of img)) }
-  unfolding areaOf
-  area-values h = ap either (le-ltb k (axesField img) h)
+  pub area_values : axes_field img ≤ k → area_of img k ≡ record { at = values_field img; floats = size (counts_of (shape_of img)) }
+  unfolding area_of
+  area_values h = ap either (le-ltb k (axes_field img) h)
 
   -- the same of where it begins, and of how many floats it has
-  module _ (h : k < axesField img) where
-    pub axis-begins : (areaOf img k).at ≡ offsetField img k
-    axis-begins = ap (λ (x : Area). x.at) (area-axis h)
+  module _ (h : k < axes_field img) where
+    pub axis_begins : (area_of img k).at ≡ offset_field img k
+    axis_begins = ap (λ (x : Area). x.at) (area_axis h)
 
-    pub axis-holds : (areaOf img k).floats ≡ countField img k
-    axis-holds = ap (λ (x : Area). x.floats) (area-axis h)
+    pub axis_holds : (area_of img k).floats ≡ count_field img k
+    axis_holds = ap (λ (x : Area). x.floats) (area_axis h)
 
-  module _ (h : axesField img ≤ k) where
-    pub values-begin : (areaOf img k).at ≡ valuesField img
-    values-begin = ap (λ (x : Area). x.at) (area-values h)
+  module _ (h : axes_field img ≤ k) where
+    pub values_begin : (area_of img k).at ≡ values_field img
+    values_begin = ap (λ (x : Area). x.at) (area_values h)
 
-    pub values-hold : (areaOf img k).floats ≡ size (countsOf (shape_of img))
-    values-hold = ap (λ (x : Area). x.floats) (area-values h)
+    pub values_hold : (area_of img k).floats ≡ size (counts_of (shape_of img))
+    values_hold = ap (λ (x : Area). x.floats) (area_values h)
 
 -- ---- two areas
 module _ (at long at' long' : ℕ) where
@@ -51,41 +51,41 @@ module _ (at long at' long' : ℕ) where
   end = min (at + long) (at' + long')
 
   -- the byte that is shared, where one is: the first of the later area
-  pub byte-from : sharing at long at' long' ≡ true → ((at ≤ from) × (from < at + long)) × ((at' ≤ from) × (from < at' + long'))
+  pub byte_from : sharing at long at' long' ≡ true → ((at ≤ from) × (from < at + long)) × ((at' ≤ from) × (from < at' + long'))
   unfolding sharing
-  byte-from h = let l = ltb-true from end h in ((omega arith, omega (arith, l)), (omega arith, omega (arith, l)))
+  byte_from h = let l = ltb-true from end h in ((omega arith, omega (arith, l)), (omega arith, omega (arith, l)))
 
   -- any byte that lies in both is shared
-  pub byte-shared : (byte : ℕ) → at ≤ byte → byte < at + long → at' ≤ byte → byte < at' + long' → sharing at long at' long' ≡ true
+  pub byte_shared : (byte : ℕ) → at ≤ byte → byte < at + long → at' ≤ byte → byte < at' + long' → sharing at long at' long' ≡ true
   unfolding sharing
-  byte-shared byte l m p q = lt-ltb from end (omega (arith, l, m, p, q))
+  byte_shared byte l m p q = lt-ltb from end (omega (arith, l, m, p, q))
 
   -- ---- 18
   module _ (i j : ℕ) where
-    pub shared-met : (x : ℕ) → x ≡ max at at' → x < at + long → x < at' + long' → refusal 18 i j ≡ sharedFault i j at long at' long'
-    unfolding sharedFault sharing
-    shared-met x e h k = row-met (ltb from end) 17 i j (lt-ltb from end (omega (arith, e, h, k)))
+    pub shared_met : (x : ℕ) → x ≡ max at at' → x < at + long → x < at' + long' → refusal 18 i j ≡ shared_fault i j at long at' long'
+    unfolding shared_fault sharing
+    shared_met x e h k = row_met (ltb from end) 17 i j (lt-ltb from end (omega (arith, e, h, k)))
 
-    pub shared-past : (x : ℕ) → x ≡ max at at' → (at + long ≤ x) ⊎ (at' + long' ≤ x) → noFault ≡ sharedFault i j at long at' long'
-    unfolding sharedFault sharing
-    shared-past x e (inl h) = row-passed (ltb from end) 17 i j (le-ltb from end (omega (arith, e, h)))
-    shared-past x e (inr h) = row-passed (ltb from end) 17 i j (le-ltb from end (omega (arith, e, h)))
+    pub shared_past : (x : ℕ) → x ≡ max at at' → (at + long ≤ x) ⊎ (at' + long' ≤ x) → no_fault ≡ shared_fault i j at long at' long'
+    unfolding shared_fault sharing
+    shared_past x e (inl h) = row_passed (ltb from end) 17 i j (le-ltb from end (omega (arith, e, h)))
+    shared_past x e (inr h) = row_passed (ltb from end) 17 i j (le-ltb from end (omega (arith, e, h)))
 
-    pub shared-told : sharing at long at' long' ≡ true → sharedFault i j at long at' long' ≡ refusal 18 i j
-    unfolding sharedFault
-    shared-told h = sym (row-met (sharing at long at' long') 17 i j h)
+    pub shared_told : sharing at long at' long' ≡ true → shared_fault i j at long at' long' ≡ refusal 18 i j
+    unfolding shared_fault
+    shared_told h = sym (row_met (sharing at long at' long') 17 i j h)
 
-    pub shared-passed : sharing at long at' long' ≡ false → good (sharedFault i j at long at' long') ≡ true
-    unfolding sharedFault
-    shared-passed h = passed-no-fault _ (row-passed (sharing at long at' long') 17 i j h)
+    pub shared_passed : sharing at long at' long' ≡ false → good (shared_fault i j at long at' long') ≡ true
+    unfolding shared_fault
+    shared_passed h = passed-no_fault _ (row_passed (sharing at long at' long') 17 i j h)
 
-    pub shared-apart : good (sharedFault i j at long at' long') ≡ true → sharing at long at' long' ≡ false
-    unfolding sharedFault
-    shared-apart h = row-good (sharing at long at' long') 17 i j h
+    pub shared_apart : good (shared_fault i j at long at' long') ≡ true → sharing at long at' long' ≡ false
+    unfolding shared_fault
+    shared_apart h = row_good (sharing at long at' long') 17 i j h
 
-    pub shared-bad : good (sharedFault i j at long at' long') ≡ false → sharing at long at' long' ≡ true
-    shared-bad h = go (sharing at long at' long') refl
+    pub shared_bad : good (shared_fault i j at long at' long') ≡ false → sharing at long at' long' ≡ true
+    shared_bad h = go (sharing at long at' long') refl
       where
         go : (b : Bool) → sharing at long at' long' ≡ b → sharing at long at' long' ≡ true
         go true e = e
-        go false e = clash (good (sharedFault i j at long at' long')) (shared-passed e) h
+        go false e = clash (good (shared_fault i j at long at' long')) (shared_passed e) h

@@ -5,13 +5,13 @@ use Rattle.std.proofs.lemmas.List.Edits.{sets}
 use Rattle.answer.specs.Answer.{refused}
 use Rattle.answer.specs.Faults.{good}
 use Rattle.answer.specs.declared.Fault.{Fault}
-use Rattle.layout.specs.Shape.{no_shape, countsOf, size, total}
-use Rattle.checks.specs.Shapes.{shapeFault}
-use Rattle.checks.specs.Numbers.{areaFault, sharedFault}
+use Rattle.layout.specs.Shape.{no_shape, counts_of, size, total}
+use Rattle.checks.specs.Shapes.{shape_fault}
+use Rattle.checks.specs.Numbers.{area_fault, shared_fault}
 use Rattle.checks.specs.declared.shapes.Holding.{Holding}
-use Rattle.image.specs.Head.{countRow, offsetRow}
-use Rattle.image.specs.Fields.{axesField, shape_of, areaOf}
-use Rattle.image.specs.Image.{nodesIn, valuesIn}
+use Rattle.image.specs.Head.{count_row, offset_row}
+use Rattle.image.specs.Fields.{axes_field, shape_of, area_of}
+use Rattle.image.specs.Image.{nodes_in, values_in}
 use Rattle.image.specs.declared.LoadAnswer.{LoadAnswer}
 use Rattle.image.specs.declared.rows.Rows.{Rows}
 use Rattle.image.specs.declared.rows.Rows.TheVariants.{Counts, Offsets}
@@ -21,8 +21,8 @@ use Rattle.image.specs.declared.areas.Asked.{Asked}
 use Rattle.image.specs.declared.areas.Asked.TheVariants.{Alone, SharedWith}
 
 -- the answer of a fault, with no shape
-unfoldable pub refusedLoad : Fault → LoadAnswer
-refusedLoad fault = record { answer = refused fault; shape = no_shape }
+unfoldable pub refused_load : Fault → LoadAnswer
+refused_load fault = record { answer = refused fault; shape = no_shape }
 
 -- a number of the header, and how large it may be
 pub record Number (x bound r : ℕ) : Type 0 where
@@ -31,7 +31,7 @@ pub record Number (x bound r : ℕ) : Type 0 where
 
 -- an image whose shape passes 1 and 2
 abbrev pub ShapeJudged : List ℕ → Type 0
-ShapeJudged img = good (shapeFault (shape_of img)) ≡ true
+ShapeJudged img = good (shape_fault (shape_of img)) ≡ true
 
 -- an area, as large as the header can say
 pub record Bounded (offset n : ℕ) : Type 0 where
@@ -44,24 +44,24 @@ pub record BothBounded (one other : Area) : Type 0 where
   pub second : Bounded other.at other.floats
 
 -- one of the areas as the code has them, by its number
-abbrev pub areaIn : Areas → ℕ → Area
-areaIn areas k = record { at = get_or areas.at k 0; floats = get_or areas.floats k 0 }
+abbrev pub area_in : Areas → ℕ → Area
+area_in areas k = record { at = get_or areas.at k 0; floats = get_or areas.floats k 0 }
 
 -- areas of at most four axes and of the values, each bounded
 pub record AreasHeld (areas : Areas) : Type 0 where
   pub four : areas.axes ≤ 4
-  pub bounded : (k : ℕ) → k ≤ areas.axes → Bounded (areaIn areas k).at (areaIn areas k).floats
+  pub bounded : (k : ℕ) → k ≤ areas.axes → Bounded (area_in areas k).at (area_in areas k).floats
 
 -- the areas of an image
 pub record AreasIn (img : List ℕ) (areas : Areas) : Type 0 where
-  pub axes-are : areas.axes ≡ axesField img
-  pub areas-are : (k : ℕ) → k ≤ axesField img → areaIn areas k ≡ areaOf img k
+  pub axes_are : areas.axes ≡ axes_field img
+  pub areas_are : (k : ℕ) → k ≤ axes_field img → area_in areas k ≡ area_of img k
   pub held : AreasHeld areas
 
 -- what is asked of an area
 abbrev pub asked_of : Asked → Areas → ℕ → Fault
-asked_of (Alone len) areas k = areaFault len k (areaIn areas k).at (areaIn areas k).floats
-asked_of (SharedWith i) areas k = sharedFault i k (areaIn areas i).at (8 * (areaIn areas i).floats) (areaIn areas k).at (8 * (areaIn areas k).floats)
+asked_of (Alone len) areas k = area_fault len k (area_in areas k).at (area_in areas k).floats
+asked_of (SharedWith i) areas k = shared_fault i k (area_in areas i).at (8 * (area_in areas i).floats) (area_in areas k).at (8 * (area_in areas k).floats)
 
 -- the area that it is asked with is one of them
 abbrev pub WithOne : Asked → Areas → Type 0
@@ -72,22 +72,22 @@ WithOne (SharedWith i) areas = i ≤ areas.axes
 pub record AreaAsked (asked : Asked) (areas : Areas) (k : ℕ) : Type 0 where
   pub held : AreasHeld areas
   pub there : k ≤ areas.axes
-  pub with-one : WithOne asked areas
+  pub with_one : WithOne asked areas
 
 pub record RowsAsked (asked : Asked) (areas : Areas) (end : ℕ) : Type 0 where
   pub held : AreasHeld areas
   pub inside : end ≤ areas.axes + 1
-  pub with-one : WithOne asked areas
+  pub with_one : WithOne asked areas
 
 -- what is asked of an axis
 abbrev pub row_of : Rows → List ℕ → ℕ → Fault
-row_of Counts img a = countRow img a
-row_of Offsets img a = offsetRow img a
+row_of Counts img a = count_row img a
+row_of Offsets img a = offset_row img a
 
 -- how many nodes and values it has
 pub record Holds (img : List ℕ) (r : Holding) : Type 0 where
-  pub nodes : r.nodes ≡ total (countsOf (shape_of img))
-  pub values : r.values ≡ size (countsOf (shape_of img))
+  pub nodes : r.nodes ≡ total (counts_of (shape_of img))
+  pub values : r.values ≡ size (counts_of (shape_of img))
   pub few : r.nodes ≤ 256
   pub small : r.values ≤ 4096
 
@@ -99,14 +99,14 @@ pub record AreaRoom (at count to len : ℕ) : Type 0 where
 -- room for all nodes, and for all nodes and all values
 pub record NodesRoom (img : List ℕ) (nodes : ℕ) : Type 0 where
   pub judged : ShapeJudged img
-  pub nodes-room : total (countsOf (shape_of img)) ≤ nodes
+  pub nodes_room : total (counts_of (shape_of img)) ≤ nodes
 
 pub record Rooms (img : List ℕ) (nodes values : ℕ) : Type 0 where
   pub judged : ShapeJudged img
-  pub nodes-room : total (countsOf (shape_of img)) ≤ nodes
-  pub values-room : size (countsOf (shape_of img)) ≤ values
+  pub nodes_room : total (counts_of (shape_of img)) ≤ nodes
+  pub values_room : size (counts_of (shape_of img)) ≤ values
 
 -- two outputs with the nodes and the values at their fronts
 pub record OutputsFilled (img : List ℕ) (nodes values nodes' values' : List Float) : Type 0 where
-  pub nodes-read : nodes' ≡ sets nodes 0 (nodesIn img)
-  pub values-read : values' ≡ sets values 0 (valuesIn img)
+  pub nodes_read : nodes' ≡ sets nodes 0 (nodes_in img)
+  pub values_read : values' ≡ sets values 0 (values_in img)

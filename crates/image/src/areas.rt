@@ -1,9 +1,9 @@
 // Where the areas lie: read from the header once, then 14 of each alone and 18 of each two.
 ghost use Rattle.std.specs.Prelude.{◌≡◌, [], ◌∷◌, ◌+◌, ◌-◌, ◌*◌, ◌<◌, max, set};
-ghost use Rattle.answer.specs.Faults.{first_of};
-ghost use Rattle.checks.specs.Numbers.{areaFault, sharedFault};
+ghost use Rattle.answer.specs.Faults.{first_fault};
+ghost use Rattle.checks.specs.Numbers.{area_fault, shared_fault};
 ghost use Rattle.image.specs.Scaffolding.{ShapeJudged, Bounded, BothBounded, AreasIn, AreasHeld, AreaAsked, RowsAsked};
-ghost use Rattle.image.specs.Scaffolding.{areaIn, asked_of};
+ghost use Rattle.image.specs.Scaffolding.{area_in, asked_of};
 ghost use Rattle.image.specs.declared.areas.Asked.TheVariants.{Alone, SharedWith};
 
 use crate::fields;
@@ -58,7 +58,7 @@ pub(crate) fn areas_of(img: &[u8]) -> Areas
 // The area of a number.
 fn area_of(areas: Areas, k: usize) -> Area
     requires { k < 5 }
-    ensures { result ≡ areaIn areas k }
+    ensures { result ≡ area_in areas k }
 {
     let at = areas.at;
     let floats = areas.floats;
@@ -71,7 +71,7 @@ fn area_of(areas: Areas, k: usize) -> Area
 // 14: an area that starts in the header or off a multiple of 8, or ends outside.
 fn area_fault(len: usize, axis: usize, offset: usize, n: usize) -> Fault
     requires { Bounded offset n }
-    ensures { result ≡ areaFault len axis offset n }
+    ensures { result ≡ area_fault len axis offset n }
 {
     if offset < crate::HEADER {
         return answer::refusal(14, axis, 0);
@@ -96,7 +96,7 @@ fn later(one: usize, other: usize) -> usize
 // 18: two areas of which the later begins before the first of their ends.
 fn shared_fault(i: usize, one: Area, j: usize, other: Area) -> Fault
     requires { BothBounded one other }
-    ensures { result ≡ sharedFault i j one.at (8 * one.floats) other.at (8 * other.floats) }
+    ensures { result ≡ shared_fault i j one.at (8 * one.floats) other.at (8 * other.floats) }
 {
     let from = later(one.at, other.at);
     if from >= one.at + 8 * one.floats {
@@ -131,7 +131,7 @@ fn row_fault(asked: Asked, areas: Areas, k: usize) -> Fault
 // The first fault of the areas from a number on, up to an end.
 fn rows_fault(asked: Asked, areas: Areas, from: usize, end: usize) -> Fault
     requires { RowsAsked asked areas end }
-    ensures { result ≡ first_of (asked_of asked areas) from (end - from) }
+    ensures { result ≡ first_fault (asked_of asked areas) from (end - from) }
 {
     let mut k = from;
     while k < end {
@@ -147,7 +147,7 @@ fn rows_fault(asked: Asked, areas: Areas, from: usize, end: usize) -> Fault
 // 14: each area alone.
 pub(crate) fn areas_fault(len: usize, areas: Areas) -> Fault
     requires { AreasHeld areas }
-    ensures { result ≡ first_of (asked_of (Alone len) areas) 0 (areas.axes + 1) }
+    ensures { result ≡ first_fault (asked_of (Alone len) areas) 0 (areas.axes + 1) }
 {
     rows_fault(Asked::Alone(len), areas, 0, areas.axes + 1)
 }
@@ -155,7 +155,7 @@ pub(crate) fn areas_fault(len: usize, areas: Areas) -> Fault
 // 18: the first two areas that share a byte.
 pub(crate) fn pairs_fault(areas: Areas) -> Fault
     requires { AreasHeld areas }
-    ensures { result ≡ first_of (λ i. first_of (asked_of (SharedWith i) areas) (i + 1) (areas.axes - i)) 0 areas.axes }
+    ensures { result ≡ first_fault (λ i. first_fault (asked_of (SharedWith i) areas) (i + 1) (areas.axes - i)) 0 areas.axes }
 {
     let axes = areas.axes;
     let mut i: usize = 0;

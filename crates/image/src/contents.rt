@@ -1,9 +1,9 @@
 // What lies in the areas: the room that is lent for it; read, and judged before anything lent is written.
 ghost use Rattle.std.specs.Prelude.{◌≡◌, length};
 ghost use Rattle.std.proofs.lemmas.List.Edits.{sets};
-ghost use Rattle.image.specs.Image.{floatsAt, nodesIn};
+ghost use Rattle.image.specs.Image.{floats_at, nodes_in};
 ghost use Rattle.image.specs.Fields.{shape_of};
-ghost use Rattle.image.specs.Load.{roomsFault, contentsFault};
+ghost use Rattle.image.specs.Load.{rooms_fault, contents_fault};
 ghost use Rattle.image.specs.Scaffolding.{ShapeJudged, AreaRoom, NodesRoom, Rooms, OutputsFilled};
 
 use crate::fields;
@@ -14,7 +14,7 @@ use orders::stages;
 // 15: an output that is too short.
 pub(crate) fn rooms_fault(img: &[u8], nodes: usize, values: usize) -> Fault
     requires { ShapeJudged img.now }
-    ensures { result ≡ roomsFault (shape_of img.now) nodes values }
+    ensures { result ≡ rooms_fault (shape_of img.now) nodes values }
 {
     let held = fields::sizes_of(img);
     let fault = lent::room_fault(0, held.nodes, nodes);
@@ -27,11 +27,11 @@ pub(crate) fn rooms_fault(img: &[u8], nodes: usize, values: usize) -> Fault
 // Reads so many floats into a part of an output.
 fn read_floats(img: &[u8], at: usize, out: &mut [f64], to: usize, count: usize)
     requires { AreaRoom at count to (length out.old) }
-    ensures { out.new ≡ sets out.old to (floatsAt img.now at count) }
+    ensures { out.new ≡ sets out.old to (floats_at img.now at count) }
 {
     let mut i: usize = 0;
     while i < count {
-        let x = bytes::float(img, at + 8 * i);
+        let x = little_endian::float(img, at + 8 * i);
         out[to + i] = x;
         i += 1;
     }
@@ -40,7 +40,7 @@ fn read_floats(img: &[u8], at: usize, out: &mut [f64], to: usize, count: usize)
 // Reads the nodes, axis after axis.
 fn read_nodes(img: &[u8], out: &mut [f64])
     requires { NodesRoom img.now (length out.old) }
-    ensures { out.new ≡ sets out.old 0 (nodesIn img.now) }
+    ensures { out.new ≡ sets out.old 0 (nodes_in img.now) }
 {
     let axes = fields::axes_of(img);
     let mut to: usize = 0;
@@ -68,7 +68,7 @@ pub(crate) fn read(img: &[u8], nodes: &mut [f64], values: &mut [f64])
 // 4 to 7, of what is read into two spaces.
 fn spaces_fault(img: &[u8], nodes: &mut [f64], values: &mut [f64]) -> Fault
     requires { Rooms img.now (length nodes.old) (length values.old) }
-    ensures { result ≡ contentsFault img.now }
+    ensures { result ≡ contents_fault img.now }
 {
     read(img, nodes, values);
     let held = fields::sizes_of(img);
@@ -81,7 +81,7 @@ fn spaces_fault(img: &[u8], nodes: &mut [f64], values: &mut [f64]) -> Fault
 // need not have.
 pub(crate) fn contents_fault(img: &[u8]) -> Fault
     requires { ShapeJudged img.now }
-    ensures { result ≡ contentsFault img.now }
+    ensures { result ≡ contents_fault img.now }
 {
     let mut nodes = [1.0f64; 256];
     let mut values = [1.0f64; 4096];

@@ -1,7 +1,7 @@
 // The numbers that the header of an image says; where the image is too short for one, its bytes that are not there count as 0.
 ghost use Rattle.std.specs.Prelude.{◌≡◌, ◌^◌, ◌≤◌};
-ghost use Rattle.bytes.specs.Words.{word_at};
-ghost use Rattle.image.specs.Fields.{axesField, countField, offsetField, valuesField, shape_of};
+ghost use Rattle.little_endian.specs.Words.{word_at};
+ghost use Rattle.image.specs.Fields.{axes_field, count_field, offset_field, values_field, shape_of};
 ghost use Rattle.image.specs.Scaffolding.{Number, ShapeJudged, Holds};
 
 use checks::shapes;
@@ -13,12 +13,12 @@ pub(crate) fn field(img: &[u8], at: usize, n: usize) -> usize
     requires { n ≤ 4 }
     ensures { Number (word_at n img.now at) (256 ^ n) result }
 {
-    bytes::word(img, at, n) as usize
+    little_endian::word(img, at, n) as usize
 }
 
 // How many axes.
 pub(crate) fn axes_of(img: &[u8]) -> usize
-    ensures { Number (axesField img.now) 256 result }
+    ensures { Number (axes_field img.now) 256 result }
 {
     field(img, 1, 1)
 }
@@ -26,7 +26,7 @@ pub(crate) fn axes_of(img: &[u8]) -> usize
 // The count of nodes of an axis.
 pub(crate) fn count_of(img: &[u8], a: usize) -> usize
     requires { a ≤ 4 }
-    ensures { Number (countField img.now a) 65536 result }
+    ensures { Number (count_field img.now a) 65536 result }
 {
     field(img, 8 + 2 * a, 2)
 }
@@ -34,14 +34,14 @@ pub(crate) fn count_of(img: &[u8], a: usize) -> usize
 // Where the nodes of an axis stand.
 pub(crate) fn offset_of(img: &[u8], a: usize) -> usize
     requires { a ≤ 4 }
-    ensures { Number (offsetField img.now a) 4294967296 result }
+    ensures { Number (offset_field img.now a) 4294967296 result }
 {
     field(img, 16 + 4 * a, 4)
 }
 
 // Where the values stand.
 pub(crate) fn values_at(img: &[u8]) -> usize
-    ensures { Number (valuesField img.now) 4294967296 result }
+    ensures { Number (values_field img.now) 4294967296 result }
 {
     field(img, 32, 4)
 }

@@ -1,6 +1,6 @@
 // The checks of the header, in the paper's order. For every input.
 ghost use Rattle.std.specs.Prelude.{◌≡◌};
-ghost use Rattle.image.specs.Head.{startFault, headFault};
+ghost use Rattle.image.specs.Head.{start_fault, head_fault};
 
 use crate::rows::Rows;
 use crate::{fields, rows};
@@ -9,7 +9,7 @@ use checks::{counts, shapes};
 
 // Under 40 bytes; byte 0; byte 1; bytes 2-3; length.
 fn start_fault(img: &[u8]) -> Fault
-    ensures { result ≡ startFault img.now }
+    ensures { result ≡ start_fault img.now }
 {
     let fault = rows::short_fault(img.len());
     if fault.number != 0 {
@@ -32,7 +32,7 @@ fn start_fault(img: &[u8]) -> Fault
 
 // All of the header, areas apart.
 pub(crate) fn head_fault(img: &[u8]) -> Fault
-    ensures { result ≡ headFault img.now }
+    ensures { result ≡ head_fault img.now }
 {
     let fault = start_fault(img);
     if fault.number != 0 {

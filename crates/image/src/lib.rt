@@ -1,7 +1,7 @@
 // The table image: a header of counts and offsets, then nodes and values as f64 bits, anywhere after it, no byte in two areas.
 ghost use Rattle.std.specs.Prelude.{◌≡◌};
-ghost use Rattle.image.specs.Load.{loadFault, Loaded};
-ghost use Rattle.image.specs.Scaffolding.{refusedLoad};
+ghost use Rattle.image.specs.Load.{load_fault, Loaded};
+ghost use Rattle.image.specs.Scaffolding.{refused_load};
 
 // where the areas lie
 pub(crate) mod areas;
@@ -33,7 +33,7 @@ pub struct LoadAnswer {
 
 // Every check, before anything is written.
 fn load_fault(img: &[u8], nodes: usize, values: usize) -> Fault
-    ensures { result ≡ loadFault img.now nodes values }
+    ensures { result ≡ load_fault img.now nodes values }
 {
     let fault = headers::head_fault(img);
     if fault.number != 0 {
@@ -57,7 +57,7 @@ fn load_fault(img: &[u8], nodes: usize, values: usize) -> Fault
 
 // The answer of a load that is refused.
 fn refused(fault: Fault) -> LoadAnswer
-    ensures { result ≡ refusedLoad fault }
+    ensures { result ≡ refused_load fault }
 {
     LoadAnswer {
         answer: answer::refuse(fault),

@@ -1,8 +1,8 @@
 // 13: the rows that judge a number of the header, and those that go over the axes.
 ghost use Rattle.std.specs.Prelude.{◌≡◌, ◌-◌, ◌≤◌};
-ghost use Rattle.answer.specs.Faults.{first_of};
-ghost use Rattle.checks.specs.Numbers.{fieldFault, shortFault, statedFault};
-ghost use Rattle.image.specs.Head.{countRow, offsetRow};
+ghost use Rattle.answer.specs.Faults.{first_fault};
+ghost use Rattle.checks.specs.Numbers.{field_fault, short_fault, stated_fault};
+ghost use Rattle.image.specs.Head.{count_row, offset_row};
 ghost use Rattle.image.specs.Scaffolding.{row_of};
 
 use crate::fields;
@@ -11,7 +11,7 @@ use checks::counts;
 
 // 13: a field that is not what it must be.
 pub(crate) fn field_fault(place: usize, wanted: usize, x: usize) -> Fault
-    ensures { result ≡ fieldFault place wanted x }
+    ensures { result ≡ field_fault place wanted x }
 {
     if x == wanted {
         answer::no_fault()
@@ -22,7 +22,7 @@ pub(crate) fn field_fault(place: usize, wanted: usize, x: usize) -> Fault
 
 // 13: fewer bytes than a header has.
 pub(crate) fn short_fault(len: usize) -> Fault
-    ensures { result ≡ shortFault len }
+    ensures { result ≡ short_fault len }
 {
     if len < crate::HEADER {
         answer::refusal(13, 0, 0)
@@ -33,7 +33,7 @@ pub(crate) fn short_fault(len: usize) -> Fault
 
 // 13: a stated length that is not the image's, or that no image has.
 pub(crate) fn stated_fault(stated: usize, len: usize) -> Fault
-    ensures { result ≡ statedFault stated len }
+    ensures { result ≡ stated_fault stated len }
 {
     if stated != len {
         return answer::refusal(13, 0, 4);
@@ -51,7 +51,7 @@ pub(crate) fn stated_fault(stated: usize, len: usize) -> Fault
 // 2 of a count that is used, 13 of one that is not.
 fn count_row(img: &[u8], a: usize) -> Fault
     requires { a ≤ 4 }
-    ensures { result ≡ countRow img.now a }
+    ensures { result ≡ count_row img.now a }
 {
     let count = fields::count_of(img, a);
     if a < fields::axes_of(img) {
@@ -64,7 +64,7 @@ fn count_row(img: &[u8], a: usize) -> Fault
 // 13 of an offset that is not used.
 fn offset_row(img: &[u8], a: usize) -> Fault
     requires { a ≤ 4 }
-    ensures { result ≡ offsetRow img.now a }
+    ensures { result ≡ offset_row img.now a }
 {
     field_fault(16 + 4 * a, 0, fields::offset_of(img, a))
 }
@@ -90,7 +90,7 @@ fn row_fault(rows: Rows, img: &[u8], a: usize) -> Fault
 // The first fault of the axes from one on, up to an end.
 pub(crate) fn rows_fault(rows: Rows, img: &[u8], from: usize, end: usize) -> Fault
     requires { end ≤ 4 }
-    ensures { result ≡ first_of (row_of rows img.now) from (end - from) }
+    ensures { result ≡ first_fault (row_of rows img.now) from (end - from) }
 {
     let mut a = from;
     while a < end {

@@ -14,76 +14,76 @@ use Rattle.binary64.proofs.Held.{Held}
 use Rattle.checks.specs.Nodes.{node}
 use Rattle.checks.specs.Passed.{Axis}
 use Rattle.checks.specs.Scaffolding.{Grid}
-use Rattle.checks.specs.Numbers.{rangeFault, resultFault, resultsFault}
-use Rattle.checks.proofs.numbers.Rows.{result-fine}
-use Rattle.checks.proofs.ranges.Rows.{range-low, range-high}
-use Rattle.checks.proofs.table.Grids.{frame-axes, grid-of, length-axis}
-use Rattle.layout.specs.Shape.{countsOf, size}
-use Rattle.layout.specs.Layout.{axisOf, table, indicesAt, Inside, without}
+use Rattle.checks.specs.Numbers.{range_fault, result_fault, results_fault}
+use Rattle.checks.proofs.numbers.Rows.{result_fine}
+use Rattle.checks.proofs.ranges.Rows.{range_low, range_high}
+use Rattle.checks.proofs.table.Grids.{frame_axes, grid_of, length-axis}
+use Rattle.layout.specs.Shape.{counts_of, size}
+use Rattle.layout.specs.Layout.{axis_of, table, indices_at, Inside, without}
 use Rattle.layout.specs.declared.Shape.{Shape}
-use Rattle.layout.proofs.Layouts.{get_d_tabulate, indices-inside}
+use Rattle.layout.proofs.Layouts.{get_d_tabulate, indices_inside}
 use Rattle.blend.specs.Blend.{sliced}
-use Rattle.blend.proofs.Bounded.{Number, Fair, location-fair, sliced-bounded}
-use Rattle.axis.specs.Locations.{axisLocation}
-use Rattle.axis.proofs.Located.{location-fits}
+use Rattle.blend.proofs.Bounded.{Number, Fair, location_fair, sliced_bounded}
+use Rattle.axis.specs.Locations.{axis_location}
+use Rattle.axis.proofs.Located.{location_fits}
 use Rattle.ninterp.proofs.Demands.{Accepted}
-use Rattle.ninterp.proofs.LinearFinite.{held-axis, stored-number}
-use Rattle.slices.specs.LinearSlices.{alongFirst, linearValues, linearSliceFault}
+use Rattle.ninterp.proofs.LinearFinite.{held-axis, stored_number}
+use Rattle.slices.specs.LinearSlices.{along_first, linear_values, linear_slice_fault}
 use Rattle.slices.proofs.Alongs.{length-along}
-use Rattle.laws.proofs.Makes.{linear-slice-made}
+use Rattle.laws.proofs.Makes.{linear_slice_made}
 
 -- an index list with a node of the first axis in front
-first-inside : (cs is : List ℕ) (i : ℕ) → 0 < length cs → i < get_or cs 0 0 → Inside is (without 0 cs) → Inside (i ∷ is) cs
-first-inside [] is i some l w = absurd (omega arith)
-first-inside (c ∷ cs) is i some l w = (l, w)
+first_inside : (cs is : List ℕ) (i : ℕ) → 0 < length cs → i < get_or cs 0 0 → Inside is (without 0 cs) → Inside (i ∷ is) cs
+first_inside [] is i some l w = absurd (omega arith)
+first_inside (c ∷ cs) is i some l w = (l, w)
 
 -- 12 passes a list of finite results
-pub results-good : (xs : List Float) → ((i : ℕ) → i < length xs → finite (get_or xs i nan) ≡ true) → good (resultsFault xs) ≡ true
-unfolding resultsFault
-results-good xs h =
-    ap good (orders.none-good (λ i. resultFault i (get_or xs i nan)) 0 (length xs)
-    (λ i l m. orders.passed-no-fault (resultFault i (get_or xs i nan)) (result-fine i (get_or xs i nan) (h i (omega arith)))))
-    ∙ orders.good-no-fault
+pub results_good : (xs : List Float) → ((i : ℕ) → i < length xs → finite (get_or xs i nan) ≡ true) → good (results_fault xs) ≡ true
+unfolding results_fault
+results_good xs h =
+    ap good (orders.none_good (λ i. result_fault i (get_or xs i nan)) 0 (length xs)
+    (λ i l m. orders.passed-no_fault (result_fault i (get_or xs i nan)) (result_fine i (get_or xs i nan) (h i (omega arith)))))
+    ∙ orders.good-no_fault
 
 module _ (s : Shape) (nodes values : List Float) (t : Accepted s nodes values) (many : 1 < s.axes) (p : Float) (room : ℕ) (fp : finite p ≡ true) (kept : Held nodes) (held : Held values)
-    (inside : good (rangeFault 0 (axisOf s nodes 0) p) ≡ true) (w : size (without 0 (countsOf s)) ≤ room) where
+    (inside : good (range_fault 0 (axis_of s nodes 0) p) ≡ true) (w : size (without 0 (counts_of s)) ≤ room) where
   abbrev xs : List Float
-  xs = axisOf s nodes 0
+  xs = axis_of s nodes 0
 
-  some : 0 < length (countsOf s)
-  some = omega (arith, frame-axes s nodes values t.frame, many)
+  some : 0 < length (counts_of s)
+  some = omega (arith, frame_axes s nodes values t.frame, many)
 
-  grid : Grid (countsOf s) nodes
-  grid = grid-of s nodes values t.frame t.axes
+  grid : Grid (counts_of s) nodes
+  grid = grid_of s nodes values t.frame t.axes
 
   ax : Axis xs
   ax = grid.axes 0 some
 
-  fair : Fair (axisLocation xs p)
+  fair : Fair (axis_location xs p)
   fair =
       let n : 2 ≤ length xs = ax.enough in
-      location-fair xs p ax fp (held-axis (countsOf s) nodes kept 0) (order.le_of_not_lt p (node xs 0) fp (ax.finites 0 (omega arith)) (range-low 0 xs p inside))
-      (order.le_of_not_lt (node xs (length xs - 1)) p (ax.finites (length xs - 1) (omega arith)) fp (range-high 0 xs p inside))
+      location_fair xs p ax fp (held-axis (counts_of s) nodes kept 0) (order.le_of_not_lt p (node xs 0) fp (ax.finites 0 (omega arith)) (range_low 0 xs p inside))
+      (order.le_of_not_lt (node xs (length xs - 1)) p (ax.finites (length xs - 1) (omega arith)) fp (range_high 0 xs p inside))
 
   -- every value of the slice is a number
-  value-number : (is : List ℕ) → Inside is (without 0 (countsOf s)) → Number (sliced (axisLocation xs p) (table (countsOf s) values) is)
-  value-number is v =
-      sliced-bounded (axisLocation xs p) (table (countsOf s) values) is fair
+  value_number : (is : List ℕ) → Inside is (without 0 (counts_of s)) → Number (sliced (axis_location xs p) (table (counts_of s) values) is)
+  value_number is v =
+      sliced_bounded (axis_location xs p) (table (counts_of s) values) is fair
       (λ i l.
-      stored-number s nodes values t held (i ∷ is)
-      (first-inside (countsOf s) is i some (omega (arith, l, location-fits xs p ax fp false, length-axis (countsOf s) nodes grid.flat 0 some)) v))
+      stored_number s nodes values t held (i ∷ is)
+      (first_inside (counts_of s) is i some (omega (arith, l, location_fits xs p ax fp false, length-axis (counts_of s) nodes grid.flat 0 some)) v))
 
-  values-fine : good (resultsFault (linearValues axisLocation s nodes values p)) ≡ true
-  unfolding linearValues
-  values-fine = results-good (alongFirst (axisLocation xs p) (countsOf s) values) each
+  values_fine : good (results_fault (linear_values axis_location s nodes values p)) ≡ true
+  unfolding linear_values
+  values_fine = results_good (along_first (axis_location xs p) (counts_of s) values) each
     where
-      each : (i : ℕ) → i < length (alongFirst (axisLocation xs p) (countsOf s) values) → finite (get_or (alongFirst (axisLocation xs p) (countsOf s) values) i nan) ≡ true
+      each : (i : ℕ) → i < length (along_first (axis_location xs p) (counts_of s) values) → finite (get_or (along_first (axis_location xs p) (counts_of s) values) i nan) ≡ true
       each i l =
-          let k : i < size (without 0 (countsOf s)) = omega (arith, l, length-along (axisLocation xs p) (countsOf s) values) in
-          ap finite (at i k) ∙ (value-number (indicesAt (without 0 (countsOf s)) i) (indices-inside (without 0 (countsOf s)) i k)).finite-is
+          let k : i < size (without 0 (counts_of s)) = omega (arith, l, length-along (axis_location xs p) (counts_of s) values) in
+          ap finite (at i k) ∙ (value_number (indices_at (without 0 (counts_of s)) i) (indices_inside (without 0 (counts_of s)) i k)).finite_is
         where
-          at : (i : ℕ) → i < size (without 0 (countsOf s)) → get_or (alongFirst (axisLocation xs p) (countsOf s) values) i nan ≡ sliced (axisLocation xs p) (table (countsOf s) values) (indicesAt (without 0 (countsOf s)) i)
-          at i k = unfold alongFirst in get_d_tabulate (size (without 0 (countsOf s))) i (λ j. sliced (axisLocation xs p) (table (countsOf s) values) (indicesAt (without 0 (countsOf s)) j)) nan k
+          at : (i : ℕ) → i < size (without 0 (counts_of s)) → get_or (along_first (axis_location xs p) (counts_of s) values) i nan ≡ sliced (axis_location xs p) (table (counts_of s) values) (indices_at (without 0 (counts_of s)) i)
+          at i k = unfold along_first in get_d_tabulate (size (without 0 (counts_of s))) i (λ j. sliced (axis_location xs p) (table (counts_of s) values) (indices_at (without 0 (counts_of s)) j)) nan k
 
-  pub linear-slice-always : good (linearSliceFault s nodes values 0 p room) ≡ true
-  linear-slice-always = ap good (linear-slice-made s nodes values t many p room fp inside w) ∙ values-fine
+  pub linear_slice_always : good (linear_slice_fault s nodes values 0 p room) ≡ true
+  linear_slice_always = ap good (linear_slice_made s nodes values t many p room fp inside w) ∙ values_fine

@@ -9,295 +9,295 @@ use lib.Dec.{ltb}
 use lib.ListN.{length}
 use lib.Ieee.{Float, lt}
 use lib.Ieee.Scale.{finite}
-use Rattle.answer.specs.Faults.{refusal, noFault, good, when, given, ◌or◌}
-use Rattle.answer.specs.Answer.{plusZero, refused, answered, fine, ◌then◌}
+use Rattle.answer.specs.Faults.{refusal, no_fault, good, when, given, ◌or◌}
+use Rattle.answer.specs.Answer.{plus_zero, refused, answered, fine, ◌then◌}
 use Rattle.answer.specs.declared.Fault.{Fault}
 use Rattle.answer.specs.declared.Answer.{Answer}
 use Rattle.answer.proofs.Orders as orders
-use Rattle.answer.proofs.Answers.{Quiet, quiet, then-good, then-bad, then-number}
-use Rattle.answer.proofs.Tests.{not-false, neither_left, neither_right}
+use Rattle.answer.proofs.Answers.{Quiet, quiet, then_good, then_bad, then_number}
+use Rattle.answer.proofs.Tests.{not_false, neither_left, neither_right}
 use Rattle.checks.specs.Passed.{Axis}
-use Rattle.checks.specs.Shapes.{axisFault}
-use Rattle.checks.specs.Numbers.{countFault, finiteFault, uniformFault, defaultFault, lentStepFault, toleranceFault, directionFault, readingFault, resultFault}
-use Rattle.checks.proofs.nodes.Rows.{axis-of, axis-fine}
-use Rattle.checks.proofs.counts.Rows.{count-fine, count-enough, count-few}
-use Rattle.checks.proofs.lent.Rows.{direction-fine, direction-passed}
-use Rattle.checks.proofs.numbers.Rows.{reading-fine, reading-finite, finite-fine, finite-passed, wild-passed, result-fine, result-wild}
+use Rattle.checks.specs.Shapes.{axis_fault}
+use Rattle.checks.specs.Numbers.{count_fault, finite_fault, uniform_fault, default_fault, lent_step_fault, tolerance_fault, direction_fault, reading_fault, result_fault}
+use Rattle.checks.proofs.nodes.Rows.{axis_of_lem, axis-fine}
+use Rattle.checks.proofs.counts.Rows.{count-fine, count_enough, count_few}
+use Rattle.checks.proofs.lent.Rows.{direction_fine, direction_passed}
+use Rattle.checks.proofs.numbers.Rows.{reading_fine, reading_finite, finite_fine, finite_passed, wild_passed, result_fine, result_wild}
 use Rattle.rust.specs.Utils as rust
-use Rattle.rust.specs.Utils.{Validated, ok, nonUniform}
+use Rattle.rust.specs.Utils.{Validated, ok, non_uniform}
 use Rattle.rust.specs.declared.MaybeIndex.{MaybeIndex}
 use Rattle.rust.specs.declared.MaybeIndex.TheVariants.{Some, None}
 use Rattle.rust.specs.declared.AxisLocation.{AxisLocation}
 use Rattle.rust.specs.declared.AxisLocation.TheVariants.{Exact, Between}
-use Rattle.axis.specs.Cells.{lowerIndex}
-use Rattle.axis.specs.Exact.{exactNode}
-use Rattle.axis.specs.Locations.{axisLocation, locationIndex}
-use Rattle.axis.specs.Steps.{stepIndex}
-use Rattle.axis.specs.Uniform.{uniformIndex}
-use Rattle.axis.proofs.Located.{uniform-index-fits}
-use Rattle.axis.proofs.cells.Cells.{cell-inside}
-use Rattle.axis.proofs.Texts.{uniformRow, lower-text, exact-text, axis-text, step-index-text, uniform-index-text, validate-text, epsilon-text, row-passed}
-use Rattle.utils.specs.Calls.{index_of, locationFraction, indexAnswer, exactAnswer, axisAnswer, axisReadingFault, lowerFault, exactFault, locateFault, directedFault, uniformReadFault, spacingFault, toleranceOf, locateLowerIndex, exactIndex, locateAxis, locateStepIndex, locateLowerIndexUniform, validateUniformGrid, validateUniformGridEpsilon}
+use Rattle.axis.specs.Cells.{lower_index}
+use Rattle.axis.specs.Exact.{exact_node}
+use Rattle.axis.specs.Locations.{axis_location, location_index}
+use Rattle.axis.specs.Steps.{step_index}
+use Rattle.axis.specs.Uniform.{uniform_index}
+use Rattle.axis.proofs.Located.{uniform_index_fits}
+use Rattle.axis.proofs.cells.Cells.{cell_inside}
+use Rattle.axis.proofs.Texts.{uniform_row, lower_text, exact_text, axis_text, step_index_text, uniform_index_text, validate_text, epsilon_text, row_passed}
+use Rattle.utils.specs.Calls.{index_of, location_fraction, index_answer, exact_answer, axis_answer, axis_reading_fault, lower_fault, exact_fault, locate_fault, directed_fault, uniform_read_fault, spacing_fault, tolerance_of, locate_lower_index, exact_index, locate_axis, locate_step_index, locate_lower_index_uniform, validate_uniform_grid, validate_uniform_grid_epsilon}
 use Rattle.utils.specs.declared.Tolerance.TheVariants.{Lent, Default}
-use Rattle.board.specs.Plain.{foundOf, plainExact, betweenOf, plainLocation, toleranceBy}
-use Rattle.laws.specs.Primitives.{Tells, Judges, Gives, Readable, Stepped, Tolerant, indexCase, locationCase, exact, located, Primitives}
+use Rattle.board.specs.Plain.{found_of, plain_exact, between_of, plain_location, tolerance_by}
+use Rattle.laws.specs.Primitives.{Tells, Judges, Gives, Readable, Stepped, Tolerant, index_case, location_case, exact, located, Primitives}
 
 pub quiet_told : {a : Answer} → Quiet a → Tells a
 unfolding fine answered
 quiet_told q = (λ h. q.empty, λ h. (ap (λ (x : Answer). x.axis) (q.clear h), ap (λ (x : Answer). x.place) (q.clear h)))
 
 -- a refusal is its checks' own
-pub refused-bad : (f : Fault) → ((f then fine).number ≡ 0 → ⊥) → good f ≡ false
-refused-bad f h = go (good f) refl
+pub refused_bad : (f : Fault) → ((f then fine).number ≡ 0 → ⊥) → good f ≡ false
+refused_bad f h = go (good f) refl
   where
     nought : (f then fine) ≡ fine → (f then fine).number ≡ 0
     nought e = unfold fine answered in ap (λ (x : Answer). x.number) e
 
     go : (b : Bool) → good f ≡ b → b ≡ false
-    go true e = absurd (h (nought (then-good f fine e)))
+    go true e = absurd (h (nought (then_good f fine e)))
     go false e = refl
 
 -- checks that pass exactly the good inputs, and what is given then
 judges : (Good : Type 0) (f : Fault) → (Good → good f ≡ true) → (good f ≡ true → Good) → Judges Good f (f then fine)
-judges Good f passes passed = record { accepts = λ g. then-good f fine (passes g); only = λ h. passed (then-number f fine h); refuses = λ h. then-bad f fine h; tells = quiet_told (quiet f) }
+judges Good f passes passed = record { accepts = λ g. then_good f fine (passes g); only = λ h. passed (then_number f fine h); refuses = λ h. then_bad f fine h; tells = quiet_told (quiet f) }
 
 gives : {A : Type 0} (Good : Type 0) (f : Fault) (x y zeros : A) → (Good → good f ≡ true) → (good f ≡ true → Good) → (Good → x ≡ y) → Gives Good f (f then fine) (given f x zeros) y zeros
 gives Good f x y zeros passes passed same = record {
   judges = judges Good f passes passed;
   gives = λ g. orders.given-good f x zeros (passes g) ∙ same g;
-  empty = λ h. orders.given-bad f x zeros (refused-bad f h);
+  empty = λ h. orders.given_bad f x zeros (refused_bad f h);
 }
 
 -- what is given, by its cases
-gives-case : {A B : Type 0} {Good : Type 0} {f : Fault} {answer : Answer} {given x zeros : A} (by : A → B) → Gives Good f answer given x zeros → Gives Good f answer (by given) (by x) (by zeros)
-gives-case by g = record { judges = g.judges; gives = λ h. ap by (g.gives h); empty = λ h. ap by (g.empty h) }
+gives_case : {A B : Type 0} {Good : Type 0} {f : Fault} {answer : Answer} {given x zeros : A} (by : A → B) → Gives Good f answer given x zeros → Gives Good f answer (by given) (by x) (by zeros)
+gives_case by g = record { judges = g.judges; gives = λ h. ap by (g.gives h); empty = λ h. ap by (g.empty h) }
 
-index-plain : (i : MaybeIndex) → indexCase i ≡ (foundOf i, index_of i)
-index-plain (Some i) = refl
-index-plain None = refl
+index_plain : (i : MaybeIndex) → index_case i ≡ (found_of i, index_of i)
+index_plain (Some i) = refl
+index_plain None = refl
 
-location-plain : (l : AxisLocation) → locationCase l ≡ (betweenOf l, (locationIndex l, locationFraction l))
-location-plain (Exact i) = refl
-location-plain (Between lower frac) = refl
+location_plain : (l : AxisLocation) → location_case l ≡ (between_of l, (location_index l, location_fraction l))
+location_plain (Exact i) = refl
+location_plain (Between lower frac) = refl
 
-fraction-plain : (l : AxisLocation) → (locationCase l).1.1 ≡ locationFraction l
+fraction-plain : (l : AxisLocation) → (location_case l).1.1 ≡ location_fraction l
 fraction-plain (Exact i) = refl
 fraction-plain (Between lower frac) = refl
 
 -- ---- rows, both ways
-axis-good : (nodes : List Float) → Axis nodes → good (axisFault nodes) ≡ true
-axis-good nodes a = ap good (axis-fine nodes a) ∙ orders.good-no-fault
+axis-good : (nodes : List Float) → Axis nodes → good (axis_fault nodes) ≡ true
+axis-good nodes a = ap good (axis-fine nodes a) ∙ orders.good-no_fault
 
-reading-good : (p : Float) → finite p ≡ true → good (readingFault 0 p) ≡ true
-reading-good p h = orders.passed-no-fault _ (reading-fine 0 p h)
+reading_good : (p : Float) → finite p ≡ true → good (reading_fault 0 p) ≡ true
+reading_good p h = orders.passed-no_fault _ (reading_fine 0 p h)
 
-result-passed : (x : Float) → good (resultFault 0 x) ≡ true → finite x ≡ true
-unfolding resultFault
-result-passed x h = wild-passed 11 0 0 x h
+result_passed : (x : Float) → good (result_fault 0 x) ≡ true → finite x ≡ true
+unfolding result_fault
+result_passed x h = wild_passed 11 0 0 x h
 
-lower-good : (nodes : List Float) (lower : ℕ) → lower + 1 < length nodes → good (lowerFault nodes lower) ≡ true
-unfolding lowerFault
-lower-good nodes lower h = orders.good-when (not (ltb lower (length nodes - 1))) (refusal 2 0 1) (ap not (lt-ltb lower (length nodes - 1) (omega arith)))
+lower_good : (nodes : List Float) (lower : ℕ) → lower + 1 < length nodes → good (lower_fault nodes lower) ≡ true
+unfolding lower_fault
+lower_good nodes lower h = orders.good-when (not (ltb lower (length nodes - 1))) (refusal 2 0 1) (ap not (lt-ltb lower (length nodes - 1) (omega arith)))
 
-lower-passed : (nodes : List Float) (lower : ℕ) → good (lowerFault nodes lower) ≡ true → lower + 1 < length nodes
-unfolding lowerFault
-lower-passed nodes lower h =
-    let l : lower < length nodes - 1 = ltb-true lower (length nodes - 1) (not-false (ltb lower (length nodes - 1)) (orders.row-good (not (ltb lower (length nodes - 1))) 1 0 1 h)) in
+lower_passed : (nodes : List Float) (lower : ℕ) → good (lower_fault nodes lower) ≡ true → lower + 1 < length nodes
+unfolding lower_fault
+lower_passed nodes lower h =
+    let l : lower < length nodes - 1 = ltb-true lower (length nodes - 1) (not_false (ltb lower (length nodes - 1)) (orders.row_good (not (ltb lower (length nodes - 1))) 1 0 1 h)) in
     omega (arith, l)
 
 -- 8 of a lent number: finite, and a test that is not met
 module _ (x : Float) (out : Bool) where
-  lent-good : finite x ≡ true → out ≡ false → good (when (not (finite x) || out) (refusal 8 0 0)) ≡ true
-  lent-good h k = orders.good-when (not (finite x) || out) (refusal 8 0 0) (ap₂ (λ (p q : Bool). not p || q) h k)
+  lent_good : finite x ≡ true → out ≡ false → good (when (not (finite x) || out) (refusal 8 0 0)) ≡ true
+  lent_good h k = orders.good-when (not (finite x) || out) (refusal 8 0 0) (ap₂ (λ (p q : Bool). not p || q) h k)
 
-  lent-passed : good (when (not (finite x) || out) (refusal 8 0 0)) ≡ true → (finite x ≡ true) × (out ≡ false)
-  lent-passed h =
-      let e : (not (finite x) || out) ≡ false = orders.row-good (not (finite x) || out) 7 0 0 h in
-      (not-false (finite x) (neither_left (not (finite x)) out e), neither_right (not (finite x)) out e)
+  lent_passed : good (when (not (finite x) || out) (refusal 8 0 0)) ≡ true → (finite x ≡ true) × (out ≡ false)
+  lent_passed h =
+      let e : (not (finite x) || out) ≡ false = orders.row_good (not (finite x) || out) 7 0 0 h in
+      (not_false (finite x) (neither_left (not (finite x)) out e), neither_right (not (finite x)) out e)
 
-step-good : (step : Float) → Stepped step → good (lentStepFault step) ≡ true
-unfolding lentStepFault
-step-good step h = lent-good step (not (lt plusZero step)) h.0 (ap not h.1)
+step-good : (step : Float) → Stepped step → good (lent_step_fault step) ≡ true
+unfolding lent_step_fault
+step-good step h = lent_good step (not (lt plus_zero step)) h.0 (ap not h.1)
 
-step-passed : (step : Float) → good (lentStepFault step) ≡ true → Stepped step
-unfolding lentStepFault
-step-passed step h = let q = lent-passed step (not (lt plusZero step)) h in (q.0, not-false (lt plusZero step) q.1)
+step-passed : (step : Float) → good (lent_step_fault step) ≡ true → Stepped step
+unfolding lent_step_fault
+step-passed step h = let q = lent_passed step (not (lt plus_zero step)) h in (q.0, not_false (lt plus_zero step) q.1)
 
-tolerance-good : (tolerance : Float) → Tolerant tolerance → good (toleranceFault tolerance) ≡ true
-unfolding toleranceFault
-tolerance-good tolerance h = lent-good tolerance (lt tolerance plusZero) h.0 h.1
+tolerance_good : (tolerance : Float) → Tolerant tolerance → good (tolerance_fault tolerance) ≡ true
+unfolding tolerance_fault
+tolerance_good tolerance h = lent_good tolerance (lt tolerance plus_zero) h.0 h.1
 
-tolerance-passed : (tolerance : Float) → good (toleranceFault tolerance) ≡ true → Tolerant tolerance
-unfolding toleranceFault
-tolerance-passed tolerance h = lent-passed tolerance (lt tolerance plusZero) h
+tolerance_passed : (tolerance : Float) → good (tolerance_fault tolerance) ≡ true → Tolerant tolerance
+unfolding tolerance_fault
+tolerance_passed tolerance h = lent_passed tolerance (lt tolerance plus_zero) h
 
 -- ---- the axis and its reading
 module _ (nodes : List Float) (p : Float) where
-  readable-good : Readable nodes p → good (axisReadingFault nodes p) ≡ true
-  unfolding axisReadingFault
-  readable-good r = orders.both-passed (axisFault nodes) (readingFault 0 p) (axis-good nodes r.0) (reading-good p r.1)
+  readable_good : Readable nodes p → good (axis_reading_fault nodes p) ≡ true
+  unfolding axis_reading_fault
+  readable_good r = orders.both_passed (axis_fault nodes) (reading_fault 0 p) (axis-good nodes r.0) (reading_good p r.1)
 
-  readable : good (axisReadingFault nodes p) ≡ true → Readable nodes p
-  unfolding axisReadingFault
-  readable h = (axis-of nodes (orders.first-passed _ _ h), reading-finite 0 p (orders.second-passed _ _ h))
+  readable : good (axis_reading_fault nodes p) ≡ true → Readable nodes p
+  unfolding axis_reading_fault
+  readable h = (axis_of_lem nodes (orders.first-passed _ _ h), reading_finite 0 p (orders.second_passed _ _ h))
 
-  pub lower-index : Gives (Readable nodes p) (axisReadingFault nodes p) (locateLowerIndex nodes p).answer (locateLowerIndex nodes p).index (rust.locateLowerIndex nodes p) 0
-  unfolding locateLowerIndex indexAnswer
-  lower-index = gives (Readable nodes p) (axisReadingFault nodes p) (lowerIndex nodes p) (rust.locateLowerIndex nodes p) 0 readable-good readable (λ r. sym (lower-text nodes p r.0 r.1))
+  pub lower_index_lem : Gives (Readable nodes p) (axis_reading_fault nodes p) (locate_lower_index nodes p).answer (locate_lower_index nodes p).index (rust.locate_lower_index nodes p) 0
+  unfolding locate_lower_index index_answer
+  lower_index_lem = gives (Readable nodes p) (axis_reading_fault nodes p) (lower_index nodes p) (rust.locate_lower_index nodes p) 0 readable_good readable (λ r. sym (lower_text nodes p r.0 r.1))
 
   -- a row between the axis's and the reading's
   module _ (f : Fault) (Good : Type 0) (fine-is : Good → good f ≡ true) (is-fine : good f ≡ true → Good) where
-    between-good : Readable nodes p × Good → good (axisFault nodes or f or readingFault 0 p) ≡ true
-    between-good g = orders.both-passed (axisFault nodes) (f or readingFault 0 p) (axis-good nodes g.0.0) (orders.both-passed f (readingFault 0 p) (fine-is g.1) (reading-good p g.0.1))
+    between_good : Readable nodes p × Good → good (axis_fault nodes or f or reading_fault 0 p) ≡ true
+    between_good g = orders.both_passed (axis_fault nodes) (f or reading_fault 0 p) (axis-good nodes g.0.0) (orders.both_passed f (reading_fault 0 p) (fine-is g.1) (reading_good p g.0.1))
 
-    between : good (axisFault nodes or f or readingFault 0 p) ≡ true → Readable nodes p × Good
+    between : good (axis_fault nodes or f or reading_fault 0 p) ≡ true → Readable nodes p × Good
     between h =
-        let rest = orders.second-passed _ _ h in
-        ((axis-of nodes (orders.first-passed _ _ h), reading-finite 0 p (orders.second-passed _ _ rest)), is-fine (orders.first-passed _ _ rest))
+        let rest = orders.second_passed _ _ h in
+        ((axis_of_lem nodes (orders.first-passed _ _ h), reading_finite 0 p (orders.second_passed _ _ rest)), is-fine (orders.first-passed _ _ rest))
 
-  found : (lower : ℕ) → Gives (Readable nodes p × (lower + 1 < length nodes)) (exactFault nodes lower p) (exactIndex nodes lower p).answer (exactIndex nodes lower p).index (rust.exactIndex nodes lower p) None
-  unfolding exactIndex exactAnswer exactFault
+  found : (lower : ℕ) → Gives (Readable nodes p × (lower + 1 < length nodes)) (exact_fault nodes lower p) (exact_index nodes lower p).answer (exact_index nodes lower p).index (rust.exact_index nodes lower p) None
+  unfolding exact_index exact_answer exact_fault
   found lower =
-      gives (Readable nodes p × (lower + 1 < length nodes)) _ (exactNode nodes lower p) (rust.exactIndex nodes lower p) None
-      (between-good (lowerFault nodes lower) (lower + 1 < length nodes) (lower-good nodes lower) (lower-passed nodes lower))
-      (between (lowerFault nodes lower) (lower + 1 < length nodes) (lower-good nodes lower) (lower-passed nodes lower))
-      (λ g. sym (exact-text nodes lower p))
+      gives (Readable nodes p × (lower + 1 < length nodes)) _ (exact_node nodes lower p) (rust.exact_index nodes lower p) None
+      (between_good (lower_fault nodes lower) (lower + 1 < length nodes) (lower_good nodes lower) (lower_passed nodes lower))
+      (between (lower_fault nodes lower) (lower + 1 < length nodes) (lower_good nodes lower) (lower_passed nodes lower))
+      (λ g. sym (exact_text nodes lower p))
 
-  pub exact-index : (lower : ℕ) → Gives (Readable nodes p × (lower + 1 < length nodes)) (exactFault nodes lower p) (exact nodes lower p).answer
-      ((exact nodes lower p).found, (exact nodes lower p).index) (indexCase (rust.exactIndex nodes lower p)) (0, 0)
-  unfolding plainExact
-  exact-index lower =
-      subst (λ (x : ℕ × ℕ). Gives (Readable nodes p × (lower + 1 < length nodes)) (exactFault nodes lower p) (exactIndex nodes lower p).answer x (indexCase (rust.exactIndex nodes lower p)) (0, 0))
-      (index-plain (exactIndex nodes lower p).index) (gives-case indexCase (found lower))
+  pub exact_index_lem : (lower : ℕ) → Gives (Readable nodes p × (lower + 1 < length nodes)) (exact_fault nodes lower p) (exact nodes lower p).answer
+      ((exact nodes lower p).found, (exact nodes lower p).index) (index_case (rust.exact_index nodes lower p)) (0, 0)
+  unfolding plain_exact
+  exact_index_lem lower =
+      subst (λ (x : ℕ × ℕ). Gives (Readable nodes p × (lower + 1 < length nodes)) (exact_fault nodes lower p) (exact_index nodes lower p).answer x (index_case (rust.exact_index nodes lower p)) (0, 0))
+      (index_plain (exact_index nodes lower p).index) (gives_case index_case (found lower))
 
-  pub step-index : (direction : ℕ) → Gives (Readable nodes p × (direction < 2)) (directedFault direction nodes p) (locateStepIndex direction nodes p).answer (locateStepIndex direction nodes p).index (rust.locateStepIndex direction nodes p) 0
-  unfolding locateStepIndex indexAnswer directedFault
-  step-index direction =
-      gives (Readable nodes p × (direction < 2)) _ (stepIndex direction nodes p) (rust.locateStepIndex direction nodes p) 0
-      (between-good (directionFault 0 direction) (direction < 2) direction-good (direction-passed 0 direction))
-      (between (directionFault 0 direction) (direction < 2) direction-good (direction-passed 0 direction))
-      (λ g. sym (step-index-text nodes p g.0.0 g.0.1 direction))
+  pub step_index_lem : (direction : ℕ) → Gives (Readable nodes p × (direction < 2)) (directed_fault direction nodes p) (locate_step_index direction nodes p).answer (locate_step_index direction nodes p).index (rust.locate_step_index direction nodes p) 0
+  unfolding locate_step_index index_answer directed_fault
+  step_index_lem direction =
+      gives (Readable nodes p × (direction < 2)) _ (step_index direction nodes p) (rust.locate_step_index direction nodes p) 0
+      (between_good (direction_fault 0 direction) (direction < 2) direction_good (direction_passed 0 direction))
+      (between (direction_fault 0 direction) (direction < 2) direction_good (direction_passed 0 direction))
+      (λ g. sym (step_index_text nodes p g.0.0 g.0.1 direction))
     where
-      direction-good : direction < 2 → good (directionFault 0 direction) ≡ true
-      direction-good h = orders.passed-no-fault _ (direction-fine 0 direction (omega (arith, h)))
+      direction_good : direction < 2 → good (direction_fault 0 direction) ≡ true
+      direction_good h = orders.passed-no_fault _ (direction_fine 0 direction (omega (arith, h)))
 
   -- ---- locate_axis, whose fraction is judged last
   module _ (r : Readable nodes p) where
-    text : rust.locateAxis nodes p ≡ axisLocation nodes p
-    text = axis-text nodes p r.0 r.1
+    text : rust.locate_axis nodes p ≡ axis_location nodes p
+    text = axis_text nodes p r.0 r.1
 
-    fraction-is : finite (locationFraction (rust.locateAxis nodes p)) ≡ finite (locationFraction (axisLocation nodes p))
-    fraction-is = ap (λ (l : AxisLocation). finite (locationFraction l)) text
+    fraction_is : finite (location_fraction (rust.locate_axis nodes p)) ≡ finite (location_fraction (axis_location nodes p))
+    fraction_is = ap (λ (l : AxisLocation). finite (location_fraction l)) text
 
-    overflowing : finite (locationFraction (rust.locateAxis nodes p)) ≡ false → (locateAxis nodes p).answer ≡ refused (refusal 12 0 0)
-    unfolding locateAxis axisAnswer locateFault
+    overflowing : finite (location_fraction (rust.locate_axis nodes p)) ≡ false → (locate_axis nodes p).answer ≡ refused (refusal 12 0 0)
+    unfolding locate_axis axis_answer locate_fault
     overflowing h =
-        let w : refusal 12 0 0 ≡ resultFault 0 (locationFraction (axisLocation nodes p)) = result-wild 0 (locationFraction (axisLocation nodes p)) (sym fraction-is ∙ h) in
-        let f : (axisReadingFault nodes p or resultFault 0 (locationFraction (axisLocation nodes p))) ≡ refusal 12 0 0 = orders.or-good (axisReadingFault nodes p) (resultFault 0 (locationFraction (axisLocation nodes p))) (readable-good r) ∙ sym w in
-        then-bad (axisReadingFault nodes p or resultFault 0 (locationFraction (axisLocation nodes p))) fine (ap good f ∙ orders.bad-refused 11 0 0) ∙ ap refused f
+        let w : refusal 12 0 0 ≡ result_fault 0 (location_fraction (axis_location nodes p)) = result_wild 0 (location_fraction (axis_location nodes p)) (sym fraction_is ∙ h) in
+        let f : (axis_reading_fault nodes p or result_fault 0 (location_fraction (axis_location nodes p))) ≡ refusal 12 0 0 = orders.or_good (axis_reading_fault nodes p) (result_fault 0 (location_fraction (axis_location nodes p))) (readable_good r) ∙ sym w in
+        then_bad (axis_reading_fault nodes p or result_fault 0 (location_fraction (axis_location nodes p))) fine (ap good f ∙ orders.bad_refused 11 0 0) ∙ ap refused f
 
-  location : Gives (Readable nodes p × (finite (locationFraction (rust.locateAxis nodes p)) ≡ true)) (locateFault nodes p) (locateAxis nodes p).answer (locateAxis nodes p).location (rust.locateAxis nodes p) (Exact 0)
-  unfolding locateAxis axisAnswer locateFault
+  location : Gives (Readable nodes p × (finite (location_fraction (rust.locate_axis nodes p)) ≡ true)) (locate_fault nodes p) (locate_axis nodes p).answer (locate_axis nodes p).location (rust.locate_axis nodes p) (Exact 0)
+  unfolding locate_axis axis_answer locate_fault
   location =
-      gives (Readable nodes p × (finite (locationFraction (rust.locateAxis nodes p)) ≡ true)) _ (axisLocation nodes p) (rust.locateAxis nodes p) (Exact 0)
-      (λ g. orders.both-passed (axisReadingFault nodes p) (resultFault 0 (locationFraction (axisLocation nodes p))) (readable-good g.0)
-      (orders.passed-no-fault _ (result-fine 0 (locationFraction (axisLocation nodes p)) (sym (fraction-is g.0) ∙ g.1))))
-      (λ h. let r = readable (orders.first-passed _ _ h) in (r, fraction-is r ∙ result-passed (locationFraction (axisLocation nodes p)) (orders.second-passed _ _ h)))
+      gives (Readable nodes p × (finite (location_fraction (rust.locate_axis nodes p)) ≡ true)) _ (axis_location nodes p) (rust.locate_axis nodes p) (Exact 0)
+      (λ g. orders.both_passed (axis_reading_fault nodes p) (result_fault 0 (location_fraction (axis_location nodes p))) (readable_good g.0)
+      (orders.passed-no_fault _ (result_fine 0 (location_fraction (axis_location nodes p)) (sym (fraction_is g.0) ∙ g.1))))
+      (λ h. let r = readable (orders.first-passed _ _ h) in (r, fraction_is r ∙ result_passed (location_fraction (axis_location nodes p)) (orders.second_passed _ _ h)))
       (λ g. sym (text g.0))
 
-  case-is : finite (locationCase (rust.locateAxis nodes p)).1.1 ≡ finite (locationFraction (rust.locateAxis nodes p))
-  case-is = ap finite (fraction-plain (rust.locateAxis nodes p))
+  case_is : finite (location_case (rust.locate_axis nodes p)).1.1 ≡ finite (location_fraction (rust.locate_axis nodes p))
+  case_is = ap finite (fraction-plain (rust.locate_axis nodes p))
 
-  pub axis-overflows : Readable nodes p → finite (locationCase (rust.locateAxis nodes p)).1.1 ≡ false → (located nodes p).answer ≡ refused (refusal 12 0 0)
-  unfolding plainLocation
-  axis-overflows r h = overflowing r (sym case-is ∙ h)
+  pub axis_overflows : Readable nodes p → finite (location_case (rust.locate_axis nodes p)).1.1 ≡ false → (located nodes p).answer ≡ refused (refusal 12 0 0)
+  unfolding plain_location
+  axis_overflows r h = overflowing r (sym case_is ∙ h)
 
-  pub axis-location : Gives (Readable nodes p × (finite (locationCase (rust.locateAxis nodes p)).1.1 ≡ true)) (locateFault nodes p) (located nodes p).answer
-      ((located nodes p).between, ((located nodes p).index, (located nodes p).fraction)) (locationCase (rust.locateAxis nodes p)) (0, (0, plusZero))
-  unfolding plainLocation
-  axis-location =
-      subst (λ (b : Bool). Gives (Readable nodes p × (b ≡ true)) (locateFault nodes p) (locateAxis nodes p).answer (betweenOf (locateAxis nodes p).location, (locationIndex (locateAxis nodes p).location, locationFraction (locateAxis nodes p).location)) (locationCase (rust.locateAxis nodes p)) (0, (0, plusZero))) (sym case-is)
-      (subst (λ (x : ℕ × (ℕ × Float)). Gives (Readable nodes p × (finite (locationFraction (rust.locateAxis nodes p)) ≡ true)) (locateFault nodes p) (locateAxis nodes p).answer x (locationCase (rust.locateAxis nodes p)) (0, (0, plusZero)))
-      (location-plain (locateAxis nodes p).location) (gives-case locationCase location))
+  pub axis_location_lem : Gives (Readable nodes p × (finite (location_case (rust.locate_axis nodes p)).1.1 ≡ true)) (locate_fault nodes p) (located nodes p).answer
+      ((located nodes p).between, ((located nodes p).index, (located nodes p).fraction)) (location_case (rust.locate_axis nodes p)) (0, (0, plus_zero))
+  unfolding plain_location
+  axis_location_lem =
+      subst (λ (b : Bool). Gives (Readable nodes p × (b ≡ true)) (locate_fault nodes p) (locate_axis nodes p).answer (between_of (locate_axis nodes p).location, (location_index (locate_axis nodes p).location, location_fraction (locate_axis nodes p).location)) (location_case (rust.locate_axis nodes p)) (0, (0, plus_zero))) (sym case_is)
+      (subst (λ (x : ℕ × (ℕ × Float)). Gives (Readable nodes p × (finite (location_fraction (rust.locate_axis nodes p)) ≡ true)) (locate_fault nodes p) (locate_axis nodes p).answer x (location_case (rust.locate_axis nodes p)) (0, (0, plus_zero)))
+      (location_plain (locate_axis nodes p).location) (gives_case location_case location))
 
 -- ---- the uniform index
-pub uniform-index : (first step : Float) (n : ℕ) (p : Float) → Gives (((2 ≤ n) × (n ≤ 64)) × ((finite first ≡ true) × (Stepped step × (finite p ≡ true)))) (uniformReadFault first step n p) (locateLowerIndexUniform first step n p).answer
-    (locateLowerIndexUniform first step n p).index (rust.locateLowerIndexUniform first step n p) 0
-unfolding locateLowerIndexUniform indexAnswer uniformReadFault
-uniform-index first step n p =
-    gives (((2 ≤ n) × (n ≤ 64)) × ((finite first ≡ true) × (Stepped step × (finite p ≡ true)))) _ (uniformIndex first step n p) (rust.locateLowerIndexUniform first step n p) 0
+pub uniform_index_lem : (first step : Float) (n : ℕ) (p : Float) → Gives (((2 ≤ n) × (n ≤ 64)) × ((finite first ≡ true) × (Stepped step × (finite p ≡ true)))) (uniform_read_fault first step n p) (locate_lower_index_uniform first step n p).answer
+    (locate_lower_index_uniform first step n p).index (rust.locate_lower_index_uniform first step n p) 0
+unfolding locate_lower_index_uniform index_answer uniform_read_fault
+uniform_index_lem first step n p =
+    gives (((2 ≤ n) × (n ≤ 64)) × ((finite first ≡ true) × (Stepped step × (finite p ≡ true)))) _ (uniform_index first step n p) (rust.locate_lower_index_uniform first step n p) 0
     (λ g.
-    orders.both-passed (countFault 0 n) _ (orders.passed-no-fault _ (count-fine 0 n g.0.0 g.0.1))
-    (orders.both-passed (finiteFault 0 0 first) _ (orders.passed-no-fault _ (finite-fine 0 0 first g.1.0))
-    (orders.both-passed (lentStepFault step) (readingFault 0 p) (step-good step g.1.1.0) (reading-good p g.1.1.1))))
+    orders.both_passed (count_fault 0 n) _ (orders.passed-no_fault _ (count-fine 0 n g.0.0 g.0.1))
+    (orders.both_passed (finite_fault 0 0 first) _ (orders.passed-no_fault _ (finite_fine 0 0 first g.1.0))
+    (orders.both_passed (lent_step_fault step) (reading_fault 0 p) (step-good step g.1.1.0) (reading_good p g.1.1.1))))
     (λ h.
-    let h1 = orders.second-passed _ _ h in
-    let h2 = orders.second-passed _ _ h1 in (
-      (count-enough 0 n (orders.first-passed _ _ h), count-few 0 n (orders.first-passed _ _ h)),
-      (finite-passed 0 0 first (orders.first-passed _ _ h1), (step-passed step (orders.first-passed _ _ h2), reading-finite 0 p (orders.second-passed _ _ h2))),
+    let h1 = orders.second_passed _ _ h in
+    let h2 = orders.second_passed _ _ h1 in (
+      (count_enough 0 n (orders.first-passed _ _ h), count_few 0 n (orders.first-passed _ _ h)),
+      (finite_passed 0 0 first (orders.first-passed _ _ h1), (step-passed step (orders.first-passed _ _ h2), reading_finite 0 p (orders.second_passed _ _ h2))),
     ))
-    (λ g. sym (uniform-index-text first step n p))
+    (λ g. sym (uniform_index_text first step n p))
 
 -- ---- the two checks
 -- rows 2, 4, 5, 6, what is lent, then row 8 as a verdict of the Rust's
-module _ (nodes : List Float) (lent row : Fault) (v : Validated) (Lend : Type 0) (lend-good : Lend → good lent ≡ true) (Lent-is : good lent ≡ true → Lend) (text : Axis nodes → row ≡ uniformRow v) where
-  spaced-good : (Axis nodes × Lend) × (v ≡ ok) → good (axisFault nodes or lent or row) ≡ true
-  spaced-good g =
-      orders.both-passed (axisFault nodes) (lent or row) (axis-good nodes g.0.0)
-      (orders.both-passed lent row (lend-good g.0.1) (ap good (text g.0.0 ∙ ap uniformRow g.1) ∙ orders.good-no-fault))
+module _ (nodes : List Float) (lent row : Fault) (v : Validated) (Lend : Type 0) (lend-good : Lend → good lent ≡ true) (Lent-is : good lent ≡ true → Lend) (text : Axis nodes → row ≡ uniform_row v) where
+  spaced_good : (Axis nodes × Lend) × (v ≡ ok) → good (axis_fault nodes or lent or row) ≡ true
+  spaced_good g =
+      orders.both_passed (axis_fault nodes) (lent or row) (axis-good nodes g.0.0)
+      (orders.both_passed lent row (lend-good g.0.1) (ap good (text g.0.0 ∙ ap uniform_row g.1) ∙ orders.good-no_fault))
 
-  spaced : good (axisFault nodes or lent or row) ≡ true → (Axis nodes × Lend) × (v ≡ ok)
+  spaced : good (axis_fault nodes or lent or row) ≡ true → (Axis nodes × Lend) × (v ≡ ok)
   spaced h =
-      let a : Axis nodes = axis-of nodes (orders.first-passed _ _ h) in
-      let rest = orders.second-passed _ _ h in
-      ((a, Lent-is (orders.first-passed _ _ rest)), row-passed v (ap good (sym (text a)) ∙ orders.second-passed _ _ rest))
+      let a : Axis nodes = axis_of_lem nodes (orders.first-passed _ _ h) in
+      let rest = orders.second_passed _ _ h in
+      ((a, Lent-is (orders.first-passed _ _ rest)), row_passed v (ap good (sym (text a)) ∙ orders.second_passed _ _ rest))
 
-  names : (i : ℕ) → Axis nodes → Lend → v ≡ nonUniform 0 i → ((axisFault nodes or lent or row) then fine) ≡ refused (refusal 8 0 i)
+  names : (i : ℕ) → Axis nodes → Lend → v ≡ non_uniform 0 i → ((axis_fault nodes or lent or row) then fine) ≡ refused (refusal 8 0 i)
   names i a l e =
-      let f : (axisFault nodes or lent or row) ≡ refusal 8 0 i = orders.or-good (axisFault nodes) (lent or row) (axis-good nodes a) ∙ orders.or-good lent row (lend-good l) ∙ text a ∙ ap uniformRow e in
-      then-bad (axisFault nodes or lent or row) fine (ap good f ∙ orders.bad-refused 7 0 i) ∙ ap refused f
+      let f : (axis_fault nodes or lent or row) ≡ refusal 8 0 i = orders.or_good (axis_fault nodes) (lent or row) (axis-good nodes a) ∙ orders.or_good lent row (lend-good l) ∙ text a ∙ ap uniform_row e in
+      then_bad (axis_fault nodes or lent or row) fine (ap good f ∙ orders.bad_refused 7 0 i) ∙ ap refused f
 
 module _ (nodes : List Float) (tolerance : Float) where
-  pub lent-check : Judges ((Axis nodes × Tolerant tolerance) × (rust.validateUniformGrid nodes 0 tolerance ≡ ok)) (spacingFault nodes (Lent tolerance)) (validateUniformGrid nodes tolerance)
-  unfolding validateUniformGrid validateUniformGridEpsilon spacingFault toleranceOf
-  lent-check =
-      judges ((Axis nodes × Tolerant tolerance) × (rust.validateUniformGrid nodes 0 tolerance ≡ ok)) _
-      (spaced-good nodes (toleranceFault tolerance) (uniformFault 0 nodes tolerance) (rust.validateUniformGrid nodes 0 tolerance) (Tolerant tolerance) (tolerance-good tolerance) (tolerance-passed tolerance) (λ a. validate-text 0 nodes tolerance))
-      (spaced nodes (toleranceFault tolerance) (uniformFault 0 nodes tolerance) (rust.validateUniformGrid nodes 0 tolerance) (Tolerant tolerance) (tolerance-good tolerance) (tolerance-passed tolerance) (λ a. validate-text 0 nodes tolerance))
+  pub lent_check : Judges ((Axis nodes × Tolerant tolerance) × (rust.validate_uniform_grid nodes 0 tolerance ≡ ok)) (spacing_fault nodes (Lent tolerance)) (validate_uniform_grid nodes tolerance)
+  unfolding validate_uniform_grid validate_uniform_grid_epsilon spacing_fault tolerance_of
+  lent_check =
+      judges ((Axis nodes × Tolerant tolerance) × (rust.validate_uniform_grid nodes 0 tolerance ≡ ok)) _
+      (spaced_good nodes (tolerance_fault tolerance) (uniform_fault 0 nodes tolerance) (rust.validate_uniform_grid nodes 0 tolerance) (Tolerant tolerance) (tolerance_good tolerance) (tolerance_passed tolerance) (λ a. validate_text 0 nodes tolerance))
+      (spaced nodes (tolerance_fault tolerance) (uniform_fault 0 nodes tolerance) (rust.validate_uniform_grid nodes 0 tolerance) (Tolerant tolerance) (tolerance_good tolerance) (tolerance_passed tolerance) (λ a. validate_text 0 nodes tolerance))
 
-  pub lent-check-names : (i : ℕ) → Axis nodes → Tolerant tolerance → rust.validateUniformGrid nodes 0 tolerance ≡ nonUniform 0 i → validateUniformGrid nodes tolerance ≡ refused (refusal 8 0 i)
-  unfolding validateUniformGrid validateUniformGridEpsilon spacingFault toleranceOf
-  lent-check-names = names nodes (toleranceFault tolerance) (uniformFault 0 nodes tolerance) (rust.validateUniformGrid nodes 0 tolerance) (Tolerant tolerance) (tolerance-good tolerance) (tolerance-passed tolerance) (λ a. validate-text 0 nodes tolerance)
+  pub lent_check_names : (i : ℕ) → Axis nodes → Tolerant tolerance → rust.validate_uniform_grid nodes 0 tolerance ≡ non_uniform 0 i → validate_uniform_grid nodes tolerance ≡ refused (refusal 8 0 i)
+  unfolding validate_uniform_grid validate_uniform_grid_epsilon spacing_fault tolerance_of
+  lent_check_names = names nodes (tolerance_fault tolerance) (uniform_fault 0 nodes tolerance) (rust.validate_uniform_grid nodes 0 tolerance) (Tolerant tolerance) (tolerance_good tolerance) (tolerance_passed tolerance) (λ a. validate_text 0 nodes tolerance)
 
 module _ (nodes : List Float) (tolerance : Float) where
-  pub default-check : Judges (Axis nodes × (rust.validateUniformGridEpsilon nodes 0 ≡ ok)) (spacingFault nodes Default) (validateUniformGridEpsilon nodes (toleranceBy 0 tolerance))
-  unfolding validateUniformGridEpsilon spacingFault toleranceOf toleranceBy
-  default-check =
-      judges (Axis nodes × (rust.validateUniformGridEpsilon nodes 0 ≡ ok)) _
-      (λ g. spaced-good nodes noFault (defaultFault 0 nodes) (rust.validateUniformGridEpsilon nodes 0) Unit (λ u. orders.good-no-fault) (λ h. tt) (epsilon-text 0 nodes) ((g.0, tt), g.1))
-      (λ h. let q = spaced nodes noFault (defaultFault 0 nodes) (rust.validateUniformGridEpsilon nodes 0) Unit (λ u. orders.good-no-fault) (λ h. tt) (epsilon-text 0 nodes) h in (q.0.0, q.1))
+  pub default_check : Judges (Axis nodes × (rust.validate_uniform_grid_epsilon nodes 0 ≡ ok)) (spacing_fault nodes Default) (validate_uniform_grid_epsilon nodes (tolerance_by 0 tolerance))
+  unfolding validate_uniform_grid_epsilon spacing_fault tolerance_of tolerance_by
+  default_check =
+      judges (Axis nodes × (rust.validate_uniform_grid_epsilon nodes 0 ≡ ok)) _
+      (λ g. spaced_good nodes no_fault (default_fault 0 nodes) (rust.validate_uniform_grid_epsilon nodes 0) Unit (λ u. orders.good-no_fault) (λ h. tt) (epsilon_text 0 nodes) ((g.0, tt), g.1))
+      (λ h. let q = spaced nodes no_fault (default_fault 0 nodes) (rust.validate_uniform_grid_epsilon nodes 0) Unit (λ u. orders.good-no_fault) (λ h. tt) (epsilon_text 0 nodes) h in (q.0.0, q.1))
 
-  pub default-check-names : (i : ℕ) → Axis nodes → rust.validateUniformGridEpsilon nodes 0 ≡ nonUniform 0 i → validateUniformGridEpsilon nodes (toleranceBy 0 tolerance) ≡ refused (refusal 8 0 i)
-  unfolding validateUniformGridEpsilon spacingFault toleranceOf toleranceBy
-  default-check-names i a e = names nodes noFault (defaultFault 0 nodes) (rust.validateUniformGridEpsilon nodes 0) Unit (λ u. orders.good-no-fault) (λ h. tt) (epsilon-text 0 nodes) i a tt e
+  pub default_check_names : (i : ℕ) → Axis nodes → rust.validate_uniform_grid_epsilon nodes 0 ≡ non_uniform 0 i → validate_uniform_grid_epsilon nodes (tolerance_by 0 tolerance) ≡ refused (refusal 8 0 i)
+  unfolding validate_uniform_grid_epsilon spacing_fault tolerance_of tolerance_by
+  default_check_names i a e = names nodes no_fault (default_fault 0 nodes) (rust.validate_uniform_grid_epsilon nodes 0) Unit (λ u. orders.good-no_fault) (λ h. tt) (epsilon_text 0 nodes) i a tt e
 
-  lent-epsilon : (lent : ℕ) → (lent ≡ 0 → ⊥) → validateUniformGridEpsilon nodes (toleranceBy lent tolerance) ≡ validateUniformGrid nodes tolerance
-  unfolding validateUniformGrid toleranceBy
-  lent-epsilon lent h = ap (λ (b : Bool). validateUniformGridEpsilon nodes (cond b Default (Lent tolerance))) (ne_eqb lent 0 h)
+  lent_epsilon : (lent : ℕ) → (lent ≡ 0 → ⊥) → validate_uniform_grid_epsilon nodes (tolerance_by lent tolerance) ≡ validate_uniform_grid nodes tolerance
+  unfolding validate_uniform_grid tolerance_by
+  lent_epsilon lent h = ap (λ (b : Bool). validate_uniform_grid_epsilon nodes (cond b Default (Lent tolerance))) (ne_eqb lent 0 h)
 
 pub primitives : Primitives
 primitives = record {
-  lower-index = lower-index;
-  lower-fits = λ nodes p r. subst (λ (i : ℕ). i + 1 < length nodes) (sym (lower-text nodes p r.0 r.1)) (cell-inside nodes p r.0.enough);
-  exact-index = λ nodes lower p. exact-index nodes p lower;
-  axis-location = axis-location;
-  axis-overflows = axis-overflows;
-  step-index = λ direction nodes p. step-index nodes p direction;
-  uniform-index = uniform-index;
-  uniform-fits = λ first step n p h. subst (λ (i : ℕ). i + 1 < n) (sym (uniform-index-text first step n p)) (uniform-index-fits first step n p h);
-  lent-check = lent-check;
-  lent-check-names = lent-check-names;
-  lent-epsilon = λ nodes lent tolerance. lent-epsilon nodes tolerance lent;
-  default-check = default-check;
-  default-check-names = default-check-names;
+  lower_index_lem = lower_index_lem;
+  lower_fits = λ nodes p r. subst (λ (i : ℕ). i + 1 < length nodes) (sym (lower_text nodes p r.0 r.1)) (cell_inside nodes p r.0.enough);
+  exact_index_lem = λ nodes lower p. exact_index_lem nodes p lower;
+  axis_location_lem = axis_location_lem;
+  axis_overflows = axis_overflows;
+  step_index_lem = λ direction nodes p. step_index_lem nodes p direction;
+  uniform_index_lem = uniform_index_lem;
+  uniform_fits = λ first step n p h. subst (λ (i : ℕ). i + 1 < n) (sym (uniform_index_text first step n p)) (uniform_index_fits first step n p h);
+  lent_check = lent_check;
+  lent_check_names = lent_check_names;
+  lent_epsilon = λ nodes lent tolerance. lent_epsilon nodes tolerance lent;
+  default_check = default_check;
+  default_check_names = default_check_names;
 }

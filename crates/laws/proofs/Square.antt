@@ -6,12 +6,12 @@ use Prim.Native.Nat.{zero, suc}
 use lib.Dec.{T}
 use lib.IntN.{pos}
 use lib.Ieee.{Float, fin, binary64, fits, sub, lt}
-use Rattle.answer.specs.Faults.{refusal, noFault, good, when, ◌or◌, first_of}
+use Rattle.answer.specs.Faults.{refusal, no_fault, good, when, ◌or◌, first_fault}
 use Rattle.binary64.proofs.Held.{Held}
-use Rattle.checks.specs.Numbers.{axesCountFault, countFault, productFault, lengthFault, finiteFault, riseFault, nodeFault, nodesFault, axesFault, valueFault, valuesFault, uniformFault, axesUniformFault}
-use Rattle.checks.specs.Shapes.{shapeFault, frameFault}
-use Rattle.layout.specs.Shape.{countsOf, size, total}
-use Rattle.layout.specs.Layout.{axesOf}
+use Rattle.checks.specs.Numbers.{axes_count_fault, count_fault, product_fault, length_fault, finite_fault, rise_fault, node_fault, nodes_fault, axes_fault, value_fault, values_fault, uniform_fault, axes_uniform_fault}
+use Rattle.checks.specs.Shapes.{shape_fault, frame_fault}
+use Rattle.layout.specs.Shape.{counts_of, size, total}
+use Rattle.layout.specs.Layout.{axes_of}
 use Rattle.layout.specs.declared.Shape.{Shape}
 use Rattle.ninterp.proofs.Demands.{Accepted}
 use Rattle.laws.specs.Calls.{Table}
@@ -39,15 +39,15 @@ held = (four (fin false 0 (pos 0)) (fin false 1 (pos 0)) (fin false 0 (pos 0)) (
     four x y z w p q r s (suc (suc (suc (suc i)))) = tt
 
 passed : Accepted shape nodes values
-unfolding frameFault shapeFault axesCountFault countFault productFault lengthFault finiteFault riseFault nodeFault nodesFault axesFault valueFault valuesFault axesOf total size good refusal when ◌or◌ first_of noFault sub lt
+unfolding frame_fault shape_fault axes_count_fault count_fault product_fault length_fault finite_fault rise_fault node_fault nodes_fault axes_fault value_fault values_fault axes_of total size good refusal when ◌or◌ first_fault no_fault sub lt
 passed = record { frame = refl; axes = refl; stored = refl }
 
 abbrev square : Table
 square = record { shape = shape; four = refl; nodes = record { list = nodes; held = held.0 }; values = record { list = values; held = held.1 } }
 
-uniform-rows : good (axesUniformFault (countsOf shape) nodes) ≡ true
-unfolding axesUniformFault uniformFault axesOf good refusal when ◌or◌ first_of noFault
-uniform-rows = refl
+uniform_rows : good (axes_uniform_fault (counts_of shape) nodes) ≡ true
+unfolding axes_uniform_fault uniform_fault axes_of good refusal when ◌or◌ first_fault no_fault
+uniform_rows = refl
 
-pub two-axes : TwoAxes
-two-axes = record { t = square; two = refl; accepted = accepted square passed; uniform = uniform square (accepted square passed) uniform-rows }
+pub two_axes : TwoAxes
+two_axes = record { t = square; two = refl; accepted = accepted square passed; uniform = uniform square (accepted square passed) uniform_rows }

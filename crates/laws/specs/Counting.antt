@@ -3,16 +3,16 @@ use Rattle.std.specs.Prelude.{◌≡◌, false, cond, ◌⊎◌, List, [], ◌�
 use Rattle.std.specs.Float.{nan}
 use Rattle.answer.specs.Faults.{refusal, when}
 use Rattle.answer.specs.Answer.{refused, fine, ◌then◌}
-use Rattle.checks.specs.Numbers.{mostRecords}
+use Rattle.checks.specs.Numbers.{most_records}
 use Rattle.lines.specs.Line.{line_of}
 use Rattle.lines.specs.Stream.{lines_of}
 use Rattle.tally.specs.declared.Tally.{Tally}
 use Rattle.tally.specs.declared.TallyAnswer.{TallyAnswer}
-use Rattle.tally.specs.Counts.{Sized, noneRead, cellCount, numberCount, sum_to}
-use Rattle.utils.specs.Calls.{locateLowerIndex}
-use Rattle.ninterp.specs.Records.{recordSize, recordReadings, recordAnswer, recordRule}
-use Rattle.ninterp.specs.Coverage.{recordsIn, recordsRead, fellIn, refusedBy, cellTotal, numberTotal}
-use Rattle.ninterp.specs.Counting.{countedRecord, countedRest, blockCount, blockTally}
+use Rattle.tally.specs.Counts.{Sized, none_read, cell_count, number_count, sum_to}
+use Rattle.utils.specs.Calls.{locate_lower_index}
+use Rattle.ninterp.specs.Records.{record_size, record_readings, record_answer, record_rule}
+use Rattle.ninterp.specs.Coverage.{records_in, records_read, fell_in, refused_by, cell_total, number_total}
+use Rattle.ninterp.specs.Counting.{counted_record, counted_rest, block_count, block_tally}
 use Rattle.ninterp.specs.declared.records.count.BlockTally.{BlockTally}
 use Rattle.laws.specs.Calls.{Table, axes, counts, axis, on}
 use Rattle.laws.specs.Promises.{Accepted}
@@ -21,16 +21,16 @@ use Rattle.laws.specs.Promises.{Accepted}
 
 -- a record of a table counted: the answer, and the tally that was lent as it is left
 abbrev pub count : Table → Tally → List ℕ → TallyAnswer
-count table t rec = on table (countedRecord t) rec
+count table t rec = on table (counted_record t) rec
 
 -- "one reading at a time": the tally after one record and the next
-unfoldable pub oneByOne : Table → Tally → List (List ℕ) → Tally
-oneByOne table t [] = t
-oneByOne table t (rec ∷ recs) = oneByOne table (count table t rec).tally recs
+unfoldable pub one_by_one : Table → Tally → List (List ℕ) → Tally
+one_by_one table t [] = t
+one_by_one table t (rec ∷ recs) = one_by_one table (count table t rec).tally recs
 
 -- the whole records of a block counted: the tally after them, and how many bytes they have
-abbrev pub countBlock : Table → Tally → List ℕ → BlockTally
-countBlock table t block = on table (blockTally t) block
+abbrev pub count_block : Table → Tally → List ℕ → BlockTally
+count_block table t block = on table (block_tally t) block
 
 -- a file that comes in blocks, cut anywhere: what is left of one is held, and stands before the next
 pub record Fed : Type 0 where
@@ -39,8 +39,8 @@ pub record Fed : Type 0 where
 
 abbrev pub next : Table → Fed → List ℕ → Fed
 next table f block = record {
-  tally = (countBlock table f.tally (f.held ++ block)).tally;
-  held = drop (countBlock table f.tally (f.held ++ block)).used (f.held ++ block);
+  tally = (count_block table f.tally (f.held ++ block)).tally;
+  held = drop (count_block table f.tally (f.held ++ block)).used (f.held ++ block);
 }
 
 unfoldable pub fed : Table → Fed → List (List ℕ) → Fed
@@ -49,10 +49,10 @@ fed table f (block ∷ blocks) = fed table (next table f block) blocks
 
 -- from nothing read to the file's end, where bytes that are held are one record more
 abbrev pub at_start : Fed
-at_start = record { tally = noneRead; held = [] }
+at_start = record { tally = none_read; held = [] }
 
-abbrev pub countFile : Table → List (List ℕ) → TallyAnswer
-countFile table blocks = on table (countedRest (fed table at_start blocks).tally) (fed table at_start blocks).held
+abbrev pub count_file : Table → List (List ℕ) → TallyAnswer
+count_file table blocks = on table (counted_rest (fed table at_start blocks).tally) (fed table at_start blocks).held
 
 -- the blocks joined
 unfoldable pub file : List (List ℕ) → List ℕ
@@ -62,70 +62,70 @@ file (block ∷ blocks) = block ++ file blocks
 -- what `lookup` prints of each of some records
 unfoldable pub answers : Table → List (List ℕ) → List ℕ
 answers table [] = []
-answers table (rec ∷ recs) = line_of (on table recordAnswer rec) ++ answers table recs
+answers table (rec ∷ recs) = line_of (on table record_answer rec) ++ answers table recs
 
 -- ==== Request C-11
 pub record Counting : Type 0 where
   -- ---- which records: "a recorded file of lookup records"; "It reads what `lookup` reads"
 
   -- record i has the bytes of its place, the last one what is left; they are the first 1,000,000
-  pub records-cut : (table : Table) (f : List ℕ) (i : ℕ) → i < mostRecords → i * recordSize table.shape < length f
-      → (i < length (recordsRead table.shape f))
-      × (get_or (recordsRead table.shape f) i [] ≡ take (recordSize table.shape) (drop (i * recordSize table.shape) f))
-  pub no-other-records : (table : Table) (f : List ℕ) (i : ℕ) → i < length (recordsRead table.shape f)
-      → (i < mostRecords) × (i * recordSize table.shape < length f)
+  pub records_cut : (table : Table) (f : List ℕ) (i : ℕ) → i < most_records → i * record_size table.shape < length f
+      → (i < length (records_read table.shape f))
+      × (get_or (records_read table.shape f) i [] ≡ take (record_size table.shape) (drop (i * record_size table.shape) f))
+  pub no_other_records : (table : Table) (f : List ℕ) (i : ℕ) → i < length (records_read table.shape f)
+      → (i < most_records) × (i * record_size table.shape < length f)
   -- they are those that `lookup` prints a line for; "A short last record counts under 3"
-  pub lookup-reads : (table : Table) (f : List ℕ) → Accepted table
-      → lines_of (on table recordRule) mostRecords f ≡ answers table (recordsRead table.shape f)
-  pub short-counts-under-three : (table : Table) (rec : List ℕ) → Accepted table → length rec < recordSize table.shape
-      → on table recordAnswer rec ≡ refused (refusal 3 0 2)
+  pub lookup_reads : (table : Table) (f : List ℕ) → Accepted table
+      → lines_of (on table record_rule) most_records f ≡ answers table (records_read table.shape f)
+  pub short_counts_under_three : (table : Table) (rec : List ℕ) → Accepted table → length rec < record_size table.shape
+      → on table record_answer rec ≡ refused (refusal 3 0 2)
   -- "(by `locate_lower_index`) the accepted readings": a record that is answered 0 is in the cell that the primitive names, on each axis of the table
-  pub cells-by-search : (table : Table) (rec : List ℕ) (a i : ℕ) → (on table recordAnswer rec).number ≡ 0 → a < axes table
-      → ((locateLowerIndex (axis table a) (get_or (recordReadings table.shape rec) a nan)).answer ≡ fine)
-      × (on table fellIn a i rec ≡ eqb (locateLowerIndex (axis table a) (get_or (recordReadings table.shape rec) a nan)).index i)
+  pub cells_by_search : (table : Table) (rec : List ℕ) (a i : ℕ) → (on table record_answer rec).number ≡ 0 → a < axes table
+      → ((locate_lower_index (axis table a) (get_or (record_readings table.shape rec) a nan)).answer ≡ fine)
+      × (on table fell_in a i rec ≡ eqb (locate_lower_index (axis table a) (get_or (record_readings table.shape rec) a nan)).index i)
   -- "Only records answered 0 count in cells", and on no other axis
-  pub in-no-other-cell : (table : Table) (rec : List ℕ) (a i : ℕ) → ((on table recordAnswer rec).number ≡ 0 → ⊥) ⊎ (axes table ≤ a) → on table fellIn a i rec ≡ false
+  pub in_no_other_cell : (table : Table) (rec : List ℕ) (a i : ℕ) → ((on table record_answer rec).number ≡ 0 → ⊥) ⊎ (axes table ≤ a) → on table fell_in a i rec ≡ false
   -- "a count per refusal number"
-  pub numbers-by-answer : (table : Table) (rec : List ℕ) (k : ℕ) → on table refusedBy k rec ≡ eqb (on table recordAnswer rec).number k
+  pub numbers_by_answer : (table : Table) (rec : List ℕ) (k : ℕ) → on table refused_by k rec ≡ eqb (on table record_answer rec).number k
   -- ---- one record
 
   -- "Counting a record that the lookup refuses is a success of the counting call": so is every record before the limit, whatever the lookup answers
-  pub counts-any : (table : Table) (t : Tally) (rec : List ℕ) → t.records < mostRecords → (count table t rec).answer ≡ fine
+  pub counts_any : (table : Table) (t : Tally) (rec : List ℕ) → t.records < most_records → (count table t rec).answer ≡ fine
   -- "that call's own 17 leaves the tally as it was": given exactly where 1,000,000 were read
-  pub counts-no-more : (table : Table) (t : Tally) (rec : List ℕ) → mostRecords ≤ t.records
+  pub counts_no_more : (table : Table) (t : Tally) (rec : List ℕ) → most_records ≤ t.records
       → count table t rec ≡ record { answer = refused (refusal 17 0 0); tally = t }
   -- one record more was read, and each count is one more exactly where the record is of its kind; a largest u32 stays
-  pub records-more : (table : Table) (t : Tally) (rec : List ℕ) → t.records < mostRecords → (count table t rec).tally.records ≡ t.records + 1
-  pub cells-more : (table : Table) (t : Tally) (rec : List ℕ) → Sized t → t.records < mostRecords
-      → (a i : ℕ) → a < 4 → i < 63 → cellCount t a i ≤ 4294967295
-      → cellCount (count table t rec).tally a i ≡ min 4294967295 (cellCount t a i + cond (on table fellIn a i rec) 1 0)
-  pub numbers_more : (table : Table) (t : Tally) (rec : List ℕ) → Sized t → t.records < mostRecords
-      → (k : ℕ) → suc k < 21 → numberCount t (suc k) ≤ 4294967295
-      → numberCount (count table t rec).tally (suc k) ≡ min 4294967295 (numberCount t (suc k) + cond (on table refusedBy (suc k) rec) 1 0)
-  pub no-number-zero : (table : Table) (t : Tally) (rec : List ℕ) → Sized t → numberCount (count table t rec).tally 0 ≡ numberCount t 0
-  pub sized-still : (table : Table) (t : Tally) (rec : List ℕ) → Sized t → Sized (count table t rec).tally
+  pub records_more : (table : Table) (t : Tally) (rec : List ℕ) → t.records < most_records → (count table t rec).tally.records ≡ t.records + 1
+  pub cells_more_lem : (table : Table) (t : Tally) (rec : List ℕ) → Sized t → t.records < most_records
+      → (a i : ℕ) → a < 4 → i < 63 → cell_count t a i ≤ 4294967295
+      → cell_count (count table t rec).tally a i ≡ min 4294967295 (cell_count t a i + cond (on table fell_in a i rec) 1 0)
+  pub numbers_more : (table : Table) (t : Tally) (rec : List ℕ) → Sized t → t.records < most_records
+      → (k : ℕ) → suc k < 21 → number_count t (suc k) ≤ 4294967295
+      → number_count (count table t rec).tally (suc k) ≡ min 4294967295 (number_count t (suc k) + cond (on table refused_by (suc k) rec) 1 0)
+  pub no_number_zero : (table : Table) (t : Tally) (rec : List ℕ) → Sized t → number_count (count table t rec).tally 0 ≡ number_count t 0
+  pub sized_still : (table : Table) (t : Tally) (rec : List ℕ) → Sized t → Sized (count table t rec).tally
   -- ---- a block, and a file, whichever way it is cut into blocks
 
-  pub blocks-one-by-one : (table : Table) (t : Tally) (block : List ℕ)
-      → (countBlock table t block).tally ≡ oneByOne table t (recordsIn (recordSize table.shape) (blockCount t table.shape block) block)
-  pub blocks-use : (table : Table) (t : Tally) (block : List ℕ)
-      → ((countBlock table t block).used ≡ blockCount t table.shape block * recordSize table.shape) × ((countBlock table t block).used ≤ length block)
-  pub blocks-leave : (table : Table) (t : Tally) (block : List ℕ)
-      → (length (drop (countBlock table t block).used block) < recordSize table.shape) ⊎ (mostRecords ≤ (countBlock table t block).tally.records)
-  pub files-one-by-one : (table : Table) (blocks : List (List ℕ)) → (countFile table blocks).tally ≡ oneByOne table noneRead (recordsRead table.shape (file blocks))
+  pub blocks_one_by_one : (table : Table) (t : Tally) (block : List ℕ)
+      → (count_block table t block).tally ≡ one_by_one table t (records_in (record_size table.shape) (block_count t table.shape block) block)
+  pub blocks_use : (table : Table) (t : Tally) (block : List ℕ)
+      → ((count_block table t block).used ≡ block_count t table.shape block * record_size table.shape) × ((count_block table t block).used ≤ length block)
+  pub blocks_leave : (table : Table) (t : Tally) (block : List ℕ)
+      → (length (drop (count_block table t block).used block) < record_size table.shape) ⊎ (most_records ≤ (count_block table t block).tally.records)
+  pub files_one_by_one : (table : Table) (blocks : List (List ℕ)) → (count_file table blocks).tally ≡ one_by_one table none_read (records_read table.shape (file blocks))
   -- "each count equals the number of such records in the file, worked from the records themselves"
   pub cells_are : (table : Table) (blocks : List (List ℕ)) (a i : ℕ) → i < 63
-      → cellCount (countFile table blocks).tally a i ≡ on table cellTotal (file blocks) a i
-  pub numbers-are : (table : Table) (blocks : List (List ℕ)) (k : ℕ) → suc k < 21
-      → numberCount (countFile table blocks).tally (suc k) ≡ on table numberTotal (file blocks) (suc k)
-  pub records-are : (table : Table) (blocks : List (List ℕ)) → (countFile table blocks).tally.records ≡ length (recordsRead table.shape (file blocks))
+      → cell_count (count_file table blocks).tally a i ≡ on table cell_total (file blocks) a i
+  pub numbers_are : (table : Table) (blocks : List (List ℕ)) (k : ℕ) → suc k < 21
+      → number_count (count_file table blocks).tally (suc k) ≡ on table number_total (file blocks) (suc k)
+  pub records_are : (table : Table) (blocks : List (List ℕ)) → (count_file table blocks).tally.records ≡ length (records_read table.shape (file blocks))
   -- "Refusals: 17, axis 0, place 0, at any byte after record 1,000,000"
-  pub limit-told : (table : Table) (blocks : List (List ℕ))
-      → (countFile table blocks).answer ≡ (when (ltb (mostRecords * recordSize table.shape) (length (file blocks))) (refusal 17 0 0) then fine)
+  pub limit_told : (table : Table) (blocks : List (List ℕ))
+      → (count_file table blocks).answer ≡ (when (ltb (most_records * record_size table.shape) (length (file blocks))) (refusal 17 0 0) then fine)
   -- "On each axis the cell counts plus the refused counts equal the records read"
-  pub axis-adds-up : (table : Table) (f : List ℕ) (a : ℕ) → a < axes table
-      → sum_to (on table cellTotal f a) (get_or (counts table) a 0 - 1) + sum_to (λ k. on table numberTotal f (suc k)) 20
-      ≡ length (recordsRead table.shape f)
-  pub tally-adds-up : (table : Table) (blocks : List (List ℕ)) (a : ℕ) → a < axes table → get_or (counts table) a 0 ≤ 64
-      → sum_to (cellCount (countFile table blocks).tally a) (get_or (counts table) a 0 - 1) + sum_to (λ k. numberCount (countFile table blocks).tally (suc k)) 20
-      ≡ (countFile table blocks).tally.records
+  pub axis_adds_up : (table : Table) (f : List ℕ) (a : ℕ) → a < axes table
+      → sum_to (on table cell_total f a) (get_or (counts table) a 0 - 1) + sum_to (λ k. on table number_total f (suc k)) 20
+      ≡ length (records_read table.shape f)
+  pub tally_adds_up : (table : Table) (blocks : List (List ℕ)) (a : ℕ) → a < axes table → get_or (counts table) a 0 ≤ 64
+      → sum_to (cell_count (count_file table blocks).tally a) (get_or (counts table) a 0 - 1) + sum_to (λ k. number_count (count_file table blocks).tally (suc k)) 20
+      ≡ (count_file table blocks).tally.records

@@ -38,17 +38,17 @@ module _ (counts : List ℕ) (n a : ℕ) (fits : n ≤ length counts) (more : 0 
   unfolding size
   size_back = sym (ap size before)
 
-  pub total-back : get_or counts (a - 1) 0 + total (drop a (take n counts)) ≡ total (drop (a - 1) (take n counts))
+  pub total_back : get_or counts (a - 1) 0 + total (drop a (take n counts)) ≡ total (drop (a - 1) (take n counts))
   unfolding total
-  total-back = sym (ap total before)
+  total_back = sym (ap total before)
 
 pub size_none : (counts : List ℕ) (n : ℕ) → 1 ≡ size (drop n (take n counts))
 unfolding size
 size_none counts n = sym (ap size (past counts n n (omega arith)))
 
-pub total-none : (counts : List ℕ) (n : ℕ) → 0 ≡ total (drop n (take n counts))
+pub total_none : (counts : List ℕ) (n : ℕ) → 0 ≡ total (drop n (take n counts))
 unfolding total
-total-none counts n = sym (ap total (past counts n n (omega arith)))
+total_none counts n = sym (ap total (past counts n n (omega arith)))
 
 -- ---- few counts of few nodes
 size_small : (ns : List ℕ) → ((a : ℕ) → a < length ns → get_or ns a 0 ≤ 64) → size ns ≤ 64 ^ length ns
@@ -58,11 +58,11 @@ size_small (n ∷ ns) h =
     let k : n * size ns ≤ 64 * 64 ^ length ns = mul-le-mul (h 0 (omega arith)) (size_small ns (λ a l. h (suc a) (omega arith))) in
     omega (arith, pow-suc 64 (length ns))
 
-total-small : (ns : List ℕ) → ((a : ℕ) → a < length ns → get_or ns a 0 ≤ 64) → total ns ≤ 64 * length ns
+total_small : (ns : List ℕ) → ((a : ℕ) → a < length ns → get_or ns a 0 ≤ 64) → total ns ≤ 64 * length ns
 unfolding total
-total-small [] h = omega arith
-total-small (n ∷ ns) h =
-    let k : total ns ≤ 64 * length ns = total-small ns (λ a l. h (suc a) (omega arith)) in
+total_small [] h = omega arith
+total_small (n ∷ ns) h =
+    let k : total ns ≤ 64 * length ns = total_small ns (λ a l. h (suc a) (omega arith)) in
     let l : n ≤ 64 = h 0 (omega arith) in
     omega arith
 
@@ -75,17 +75,17 @@ module _ (counts : List ℕ) (n a : ℕ) (fits : n ≤ length counts) (four : n 
       let q : a + k < n = omega (arith, length-drop a (take n counts), length-take n counts) in
       subst (λ (x : ℕ). x ≤ 64) (sym (get_or-drop a (take n counts) k 0 ∙ get_or-take n counts (a + k) 0 q)) (small (a + k) q)
 
-  pub size-bound : size (drop a (take n counts)) ≤ 16777216
-  size-bound =
+  pub size_bound : size (drop a (take n counts)) ≤ 16777216
+  size_bound =
       let p : 64 ^ length (drop a (take n counts)) ≤ 64 ^ 4 = pow-le-pow_right (omega arith) few in
       le_trans (size_small (drop a (take n counts)) each) p
 
-  pub total-bound : total (drop a (take n counts)) ≤ 256
-  total-bound = let p : total (drop a (take n counts)) ≤ 64 * length (drop a (take n counts)) = total-small (drop a (take n counts)) each in omega (arith, few)
+  pub total_bound : total (drop a (take n counts)) ≤ 256
+  total_bound = let p : total (drop a (take n counts)) ≤ 64 * length (drop a (take n counts)) = total_small (drop a (take n counts)) each in omega (arith, few)
 
 -- ---- what is not there is not looked at
-pub take-there : {A : Type 0} (n : ℕ) (l : List A) → take (min n (length l)) l ≡ take n l
-take-there n l = go (eq-or-lt_of_le small)
+pub take_there : {A : Type 0} (n : ℕ) (l : List A) → take (min n (length l)) l ≡ take n l
+take_there n l = go (eq-or-lt_of_le small)
   where
     small : min n (length l) ≤ n
     small = omega arith
@@ -95,5 +95,5 @@ take-there n l = go (eq-or-lt_of_le small)
     go (inr q) = take_all (min n (length l)) l (omega arith) ∙ sym (take_all n l (omega arith))
 
 -- the first so many of four, as the code goes
-pub counts-least : {A : Type 0} (counts : List A) (m n : ℕ) → length counts ≡ 4 → m ≡ min n 4 → take m counts ≡ take n counts
-counts-least counts m n l e = ap (λ (k : ℕ). take k counts) (e ∙ ap (min n) (sym l)) ∙ take-there n counts
+pub counts_least : {A : Type 0} (counts : List A) (m n : ℕ) → length counts ≡ 4 → m ≡ min n 4 → take m counts ≡ take n counts
+counts_least counts m n l e = ap (λ (k : ℕ). take k counts) (e ∙ ap (min n) (sym l)) ∙ take_there n counts

@@ -8,17 +8,17 @@ use native.Mathlib.Numerals.{add-one}
 use native.Mathlib.Omega.{arith}
 use lib.ListN.{length, take, drop, get_or, length-drop, drop_of_length-le}
 use lib.Seq.{drop-cons, get_or-take, drop-drop, length-take-le}
-use Rattle.layout.specs.Layout.{axesOf}
-use Rattle.layout.proofs.Totals.{take-there}
+use Rattle.layout.specs.Layout.{axes_of}
+use Rattle.layout.proofs.Totals.{take_there}
 
-pub length-axes : {A : Type 0} (counts : List ℕ) (nodes : List A) → length (axesOf counts nodes) ≡ length counts
-unfolding axesOf
+pub length-axes : {A : Type 0} (counts : List ℕ) (nodes : List A) → length (axes_of counts nodes) ≡ length counts
+unfolding axes_of
 length-axes [] nodes = refl
 length-axes (n ∷ ns) nodes = ap suc (length-axes ns (drop n nodes))
 
 -- a is the next axis, and it starts at `at`
 abbrev pub Walk : {A : Type 0} → List ℕ → List A → ℕ → ℕ → Type 0
-Walk counts nodes a at = drop a (axesOf counts nodes) ≡ axesOf (drop a counts) (drop at nodes)
+Walk counts nodes a at = drop a (axes_of counts nodes) ≡ axes_of (drop a counts) (drop at nodes)
 
 heads : {A : Type 0} {x y : A} {xs ys : List A} → x ∷ xs ≡ y ∷ ys → x ≡ y
 heads e = cc
@@ -30,19 +30,19 @@ module _ {A : Type 0} (counts : List ℕ) (nodes : List A) (a at : ℕ) (l : a <
   abbrev count : ℕ
   count = get_or counts a 0
 
-  both : get_or (axesOf counts nodes) a [] ∷ drop (suc a) (axesOf counts nodes) ≡ take count (drop at nodes) ∷ axesOf (drop (suc a) counts) (drop count (drop at nodes))
-  unfolding axesOf
+  both : get_or (axes_of counts nodes) a [] ∷ drop (suc a) (axes_of counts nodes) ≡ take count (drop at nodes) ∷ axes_of (drop (suc a) counts) (drop count (drop at nodes))
+  unfolding axes_of
   both =
-      sym (drop-cons (axesOf counts nodes) a [] (omega (arith, length-axes counts nodes)))
+      sym (drop-cons (axes_of counts nodes) a [] (omega (arith, length-axes counts nodes)))
       ∙ w
-      ∙ ap (λ (cs : List ℕ). axesOf cs (drop at nodes)) (drop-cons counts a 0 l)
+      ∙ ap (λ (cs : List ℕ). axes_of cs (drop at nodes)) (drop-cons counts a 0 l)
 
-  pub walk_here : get_or (axesOf counts nodes) a [] ≡ take count (drop at nodes)
+  pub walk_here : get_or (axes_of counts nodes) a [] ≡ take count (drop at nodes)
   walk_here = heads both
 
   -- what is cut off at the end of the nodes is not there
-  pub walk-part : take (min count (length nodes - at)) (drop at nodes) ≡ take count (drop at nodes)
-  walk-part = ap (λ (k : ℕ). take (min count k) (drop at nodes)) (sym (length-drop at nodes)) ∙ take-there count (drop at nodes)
+  pub walk_part : take (min count (length nodes - at)) (drop at nodes) ≡ take count (drop at nodes)
+  walk_part = ap (λ (k : ℕ). take (min count k) (drop at nodes)) (sym (length-drop at nodes)) ∙ take_there count (drop at nodes)
 
   rest : drop count (drop at nodes) ≡ drop (at + min count (length nodes - at)) nodes
   rest = go (eq-or-lt_of_le small)
@@ -55,8 +55,8 @@ module _ {A : Type 0} (counts : List ℕ) (nodes : List A) (a at : ℕ) (l : a <
       go (inr h) =
           drop_of_length-le (drop at nodes) {i = count} (omega (arith, length-drop at nodes)) ∙ sym (drop_of_length-le nodes {i = at + min count (length nodes - at)} (omega arith))
 
-  pub walk-next : Walk counts nodes (a + 1) (at + min count (length nodes - at))
-  walk-next = ap (λ (k : ℕ). drop k (axesOf counts nodes)) (add-one a) ∙ tails both ∙ ap₂ axesOf (ap (λ (k : ℕ). drop k counts) (sym (add-one a))) rest
+  pub walk_next : Walk counts nodes (a + 1) (at + min count (length nodes - at))
+  walk_next = ap (λ (k : ℕ). drop k (axes_of counts nodes)) (add-one a) ∙ tails both ∙ ap₂ axes_of (ap (λ (k : ℕ). drop k counts) (sym (add-one a))) rest
 
 -- ---- the same over the first so many of the counts, as the code goes
 module _ {A : Type 0} (counts : List ℕ) (axes : ℕ) (nodes : List A) (a at end : ℕ) (within : axes ≤ length counts) (here : a < axes) (w : Walk (take axes counts) nodes a at) (e : end ≡ at + min (get_or counts a 0) (length nodes - at)) where
@@ -69,11 +69,11 @@ module _ {A : Type 0} (counts : List ℕ) (axes : ℕ) (nodes : List A) (a at en
   cut : end - at ≡ min (get_or (take axes counts) a 0) (length nodes - at)
   cut = let q : end - at ≡ min (get_or counts a 0) (length nodes - at) = omega arith in q ∙ ap (λ (k : ℕ). min k (length nodes - at)) (sym same)
 
-  pub walk-axis : take (end - at) (drop at nodes) ≡ get_or (axesOf (take axes counts) nodes) a []
-  walk-axis =
+  pub walk_axis : take (end - at) (drop at nodes) ≡ get_or (axes_of (take axes counts) nodes) a []
+  walk_axis =
       ap (λ (k : ℕ). take k (drop at nodes)) cut
-      ∙ walk-part (take axes counts) nodes a at below w
+      ∙ walk_part (take axes counts) nodes a at below w
       ∙ sym (walk_here (take axes counts) nodes a at below w)
 
-  pub walk-on : Walk (take axes counts) nodes (a + 1) end
-  walk-on = subst (λ (k : ℕ). Walk (take axes counts) nodes (a + 1) k) (sym (e ∙ ap (λ (k : ℕ). at + min k (length nodes - at)) (sym same))) (walk-next (take axes counts) nodes a at below w)
+  pub walk_on : Walk (take axes counts) nodes (a + 1) end
+  walk_on = subst (λ (k : ℕ). Walk (take axes counts) nodes (a + 1) k) (sym (e ∙ ap (λ (k : ℕ). at + min k (length nodes - at)) (sym same))) (walk_next (take axes counts) nodes a at below w)

@@ -1,39 +1,39 @@
 -- "Sizes": where nodes and values lie.
 use Rattle.std.specs.Prelude.{List, [], ◌∷◌, ◌++◌, ℕ, zero, suc, ◌+◌, ◌*◌, ◌/◌, ◌%◌, ◌<◌, take, drop, get_or, Float}
 use Rattle.std.specs.Float.{nan}
-use Rattle.layout.specs.Shape.{countsOf, size}
+use Rattle.layout.specs.Shape.{counts_of, size}
 use Rattle.layout.specs.declared.Shape.{Shape}
 
 -- "Nodes lie flat, axis after axis"
-unfoldable pub axesOf : {A : Type 0} → List ℕ → List A → List (List A)
-axesOf [] nodes = []
-axesOf (n ∷ ns) nodes = take n nodes ∷ axesOf ns (drop n nodes)
+unfoldable pub axes_of : {A : Type 0} → List ℕ → List A → List (List A)
+axes_of [] nodes = []
+axes_of (n ∷ ns) nodes = take n nodes ∷ axes_of ns (drop n nodes)
 
 -- the nodes of one axis
-abbrev pub axisOf : {A : Type 0} → Shape → List A → ℕ → List A
-axisOf s nodes axis = get_or (axesOf (countsOf s) nodes) axis []
+abbrev pub axis_of : {A : Type 0} → Shape → List A → ℕ → List A
+axis_of s nodes axis = get_or (axes_of (counts_of s) nodes) axis []
 
 -- "values lie flat, last axis fastest": the strides, and where an index list lies by them
 unfoldable pub strides : List ℕ → List ℕ
 strides [] = []
 strides (n ∷ ns) = size ns ∷ strides ns
 
-unfoldable pub placeBy : List ℕ → List ℕ → ℕ
-placeBy [] is = 0
-placeBy (s ∷ ss) [] = 0
-placeBy (s ∷ ss) (i ∷ is) = i * s + placeBy ss is
+unfoldable pub place_by : List ℕ → List ℕ → ℕ
+place_by [] is = 0
+place_by (s ∷ ss) [] = 0
+place_by (s ∷ ss) (i ∷ is) = i * s + place_by ss is
 
 abbrev pub place : List ℕ → List ℕ → ℕ
-place counts is = placeBy (strides counts) is
+place counts is = place_by (strides counts) is
 
 -- a table is a function of the index list
 unfoldable pub table : List ℕ → List Float → List ℕ → Float
 table counts values is = get_or values (place counts is) nan
 
 -- the index list that lies at a flat place
-unfoldable pub indicesAt : List ℕ → ℕ → List ℕ
-indicesAt [] t = []
-indicesAt (n ∷ ns) t = (t / size ns) ∷ indicesAt ns (t % size ns)
+unfoldable pub indices_at : List ℕ → ℕ → List ℕ
+indices_at [] t = []
+indices_at (n ∷ ns) t = (t / size ns) ∷ indices_at ns (t % size ns)
 
 -- the list of h 0, h 1, .., one for each number below n
 abbrev pub tabulate : {A : Type 0} → ℕ → (ℕ → A) → List A
@@ -59,11 +59,11 @@ without zero (x ∷ xs) = xs
 without (suc k) (x ∷ xs) = x ∷ without k xs
 
 -- "A slice removes one axis": at node i of axis k, the value at each index list of the other axes is the table's at that list with i put in
-unfoldable pub sliceValues : ℕ → ℕ → List ℕ → List Float → List Float
-sliceValues k i counts values = tabulate (size (without k counts)) (λ t. table counts values (insert k i (indicesAt (without k counts) t)))
+unfoldable pub slice_values : ℕ → ℕ → List ℕ → List Float → List Float
+slice_values k i counts values = tabulate (size (without k counts)) (λ t. table counts values (insert k i (indices_at (without k counts) t)))
 
 -- "the other axes and their nodes stay, in their order"
-unfoldable pub nodesWithout : {A : Type 0} → ℕ → List ℕ → List A → List A
-nodesWithout k [] nodes = nodes
-nodesWithout zero (n ∷ ns) nodes = drop n nodes
-nodesWithout (suc k) (n ∷ ns) nodes = take n nodes ++ nodesWithout k ns (drop n nodes)
+unfoldable pub nodes_without : {A : Type 0} → ℕ → List ℕ → List A → List A
+nodes_without k [] nodes = nodes
+nodes_without zero (n ∷ ns) nodes = drop n nodes
+nodes_without (suc k) (n ∷ ns) nodes = take n nodes ++ nodes_without k ns (drop n nodes)

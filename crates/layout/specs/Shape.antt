@@ -3,8 +3,8 @@ use Rattle.std.specs.Prelude.{List, [], ◌∷◌, ℕ, ◌+◌, ◌*◌, take}
 use Rattle.layout.specs.declared.Shape.{Shape}
 
 -- "In a lent shape, counts past its axes are not looked at."
-abbrev pub countsOf : Shape → List ℕ
-countsOf s = take s.axes s.counts
+abbrev pub counts_of : Shape → List ℕ
+counts_of s = take s.axes s.counts
 
 -- "values (the product of the counts)"
 unfoldable pub size : List ℕ → ℕ

@@ -12,19 +12,19 @@ use lib.Seq.{drop-drop}
 use borrow.Author.Tests.{lt-ltb, le-ltb, ltb-true, ltb-false}
 use Rattle.lines.specs.Put.{put}
 use Rattle.lines.specs.Scaffolding.{Wrote}
-use Rattle.lines.specs.Stream.{Rule, linesFirst, count_of, Block}
+use Rattle.lines.specs.Stream.{Rule, lines_first, count_of, Block}
 use Rattle.lines.proofs.Puts.{then, wrote_none}
 
 -- ---- the lines of the first records
 
 module _ (p : Rule) where
-  pub lines_none : (input : List ℕ) → linesFirst p 0 input ≡ []
-  unfolding linesFirst
+  pub lines_none : (input : List ℕ) → lines_first p 0 input ≡ []
+  unfolding lines_first
   lines_none input = refl
 
-  pub lines-one : (k : ℕ) (input : List ℕ) → linesFirst p (suc k) input ≡ p.line (take p.size input) ++ linesFirst p k (drop p.size input)
-  unfolding linesFirst
-  lines-one k input = refl
+  pub lines_one : (k : ℕ) (input : List ℕ) → lines_first p (suc k) input ≡ p.line (take p.size input) ++ lines_first p k (drop p.size input)
+  unfolding lines_first
+  lines_one k input = refl
 
   pub drop-size : (k : ℕ) (input : List ℕ) → drop (k * p.size) (drop p.size input) ≡ drop (suc k * p.size) input
   drop-size k input = drop-drop (k * p.size) p.size input ∙ ap (λ (n : ℕ). drop n input) next
@@ -33,14 +33,14 @@ module _ (p : Rule) where
       next = omega (arith, suc-mul k p.size)
 
   -- the first j records, and k more
-  pub lines-add : (j k : ℕ) (input : List ℕ) → linesFirst p (j + k) input ≡ linesFirst p j input ++ linesFirst p k (drop (j * p.size) input)
-  unfolding linesFirst
-  lines-add zero k input = rw (zero-add, zero-mul)
-  lines-add (suc j) k input = rw (suc-add, lines-add j k (drop p.size input), drop-size j input, append_assoc)
+  pub lines_add : (j k : ℕ) (input : List ℕ) → lines_first p (j + k) input ≡ lines_first p j input ++ lines_first p k (drop (j * p.size) input)
+  unfolding lines_first
+  lines_add zero k input = rw (zero-add, zero-mul)
+  lines_add (suc j) k input = rw (suc-add, lines_add j k (drop p.size input), drop-size j input, append_assoc)
 
-  pub lines_more : (k : ℕ) (input : List ℕ) → linesFirst p (k + 1) input ≡ linesFirst p k input ++ p.line (take p.size (drop (k * p.size) input))
-  unfolding linesFirst
-  lines_more k input = lines-add k 1 input ∙ ap (λ (l : List ℕ). linesFirst p k input ++ l) (append-nil (p.line (take p.size (drop (k * p.size) input))))
+  pub lines_more : (k : ℕ) (input : List ℕ) → lines_first p (k + 1) input ≡ lines_first p k input ++ p.line (take p.size (drop (k * p.size) input))
+  unfolding lines_first
+  lines_more k input = lines_add k 1 input ∙ ap (λ (l : List ℕ). lines_first p k input ++ l) (append-nil (p.line (take p.size (drop (k * p.size) input))))
 
 -- ---- how many records are answered
 
@@ -49,15 +49,15 @@ module _ (p : Rule) (input : List ℕ) (room : ℕ) where
   unfolding count_of
   count_most most e = rw e
 
-  pub count-short : (most : ℕ) → length input < p.size → count_of p most input room ≡ 0
+  pub count_short : (most : ℕ) → length input < p.size → count_of p most input room ≡ 0
   unfolding count_of
-  count-short zero h = refl
-  count-short (suc m) h = rw (lt-ltb (length input) p.size h)
+  count_short zero h = refl
+  count_short (suc m) h = rw (lt-ltb (length input) p.size h)
 
-  pub count-full : (most : ℕ) → room < p.longest → count_of p most input room ≡ 0
+  pub count_full : (most : ℕ) → room < p.longest → count_of p most input room ≡ 0
   unfolding count_of
-  count-full zero h = refl
-  count-full (suc m) h = go (ltb (length input) p.size)
+  count_full zero h = refl
+  count_full (suc m) h = go (ltb (length input) p.size)
     where
       go : (t : Bool) → cond t 0 (cond (ltb room p.longest) 0 (suc (count_of p m (drop p.size input) (room - length (p.line (take p.size input)))))) ≡ 0
       go true = refl
@@ -75,12 +75,12 @@ pub record Going (p : Rule) (most : ℕ) (input d e : List ℕ) (count at writte
   pub place : at ≡ count * p.size
   pub whole : at ≤ length input
   pub kept : length e ≡ length d
-  pub lines : Wrote d 0 (linesFirst p count input) e written
+  pub lines : Wrote d 0 (lines_first p count input) e written
   pub room : written ≤ length d
   pub rest : count_of p most input (length d) ≡ count + count_of p (most - count) (drop at input) (length d - written)
 
-pub go-start : (p : Rule) (most : ℕ) (input d : List ℕ) → Going p most input d d 0 0 0
-go-start p most input d = record {
+pub go_start : (p : Rule) (most : ℕ) (input d : List ℕ) → Going p most input d d 0 0 0
+go_start p most input d = record {
   within = omega arith;
   place = omega (arith, zero-mul p.size);
   whole = omega arith;
@@ -91,10 +91,10 @@ go-start p most input d = record {
 }
 
 module _ {p : Rule} {most : ℕ} {input d e : List ℕ} {count at written : ℕ} (g : Going p most input d e count at written) where
-  pub go-turn : {f : List ℕ} {r : ℕ} → count < most → p.size ≤ length input - at → p.longest ≤ length e - written
+  pub go_turn : {f : List ℕ} {r : ℕ} → count < most → p.size ≤ length input - at → p.longest ≤ length e - written
       → Wrote e written (p.line (take p.size (drop at input))) f r → r ≤ written + p.longest → length f ≡ length e
       → Going p most input d f (count + 1) (at + p.size) r
-  go-turn {f} {r} lt fits room w small kept = record {
+  go_turn {f} {r} lt fits room w small kept = record {
     within = omega arith;
     place = omega (arith, g.place, add-mul count 1 p.size, one-mul p.size);
     whole = omega (arith, g.whole);
@@ -122,20 +122,20 @@ module _ {p : Rule} {most : ℕ} {input d e : List ℕ} {count at written : ℕ}
           ∙ count-one p (drop at input) (length d - written) (most - (count + 1)) fitting spaced
           ∙ ap₂ (λ (l : List ℕ) (n : ℕ). suc (count_of p (most - (count + 1)) l n)) (drop-drop p.size at input) gone
 
-  pub go-done : (most ≤ count) ⊎ ((length input < at + p.size) ⊎ (length e < written + p.longest)) → Block p most input d e count written
-  go-done s = record { many = sym (g.rest ∙ ap (λ (n : ℕ). count + n) (none s) ∙ omega arith); long = g.lines.next ∙ zero-add (length (linesFirst p count input)); bytes = g.lines.bytes }
+  pub go_done : (most ≤ count) ⊎ ((length input < at + p.size) ⊎ (length e < written + p.longest)) → Block p most input d e count written
+  go_done s = record { many = sym (g.rest ∙ ap (λ (n : ℕ). count + n) (none s) ∙ omega arith); long = g.lines.next ∙ zero-add (length (lines_first p count input)); bytes = g.lines.bytes }
     where
       none : (most ≤ count) ⊎ ((length input < at + p.size) ⊎ (length e < written + p.longest)) → count_of p (most - count) (drop at input) (length d - written) ≡ 0
       none (inl h) = count_most p (drop at input) (length d - written) (most - count) (omega arith)
-      none (inr (inl h)) = count-short p (drop at input) (length d - written) (most - count) (rw length-drop (omega (arith, g.whole)))
-      none (inr (inr h)) = count-full p (drop at input) (length d - written) (most - count) (omega (arith, g.kept, g.room))
+      none (inr (inl h)) = count_short p (drop at input) (length d - written) (most - count) (rw length-drop (omega (arith, g.whole)))
+      none (inr (inr h)) = count_full p (drop at input) (length d - written) (most - count) (omega (arith, g.kept, g.room))
 
 -- ---- what the count says: whole records alone, as many as may be, until one of three ends is met
 
 pub record Counted (p : Rule) (most : ℕ) (input : List ℕ) (room count : ℕ) : Type 0 where
   pub within : count ≤ most
   pub whole : count * p.size ≤ length input
-  pub stop : (most ≤ count) ⊎ ((length input < count * p.size + p.size) ⊎ (room < length (linesFirst p count input) + p.longest))
+  pub stop : (most ≤ count) ⊎ ((length input < count * p.size + p.size) ⊎ (room < length (lines_first p count input) + p.longest))
 
 nothing : (p : Rule) (most : ℕ) (input : List ℕ) (room : ℕ) → (most ≤ 0) ⊎ ((length input < p.size) ⊎ (room < p.longest)) → Counted p most input room 0
 nothing p most input room s = record {
@@ -149,8 +149,8 @@ one_more : (p : Rule) (m : ℕ) (input : List ℕ) (room k : ℕ) → p.size ≤
 one_more p m input room k h c =
     let n : length (drop p.size input) ≡ length input - p.size = length-drop p.size input in
     let t : suc k * p.size ≡ k * p.size + p.size = suc-mul k p.size in
-    let l : length (linesFirst p (suc k) input) ≡ length (p.line (take p.size input)) + length (linesFirst p k (drop p.size input)) =
-    ap length (lines-one p k input) ∙ length-append (p.line (take p.size input)) (linesFirst p k (drop p.size input)) in
+    let l : length (lines_first p (suc k) input) ≡ length (p.line (take p.size input)) + length (lines_first p k (drop p.size input)) =
+    ap length (lines_one p k input) ∙ length-append (p.line (take p.size input)) (lines_first p k (drop p.size input)) in
     record {
       within = omega (arith, c.within);
       whole = omega (arith, c.whole);
@@ -168,8 +168,8 @@ counted p (suc m) input room =
         → (u : Bool) → (u ≡ true → room < p.longest) → (u ≡ false → p.longest ≤ room)
         → Counted p m (drop p.size input) (room - length (p.line (take p.size input))) (count_of p m (drop p.size input) (room - length (p.line (take p.size input))))
         → Counted p (suc m) input room (count_of p (suc m) input room)
-    go true short _ u _ _ _ = rw (count-short p input room (suc m) (short refl)) (nothing p (suc m) input room (inr (inl (short refl))))
-    go false _ whole true full _ _ = rw (count-full p input room (suc m) (full refl)) (nothing p (suc m) input room (inr (inr (full refl))))
+    go true short _ u _ _ _ = rw (count_short p input room (suc m) (short refl)) (nothing p (suc m) input room (inr (inl (short refl))))
+    go false _ whole true full _ _ = rw (count_full p input room (suc m) (full refl)) (nothing p (suc m) input room (inr (inr (full refl))))
     go false _ whole false _ fits c = rw (count-one p input room m (whole refl) (fits refl)) (one_more p m input room _ (whole refl) c)
 
 -- ---- what a block's contract says, fact by fact
@@ -177,7 +177,7 @@ counted p (suc m) input room =
 pub record Answered (p : Rule) (most : ℕ) (input d e : List ℕ) (count written : ℕ) : Type 0 where
   pub within : count ≤ most
   pub whole : count * p.size ≤ length input
-  pub lines : Wrote d 0 (linesFirst p count input) e written
+  pub lines : Wrote d 0 (lines_first p count input) e written
   pub room : written ≤ length d
   pub stop : (most ≤ count) ⊎ ((length input < count * p.size + p.size) ⊎ (length d < written + p.longest))
 
@@ -185,7 +185,7 @@ pub answered : {p : Rule} {most : ℕ} {input d e : List ℕ} {count written : �
 unfolding put
 answered {p} {most} {input} {d} {e} {count} {written} b kept =
     let c : Counted p most input (length d) count = rw b.many (counted p most input (length d)) in
-    let n : length e ≡ length (linesFirst p count input) + (length d - length (linesFirst p count input)) = ap length b.bytes ∙ simp (length-append, length-drop) (omega arith) in
+    let n : length e ≡ length (lines_first p count input) + (length d - length (lines_first p count input)) = ap length b.bytes ∙ simp (length-append, length-drop) (omega arith) in
     record {
       within = c.within;
       whole = c.whole;

@@ -10,30 +10,30 @@ use lib.ListN.{length, set, length-append, length-set}
 use borrow.Author.Tests.{lt-ltb, le-ltb, ltb-true, ltb-false}
 use Rattle.lines.specs.Put.{put}
 use Rattle.lines.specs.Scaffolding.{Wrote}
-use Rattle.lines.specs.Digit.{glyphOf, digits, places, decimal}
-use Rattle.lines.proofs.Puts.{put-none, put_last}
+use Rattle.lines.specs.Digit.{glyph_of, digits, places, decimal}
+use Rattle.lines.proofs.Puts.{put_none, put_last}
 
-pub glyph-low : (d : ℕ) → d < 10 → glyphOf d ≡ 48 + d
-unfolding glyphOf
-glyph-low d h = rw (lt-ltb d 10 h)
+pub glyph_low : (d : ℕ) → d < 10 → glyph_of d ≡ 48 + d
+unfolding glyph_of
+glyph_low d h = rw (lt-ltb d 10 h)
 
-pub glyph-high : (d : ℕ) → 10 ≤ d → glyphOf d ≡ 87 + d
-unfolding glyphOf
-glyph-high d h = rw (le-ltb d 10 h)
+pub glyph_high : (d : ℕ) → 10 ≤ d → glyph_of d ≡ 87 + d
+unfolding glyph_of
+glyph_high d h = rw (le-ltb d 10 h)
 
 -- a digit's glyph by arithmetic: (d + 6) / 16 is 0 below ten, then 1
-pub glyph-at : (d : ℕ) → d < 16 → 48 + d + (d + 6) / 16 * 39 ≡ glyphOf d
-glyph-at d h = go (ltb d 10) (ltb-true d 10) (ltb-false d 10)
+pub glyph_at : (d : ℕ) → d < 16 → 48 + d + (d + 6) / 16 * 39 ≡ glyph_of d
+glyph_at d h = go (ltb d 10) (ltb-true d 10) (ltb-false d 10)
   where
-    go : (t : Bool) → (t ≡ true → d < 10) → (t ≡ false → 10 ≤ d) → 48 + d + (d + 6) / 16 * 39 ≡ glyphOf d
-    go true low _ = omega (arith, low refl, glyph-low d (low refl))
-    go false _ high = omega (arith, high refl, glyph-high d (high refl))
+    go : (t : Bool) → (t ≡ true → d < 10) → (t ≡ false → 10 ≤ d) → 48 + d + (d + 6) / 16 * 39 ≡ glyph_of d
+    go true low _ = omega (arith, low refl, glyph_low d (low refl))
+    go false _ high = omega (arith, high refl, glyph_high d (high refl))
 
-pub digits-none : (base k n : ℕ) → k ≡ 0 → digits base k n ≡ []
+pub digits_none : (base k n : ℕ) → k ≡ 0 → digits base k n ≡ []
 unfolding digits
-digits-none base k n e = rw e
+digits_none base k n e = rw e
 
-pub digits_more : (base k n : ℕ) → 0 < k → digits base k n ≡ digits base (k - 1) (n / base) ++ (glyphOf (n % base) ∷ [])
+pub digits_more : (base k n : ℕ) → 0 < k → digits base k n ≡ digits base (k - 1) (n / base) ++ (glyph_of (n % base) ∷ [])
 unfolding digits
 digits_more base zero n h = absurd (omega arith)
 digits_more base (suc k) n h = let e : suc k - 1 ≡ k = omega arith in rw e
@@ -49,11 +49,11 @@ pub record Writing (d : List ℕ) (at base k n : ℕ) (e : List ℕ) (i left : �
   pub kept : length e ≡ length d
   pub right : put e at (digits base i left) ≡ put d at (digits base k n)
 
-pub write-start : (d : List ℕ) (at base k n : ℕ) → Writing d at base k n d k n
-write-start d at base k n = record { within = omega arith; kept = refl; right = refl }
+pub write_start : (d : List ℕ) (at base k n : ℕ) → Writing d at base k n d k n
+write_start d at base k n = record { within = omega arith; kept = refl; right = refl }
 
 pub write_step : {d : List ℕ} {at base k n : ℕ} {e : List ℕ} {i left : ℕ} (g : ℕ) → Writing d at base k n e i left → 0 < i → at + k ≤ length d
-    → g ≡ glyphOf (left % base) → Writing d at base k n (set e (at + (i - 1)) g) (i - 1) (left / base)
+    → g ≡ glyph_of (left % base) → Writing d at base k n (set e (at + (i - 1)) g) (i - 1) (left / base)
 write_step {d} {at} {base} {k} {n} {e} {i} {left} g w h l q =
     let xs = digits base (i - 1) (left / base) in
     let m : length (digits base (i - 1) (left / base)) ≡ i - 1 = digits-length base (i - 1) (left / base) in
@@ -69,9 +69,9 @@ write_step {d} {at} {base} {k} {n} {e} {i} {left} g w h l q =
           ∙ w.right;
     }
 
-pub write-end : {d : List ℕ} {at base k n : ℕ} {e : List ℕ} {i left : ℕ} → Writing d at base k n e i left → i ≤ 0 → Wrote d at (digits base k n) e (at + k)
-write-end {d} {at} {base} {k} {n} {e} {i} {left} w h = record {
-  bytes = sym (ap (put e at) (digits-none base i left (omega arith)) ∙ put-none e at) ∙ w.right;
+pub write_end : {d : List ℕ} {at base k n : ℕ} {e : List ℕ} {i left : ℕ} → Writing d at base k n e i left → i ≤ 0 → Wrote d at (digits base k n) e (at + k)
+write_end {d} {at} {base} {k} {n} {e} {i} {left} w h = record {
+  bytes = sym (ap (put e at) (digits_none base i left (omega arith)) ∙ put_none e at) ∙ w.right;
   next = ap (λ (j : ℕ). at + j) (sym (digits-length base k n));
 }
 
@@ -86,11 +86,11 @@ pub places-more : (k n : ℕ) → 10 ≤ n → places (suc k) n ≡ suc (places 
 unfolding places
 places-more k n h = rw (le-ltb n 10 h)
 
-pub places-most : (k j n : ℕ) → n < 10 ^ suc j → places k n ≤ suc j
+pub places_most : (k j n : ℕ) → n < 10 ^ suc j → places k n ≤ suc j
 unfolding places
-places-most zero j n h = omega arith
-places-most (suc k) zero n h = omega (arith, places-one (suc k) n (omega arith))
-places-most (suc k) (suc j) n h = go (ltb n 10) (places-most k j (n / 10) (omega (arith, pow-suc 10 (suc j))))
+places_most zero j n h = omega arith
+places_most (suc k) zero n h = omega (arith, places-one (suc k) n (omega arith))
+places_most (suc k) (suc j) n h = go (ltb n 10) (places_most k j (n / 10) (omega (arith, pow-suc 10 (suc j))))
   where
     go : (t : Bool) → places k (n / 10) ≤ suc j → cond t 1 (suc (places k (n / 10))) ≤ suc (suc j)
     go true tenth = omega arith
@@ -102,8 +102,8 @@ pub record Counting (n left k : ℕ) : Type 0 where
   pub enough : left < 10 ^ suc steps
   pub right : k + places steps left ≡ suc (places 19 n)
 
-pub count-start : (n : ℕ) → n < 10 ^ 20 → Counting n n 1
-count-start n h = record { steps = 19; enough = h; right = omega arith }
+pub count_start : (n : ℕ) → n < 10 ^ 20 → Counting n n 1
+count_start n h = record { steps = 19; enough = h; right = omega arith }
 
 pub count-step : {n left k : ℕ} → Counting n left k → 10 ≤ left → Counting n (left / 10) (k + 1)
 count-step {n} {left} {k} c h = go c.steps c.enough c.right
@@ -112,11 +112,11 @@ count-step {n} {left} {k} c h = go c.steps c.enough c.right
     go zero l e = absurd (omega arith)
     go (suc s) l e = record { steps = s; enough = omega (arith, pow-suc 10 (suc s)); right = omega (arith, e, places-more s left h) }
 
-pub count-end : {n left k : ℕ} → Counting n left k → left < 10 → k ≡ places 19 n
-count-end {n} {left} {k} c h = omega (arith, c.right, places-one c.steps left h)
+pub count_end : {n left k : ℕ} → Counting n left k → left < 10 → k ≡ places 19 n
+count_end {n} {left} {k} c h = omega (arith, c.right, places-one c.steps left h)
 
 pub count_small : {n left k : ℕ} → Counting n left k → n < 10 ^ 20 → k ≤ 21
-count_small {n} {left} {k} c h = omega (arith, c.right, places-most 19 19 n h)
+count_small {n} {left} {k} c h = omega (arith, c.right, places_most 19 19 n h)
 
 -- ---- in decimal
 
@@ -124,5 +124,5 @@ pub decimal-length : (n : ℕ) → length (decimal n) ≡ places 19 n
 unfolding decimal
 decimal-length n = digits-length 10 (places 19 n) n
 
-pub decimal-most : (j n : ℕ) → n < 10 ^ suc j → length (decimal n) ≤ suc j
-decimal-most j n h = omega (arith, decimal-length n, places-most 19 j n h)
+pub decimal_most : (j n : ℕ) → n < 10 ^ suc j → length (decimal n) ≤ suc j
+decimal_most j n h = omega (arith, decimal-length n, places_most 19 j n h)

@@ -20,8 +20,8 @@ filled b ys post held got h g =
     }
 
 -- how many bytes the block has
-pub filled-count : {held : ℕ} {b c : List ℕ} {r : ℕ} → held ≤ length b → (f : Filled held b c r) → held + length f.block ≡ r
-filled-count {held} {b} {c} {r} h f =
+pub filled_count : {held : ℕ} {b c : List ℕ} {r : ℕ} → held ≤ length b → (f : Filled held b c r) → held + length f.block ≡ r
+filled_count {held} {b} {c} {r} h f =
     let n : length (take held b) ≡ held = length-take-le held b h in
     let m : length (take r c) ≡ r = length-take-le r c f.within in
     omega (arith, simp length-append at (ap length f.bytes))

@@ -10,12 +10,12 @@ use lib.ListN.{length, take, drop, get_or, set, length-append, length-take, leng
 use lib.Seq.{take-suc, set_split, take-set-le, take_at, drop_at, length-take-le, drop-append-add, drop-drop}
 use borrow.Author.Tests.{le-leb}
 use lib.Dec.{leb}
-use Rattle.lines.specs.Put.{put, room_for, allInto}
+use Rattle.lines.specs.Put.{put, room_for, all_into}
 use Rattle.lines.specs.Scaffolding.{Wrote}
 
-pub put-none : (d : List ℕ) (at : ℕ) → put d at [] ≡ d
+pub put_none : (d : List ℕ) (at : ℕ) → put d at [] ≡ d
 unfolding put
-put-none d at = rw add-zero (take-append-drop at d)
+put_none d at = rw add-zero (take-append-drop at d)
 
 pub put_one : (d : List ℕ) (at b : ℕ) → at < length d → set d at b ≡ put d at (b ∷ [])
 unfolding put
@@ -63,17 +63,17 @@ then {d} {at} {xs} {e} {r} {ys} {f} {s} w h v = record {
 }
 
 pub wrote_none : (d : List ℕ) (at : ℕ) → Wrote d at [] d at
-wrote_none d at = record { bytes = sym (put-none d at); next = omega arith }
+wrote_none d at = record { bytes = sym (put_none d at); next = omega arith }
 
 pub wrote_one : (d : List ℕ) (at b : ℕ) → at < length d → Wrote d at (b ∷ []) (set d at b) (at + 1)
 wrote_one d at b h = record { bytes = put_one d at b h; next = refl }
 
-pub wrote-length : {d : List ℕ} {at : ℕ} {xs : List ℕ} {e : List ℕ} {r : ℕ} → Wrote d at xs e r → at + length xs ≤ length d → length e ≡ length d
-wrote-length {d} {at} {xs} {e} {r} w h = ap length w.bytes ∙ put-length d at xs h
+pub wrote_length : {d : List ℕ} {at : ℕ} {xs : List ℕ} {e : List ℕ} {r : ℕ} → Wrote d at xs e r → at + length xs ≤ length d → length e ≡ length d
+wrote_length {d} {at} {xs} {e} {r} w h = ap length w.bytes ∙ put-length d at xs h
 
-pub wrote-take : {d xs e : List ℕ} {r : ℕ} → Wrote d 0 xs e r → take r e ≡ xs
+pub wrote_take : {d xs e : List ℕ} {r : ℕ} → Wrote d 0 xs e r → take r e ≡ xs
 unfolding put
-wrote-take {d} {xs} {e} {r} w =
+wrote_take {d} {xs} {e} {r} w =
     let n : length xs ≡ r = omega (arith, w.next) in
     ap (take r) w.bytes ∙ take_at xs (drop (0 + length xs) d) r n
 
@@ -83,21 +83,21 @@ pub copy_step : {d : List ℕ} {at : ℕ} (src : List ℕ) (i : ℕ) {e : List �
     → Wrote d at (take i src) e (at + i) → b ≡ get_or src i 0 → Wrote d at (take (i + 1) src) (set e (at + i) b) (at + (i + 1))
 copy_step {d} {at} src i {e} {b} h l w g =
     let n : length (take i src) ≡ i = length-take-le i src (omega arith) in
-    let m : length e ≡ length d = wrote-length w (omega (arith, n)) in
+    let m : length e ≡ length d = wrote_length w (omega (arith, n)) in
     let k : at + i + 1 ≡ at + (i + 1) = omega arith in
     rw (add-one i, take-suc src i 0 h, ← g, ← add-one i, ← k) (then w (omega arith) (wrote_one e (at + i) b (omega arith)))
 
 -- ---- bytes put where they all have room
 
 module _ (xs d : List ℕ) (at : ℕ) where
-  pub all_left : leb (at + length xs) (length d) ≡ false → d ≡ allInto xs d at
-  unfolding allInto room_for
+  pub all_left : leb (at + length xs) (length d) ≡ false → d ≡ all_into xs d at
+  unfolding all_into room_for
   all_left h = rw h
 
-  pub all-put : leb (at + length xs) (length d) ≡ true → {e : List ℕ} → e ≡ put d at xs → e ≡ allInto xs d at
-  unfolding allInto room_for
-  all-put h q = rw h q
+  pub all_put : leb (at + length xs) (length d) ≡ true → {e : List ℕ} → e ≡ put d at xs → e ≡ all_into xs d at
+  unfolding all_into room_for
+  all_put h q = rw h q
 
   -- for a caller that saw to the room
-  pub all_there : at + length xs ≤ length d → allInto xs d at ≡ put d at xs
-  all_there h = sym (all-put (le-leb (at + length xs) (length d) h) refl)
+  pub all_there : at + length xs ≤ length d → all_into xs d at ≡ put d at xs
+  all_there h = sym (all_put (le-leb (at + length xs) (length d) h) refl)

@@ -15,18 +15,18 @@ use Rattle.answer.specs.Answer.{refused}
 use Rattle.lines.specs.Digit.{decimal}
 use Rattle.lines.specs.Line.{line_of, longest}
 use Rattle.lines.specs.Put.{room_for}
-use Rattle.lines.specs.Report.{cellLine, numberLine, joined, cellLines, numberLines, reportOf}
-use Rattle.lines.specs.Report.{held, cell_at, tallyReport, reportMost, reportInto, reportEnd}
+use Rattle.lines.specs.Report.{cell_line, number_line, joined, cell_lines, number_lines, report_of}
+use Rattle.lines.specs.Report.{held, cell_at, tally_report, report_most, report_into, report_end}
 use Rattle.lines.specs.Scaffolding.{Wrote}
-use Rattle.lines.proofs.Digits.{decimal-most}
+use Rattle.lines.proofs.Digits.{decimal_most}
 use Rattle.lines.proofs.Puts.{then, wrote_none}
-use Rattle.lines.proofs.Shows.{line-fits}
+use Rattle.lines.proofs.Shows.{line_fits}
 
 -- ---- parts one after the other
 
-pub joined-none : (f : ℕ → List ℕ) → joined 0 f ≡ []
+pub joined_none : (f : ℕ → List ℕ) → joined 0 f ≡ []
 unfolding joined
-joined-none f = refl
+joined_none f = refl
 
 pub joined-more : (n : ℕ) (f : ℕ → List ℕ) → joined (suc n) f ≡ joined n f ++ f n
 unfolding joined
@@ -37,15 +37,15 @@ unfolding joined
 joined_same zero f g h = refl
 joined_same (suc n) f g h = ap₂ (λ (x y : List ℕ). x ++ y) (joined_same n f g (λ i l. h i (omega arith))) (h n (omega arith))
 
-pub joined-most : (n m : ℕ) (f : ℕ → List ℕ) → ((i : ℕ) → i < n → length (f i) ≤ m) → length (joined n f) ≤ n * m
+pub joined_most : (n m : ℕ) (f : ℕ → List ℕ) → ((i : ℕ) → i < n → length (f i) ≤ m) → length (joined n f) ≤ n * m
 unfolding joined
-joined-most zero m f h = omega arith
-joined-most (suc n) m f h =
-    rw length-append (omega (arith, joined-most n m f (λ i l. h i (omega arith)), h n (omega arith), suc-mul n m))
+joined_most zero m f h = omega arith
+joined_most (suc n) m f h =
+    rw length-append (omega (arith, joined_most n m f (λ i l. h i (omega arith)), h n (omega arith), suc-mul n m))
 
-either-most : (t : Bool) (m : ℕ) (xs ys : List ℕ) → length xs ≤ m → length ys ≤ m → length (cond t xs ys) ≤ m
-either-most true m xs ys h k = h
-either-most false m xs ys h k = k
+either_most : (t : Bool) (m : ℕ) (xs ys : List ℕ) → length xs ≤ m → length ys ≤ m → length (cond t xs ys) ≤ m
+either_most true m xs ys h k = h
+either_most false m xs ys h k = k
 
 -- A loop that puts the parts from a place on: i of them are put, up to the place `next`, and none is longer than m.
 pub record Joining (d : List ℕ) (at m n : ℕ) (f : ℕ → List ℕ) (e : List ℕ) (i next : ℕ) : Type 0 where
@@ -54,8 +54,8 @@ pub record Joining (d : List ℕ) (at m n : ℕ) (f : ℕ → List ℕ) (e : Lis
   pub lines : Wrote d at (joined i f) e next
   pub room : next ≤ at + i * m
 
-pub join-start : (d : List ℕ) (at m n : ℕ) (f : ℕ → List ℕ) → Joining d at m n f d 0 at
-join-start d at m n f = record { within = omega arith; kept = refl; lines = rw joined-none (wrote_none d at); room = omega arith }
+pub join_start : (d : List ℕ) (at m n : ℕ) (f : ℕ → List ℕ) → Joining d at m n f d 0 at
+join_start d at m n f = record { within = omega arith; kept = refl; lines = rw joined_none (wrote_none d at); room = omega arith }
 
 pub join_step : {d : List ℕ} {at m n : ℕ} {f : ℕ → List ℕ} {e : List ℕ} {i next : ℕ} {xs e₁ : List ℕ} {r : ℕ}
     → Joining d at m n f e i next → i < n → at ≤ length d → xs ≡ f i → Wrote e next xs e₁ r → r ≤ next + m → length e₁ ≡ length e
@@ -67,35 +67,35 @@ join_step {d} {at} {m} {n} {f} {e} {i} {next} {xs} {e₁} {r} g lt h q w small k
   room = omega (arith, g.room, suc-mul i m);
 }
 
-pub join-end : {d : List ℕ} {at m n : ℕ} {f : ℕ → List ℕ} {e : List ℕ} {i next : ℕ} → Joining d at m n f e i next → n ≤ i → Wrote d at (joined n f) e next
-join-end {d} {at} {m} {n} {f} {e} {i} {next} g h = let q : i ≡ n = omega (arith, g.within) in rw q at g.lines
+pub join_end : {d : List ℕ} {at m n : ℕ} {f : ℕ → List ℕ} {e : List ℕ} {i next : ℕ} → Joining d at m n f e i next → n ≤ i → Wrote d at (joined n f) e next
+join_end {d} {at} {m} {n} {f} {e} {i} {next} g h = let q : i ≡ n = omega (arith, g.within) in rw q at g.lines
 
 -- ---- the line of a cell
 
-pub cell-most : (a i n : ℕ) → a < 10 → i < 100 → n < 2 ^ 32 → length (decimal a) + length (decimal i) + length (decimal n) + 8 ≤ 21
-cell-most a i n h k l = omega (arith, decimal-most 0 a (omega arith), decimal-most 1 i (omega arith), decimal-most 9 n (omega arith))
+pub cell_most : (a i n : ℕ) → a < 10 → i < 100 → n < 2 ^ 32 → length (decimal a) + length (decimal i) + length (decimal n) + 8 ≤ 21
+cell_most a i n h k l = omega (arith, decimal_most 0 a (omega arith), decimal_most 1 i (omega arith), decimal_most 9 n (omega arith))
 
-cell-fits : (a i n : ℕ) → a < 10 → i < 100 → n < 2 ^ 32 → length (cellLine a i n) ≤ 21
-unfolding cellLine
-cell-fits a i n h k l = simp length-append (omega (arith, cell-most a i n h k l))
+cell_fits : (a i n : ℕ) → a < 10 → i < 100 → n < 2 ^ 32 → length (cell_line a i n) ≤ 21
+unfolding cell_line
+cell_fits a i n h k l = simp length-append (omega (arith, cell_most a i n h k l))
 
 -- ---- the line of a number
 
 module _ (k n : ℕ) where
-  pub number-none : n ≡ 0 → numberLine k n ≡ []
-  unfolding numberLine
-  number-none h = rw (eq-eqb n 0 h)
+  pub number_none : n ≡ 0 → number_line k n ≡ []
+  unfolding number_line
+  number_none h = rw (eq-eqb n 0 h)
 
-  pub number-met : (n ≡ 0 → ⊥) → numberLine k n ≡ (110 ∷ 111 ∷ 32 ∷ []) ++ decimal k ++ (32 ∷ []) ++ decimal n ++ (10 ∷ [])
-  unfolding numberLine
-  number-met h = rw (ne_eqb n 0 h)
+  pub number_met : (n ≡ 0 → ⊥) → number_line k n ≡ (110 ∷ 111 ∷ 32 ∷ []) ++ decimal k ++ (32 ∷ []) ++ decimal n ++ (10 ∷ [])
+  unfolding number_line
+  number_met h = rw (ne_eqb n 0 h)
 
-  pub number-most : k < 100 → n < 2 ^ 32 → length (decimal k) + length (decimal n) + 5 ≤ 17
-  number-most h l = omega (arith, decimal-most 1 k (omega arith), decimal-most 9 n (omega arith))
+  pub number_most : k < 100 → n < 2 ^ 32 → length (decimal k) + length (decimal n) + 5 ≤ 17
+  number_most h l = omega (arith, decimal_most 1 k (omega arith), decimal_most 9 n (omega arith))
 
-  number_fits : k < 100 → n < 2 ^ 32 → length (numberLine k n) ≤ 17
-  unfolding numberLine
-  number_fits h l = either-most (eqb n 0) 17 _ _ (omega arith) (simp length-append (omega (arith, number-most h l)))
+  number_fits : k < 100 → n < 2 ^ 32 → length (number_line k n) ≤ 17
+  unfolding number_line
+  number_fits h l = either_most (eqb n 0) 17 _ _ (omega arith) (simp length-append (omega (arith, number_most h l)))
 
 -- ---- counts of nodes that are held at 64
 
@@ -108,9 +108,9 @@ unfolding held
 held_at counts a = get_or-map (min 64) counts a 0
 
 -- the cells of an axis among the first `axes`
-pub held-cells : (axes : ℕ) (counts : List ℕ) (a many : ℕ) (f : ℕ → List ℕ) → a < axes → many ≡ min 64 (get_or counts a 0) - 1
+pub held_cells : (axes : ℕ) (counts : List ℕ) (a many : ℕ) (f : ℕ → List ℕ) → a < axes → many ≡ min 64 (get_or counts a 0) - 1
     → joined many f ≡ joined (get_or (held (take axes counts)) a 0 - 1) f
-held-cells axes counts a many f h e = rw (held_at (take axes counts) a, get_or-take axes counts a 0 h, e)
+held_cells axes counts a many f h e = rw (held_at (take axes counts) a, get_or-take axes counts a 0 h, e)
 
 -- the counts of a table are as they are
 pub held_same : (counts : List ℕ) → ((a : ℕ) → a < length counts → get_or counts a 0 ≤ 64) → held counts ≡ counts
@@ -124,65 +124,65 @@ held_same (n ∷ ns) h = ap₂ (λ (m : ℕ) (ms : List ℕ). m ∷ ms) first (h
 -- ---- the laws of a report
 
 -- THE LAW: a report goes by the counts of its cells and of the numbers from 1 to 20, and by nothing else
-pub report-same : (counts : List ℕ) (cell other : ℕ → ℕ → ℕ) (number another : ℕ → ℕ) (past last : Bool)
+pub report_same : (counts : List ℕ) (cell other : ℕ → ℕ → ℕ) (number another : ℕ → ℕ) (past last : Bool)
     → ((a i : ℕ) → a < length counts → i < get_or counts a 0 - 1 → cell a i ≡ other a i)
     → ((k : ℕ) → 1 ≤ k → k ≤ 20 → number k ≡ another k) → past ≡ last
-    → reportOf counts cell number past ≡ reportOf counts other another last
-unfolding reportOf
-report-same counts cell other number another past last h k e = rw (cells, numbers, e)
+    → report_of counts cell number past ≡ report_of counts other another last
+unfolding report_of
+report_same counts cell other number another past last h k e = rw (cells, numbers, e)
   where
-    cells : cellLines counts cell ≡ cellLines counts other
-    cells = joined_same (length counts) _ _ (λ a l. joined_same (get_or counts a 0 - 1) _ _ (λ i m. ap (cellLine a i) (h a i l m)))
+    cells : cell_lines counts cell ≡ cell_lines counts other
+    cells = joined_same (length counts) _ _ (λ a l. joined_same (get_or counts a 0 - 1) _ _ (λ i m. ap (cell_line a i) (h a i l m)))
 
-    numbers : numberLines number ≡ numberLines another
-    numbers = joined_same 20 _ _ (λ j l. ap (numberLine (suc j)) (k (suc j) (omega arith) (omega arith)))
+    numbers : number_lines number ≡ number_lines another
+    numbers = joined_same 20 _ _ (λ j l. ap (number_line (suc j)) (k (suc j) (omega arith) (omega arith)))
 
 -- of a tally whose table has no axis of more than 64 nodes
-pub tally-report : (axes : ℕ) (counts cells numbers : List ℕ) (past : Bool)
+pub tally_report_lem : (axes : ℕ) (counts cells numbers : List ℕ) (past : Bool)
     → ((a : ℕ) → a < length (take axes counts) → get_or (take axes counts) a 0 ≤ 64)
-    → tallyReport axes counts cells numbers past ≡ reportOf (take axes counts) (cell_at cells) (λ k. get_or numbers k 0) past
-unfolding tallyReport
-tally-report axes counts cells numbers past h =
-    ap (λ (cs : List ℕ). reportOf cs (cell_at cells) (λ k. get_or numbers k 0) past) (held_same (take axes counts) h)
+    → tally_report axes counts cells numbers past ≡ report_of (take axes counts) (cell_at cells) (λ k. get_or numbers k 0) past
+unfolding tally_report
+tally_report_lem axes counts cells numbers past h =
+    ap (λ (cs : List ℕ). report_of cs (cell_at cells) (λ k. get_or numbers k 0) past) (held_same (take axes counts) h)
 
 past_fits : (past : Bool) → length (cond past (line_of (refused (refusal 17 0 0))) []) ≤ longest
 unfolding refused refusal
-past_fits past = either-most past longest _ _ (line-fits (refused (refusal 17 0 0)) (omega arith) (omega arith) (omega arith)) (omega arith)
+past_fits past = either_most past longest _ _ (line_fits (refused (refusal 17 0 0)) (omega arith) (omega arith) (omega arith)) (omega arith)
 
 -- of at most four axes, and of counts that 32 bits hold, no report is longer than is said
-pub report-fits : (counts : List ℕ) (cell : ℕ → ℕ → ℕ) (number : ℕ → ℕ) (past : Bool) → length counts ≤ 4
-    → ((a i : ℕ) → cell a i < 2 ^ 32) → ((k : ℕ) → number k < 2 ^ 32) → length (reportOf (held counts) cell number past) ≤ reportMost
-unfolding reportOf
-report-fits counts cell number past four h k = simp length-append (omega (arith, held-length counts, cells, numbers, past_fits past))
+pub report_fits : (counts : List ℕ) (cell : ℕ → ℕ → ℕ) (number : ℕ → ℕ) (past : Bool) → length counts ≤ 4
+    → ((a i : ℕ) → cell a i < 2 ^ 32) → ((k : ℕ) → number k < 2 ^ 32) → length (report_of (held counts) cell number past) ≤ report_most
+unfolding report_of
+report_fits counts cell number past four h k = simp length-append (omega (arith, held-length counts, cells, numbers, past_fits past))
   where
-    axis : (a : ℕ) → a < length (held counts) → length (joined (get_or (held counts) a 0 - 1) (λ i. cellLine a i (cell a i))) ≤ 1323
+    axis : (a : ℕ) → a < length (held counts) → length (joined (get_or (held counts) a 0 - 1) (λ i. cell_line a i (cell a i))) ≤ 1323
     axis a l =
         let n : get_or (held counts) a 0 ≤ 64 = omega (arith, held_at counts a) in
         let m : a < 4 = omega (arith, held-length counts) in
-        let s : length (joined (get_or (held counts) a 0 - 1) (λ i. cellLine a i (cell a i))) ≤ (get_or (held counts) a 0 - 1) * 21 =
-        joined-most (get_or (held counts) a 0 - 1) 21 _ (λ i j. cell-fits a i (cell a i) (omega arith) (omega arith) (h a i)) in
+        let s : length (joined (get_or (held counts) a 0 - 1) (λ i. cell_line a i (cell a i))) ≤ (get_or (held counts) a 0 - 1) * 21 =
+        joined_most (get_or (held counts) a 0 - 1) 21 _ (λ i j. cell_fits a i (cell a i) (omega arith) (omega arith) (h a i)) in
         omega arith
 
-    cells : length (cellLines (held counts) cell) ≤ length (held counts) * 1323
-    cells = joined-most (length (held counts)) 1323 _ axis
+    cells : length (cell_lines (held counts) cell) ≤ length (held counts) * 1323
+    cells = joined_most (length (held counts)) 1323 _ axis
 
-    numbers : length (numberLines number) ≤ 20 * 17
-    numbers = joined-most 20 17 _ (λ j l. number_fits (suc j) (number (suc j)) (omega arith) (k (suc j)))
+    numbers : length (number_lines number) ≤ 20 * 17
+    numbers = joined_most 20 17 _ (λ j l. number_fits (suc j) (number (suc j)) (omega arith) (k (suc j)))
 
 -- ---- the report put into a buffer
 
 module _ (report d : List ℕ) where
-  pub report-left : length d < reportMost → ((0 ≡ reportEnd report d) × (d ≡ reportInto report d)) × (0 ≤ length d)
-  unfolding reportEnd reportInto room_for
-  report-left h = let t = lt-leb (0 + reportMost) (length d) (omega arith) in ((rw t, rw t), omega arith)
+  pub report_left : length d < report_most → ((0 ≡ report_end report d) × (d ≡ report_into report d)) × (0 ≤ length d)
+  unfolding report_end report_into room_for
+  report_left h = let t = lt-leb (0 + report_most) (length d) (omega arith) in ((rw t, rw t), omega arith)
 
   module _ {e : List ℕ} {r : ℕ} where
-    pub report-put : reportMost ≤ length d → Wrote d 0 report e r → r ≤ reportMost
-        → ((r ≡ reportEnd report d) × (e ≡ reportInto report d)) × (r ≤ length d)
-    unfolding reportEnd reportInto room_for
-    report-put h w l = let t = le-leb (0 + reportMost) (length d) (omega arith) in ((rw t (omega (arith, w.next)), rw t w.bytes), omega arith)
+    pub report_put : report_most ≤ length d → Wrote d 0 report e r → r ≤ report_most
+        → ((r ≡ report_end report d) × (e ≡ report_into report d)) × (r ≤ length d)
+    unfolding report_end report_into room_for
+    report_put h w l = let t = le-leb (0 + report_most) (length d) (omega arith) in ((rw t (omega (arith, w.next)), rw t w.bytes), omega arith)
 
     -- for a caller that saw to the room
-    pub report-wrote : reportMost ≤ length d → r ≡ reportEnd report d → e ≡ reportInto report d → Wrote d 0 report e r
-    unfolding reportEnd reportInto room_for
-    report-wrote h p q = let t = le-leb (0 + reportMost) (length d) (omega arith) in record { bytes = rw t at q; next = (rw t at p) ∙ omega arith }
+    pub report_wrote : report_most ≤ length d → r ≡ report_end report d → e ≡ report_into report d → Wrote d 0 report e r
+    unfolding report_end report_into room_for
+    report_wrote h p q = let t = le-leb (0 + report_most) (length d) (omega arith) in record { bytes = rw t at q; next = (rw t at p) ∙ omega arith }

@@ -8,39 +8,39 @@ use native.Mathlib.Omega.{arith}
 use lib.ListN.{length, drop, length-append, length-drop}
 use lib.Seq.{take-append-le, drop-append-le}
 use borrow.Author.Tests.{lt-ltb, le-ltb}
-use Rattle.lines.specs.Stream.{Rule, linesFirst, lines_of, cutLine}
+use Rattle.lines.specs.Stream.{Rule, lines_first, lines_of, cut_line}
 use Rattle.lines.specs.Scaffolding.{Turned}
 use Rattle.lines.proofs.Blocks.{drop-size}
 
 module _ (p : Rule) where
-  rest-fits : (k : ℕ) (input : List ℕ) → suc k * p.size ≤ length input → k * p.size ≤ length (drop p.size input)
-  rest-fits k input h = rw length-drop (omega (arith, suc-mul k p.size))
+  rest_fits : (k : ℕ) (input : List ℕ) → suc k * p.size ≤ length input → k * p.size ≤ length (drop p.size input)
+  rest_fits k input h = rw length-drop (omega (arith, suc-mul k p.size))
 
   -- bytes after the first k records do not count
-  pub lines-front : (k : ℕ) (held more : List ℕ) → k * p.size ≤ length held → linesFirst p k (held ++ more) ≡ linesFirst p k held
-  unfolding linesFirst
-  lines-front zero held more h = refl
-  lines-front (suc k) held more h =
+  pub lines_front : (k : ℕ) (held more : List ℕ) → k * p.size ≤ length held → lines_first p k (held ++ more) ≡ lines_first p k held
+  unfolding lines_first
+  lines_front zero held more h = refl
+  lines_front (suc k) held more h =
       let a : p.size ≤ length held = omega (arith, suc-mul k p.size) in
-      rw (take-append-le p.size held more a, drop-append-le p.size held more a, lines-front k (drop p.size held) more (rest-fits k held h))
+      rw (take-append-le p.size held more a, drop-append-le p.size held more a, lines_front k (drop p.size held) more (rest_fits k held h))
 
   -- the first k records, and the rest
-  pub lines-of-add : (k m : ℕ) (input : List ℕ) → k * p.size ≤ length input → lines_of p (k + m) input ≡ linesFirst p k input ++ lines_of p m (drop (k * p.size) input)
-  unfolding linesFirst lines_of
-  lines-of-add zero m input h = rw (zero-add, zero-mul)
-  lines-of-add (suc k) m input h =
+  pub lines_of-add : (k m : ℕ) (input : List ℕ) → k * p.size ≤ length input → lines_of p (k + m) input ≡ lines_first p k input ++ lines_of p m (drop (k * p.size) input)
+  unfolding lines_first lines_of
+  lines_of-add zero m input h = rw (zero-add, zero-mul)
+  lines_of-add (suc k) m input h =
       let a : p.size ≤ length input = omega (arith, suc-mul k p.size) in
-      rw (suc-add, le-ltb (length input) p.size a, lines-of-add k m (drop p.size input) (rest-fits k input h), drop-size p k input, append_assoc)
+      rw (suc-add, le-ltb (length input) p.size a, lines_of-add k m (drop p.size input) (rest_fits k input h), drop-size p k input, append_assoc)
 
   -- a turn that answers k records of what is held
-  pub turned : (most k : ℕ) (held : List ℕ) → k ≤ most → k * p.size ≤ length held → Turned p most held (linesFirst p k held) (most - k) (drop (k * p.size) held)
+  pub turned : (most k : ℕ) (held : List ℕ) → k ≤ most → k * p.size ≤ length held → Turned p most held (lines_first p k held) (most - k) (drop (k * p.size) held)
   turned most k held l h = record {
     right = λ more.
         let e : k + (most - k) ≡ most = omega arith in
         let b : k * p.size ≤ length (held ++ more) = rw length-append (omega arith) in
         ap (λ (m : ℕ). lines_of p m (held ++ more)) (sym e)
-        ∙ lines-of-add k (most - k) (held ++ more) b
-        ∙ rw (lines-front k held more h, drop-append-le (k * p.size) held more h);
+        ∙ lines_of-add k (most - k) (held ++ more) b
+        ∙ rw (lines_front k held more h, drop-append-le (k * p.size) held more h);
   }
 
 -- The bytes `held`, then blocks as they come, each put after what is held: what is printed at each turn and, at the input's end, of what is left.
@@ -55,14 +55,14 @@ joined [] = []
 joined (b ∷ bs) = b ++ joined bs
 
 -- whatever is held and whatever blocks come, what is printed is what is printed of them all
-pub run-law : {p : Rule} {most : ℕ} {held : List ℕ} {bs : List (List ℕ)} {out : List ℕ} → Run p most held bs out → out ≡ lines_of p most (held ++ joined bs)
-run-law {p} {most} {held} ended = ap (lines_of p most) (sym (append-nil held))
-run-law {p} {most} {held} (block {b = b} {xs = xs} {bs = bs} t r) =
-    ap (λ (l : List ℕ). xs ++ l) (run-law r) ∙ sym (t.right (joined bs)) ∙ ap (lines_of p most) (append_assoc held b (joined bs))
+pub run_law : {p : Rule} {most : ℕ} {held : List ℕ} {bs : List (List ℕ)} {out : List ℕ} → Run p most held bs out → out ≡ lines_of p most (held ++ joined bs)
+run_law {p} {most} {held} ended = ap (lines_of p most) (sym (append-nil held))
+run_law {p} {most} {held} (block {b = b} {xs = xs} {bs = bs} t r) =
+    ap (λ (l : List ℕ). xs ++ l) (run_law r) ∙ sym (t.right (joined bs)) ∙ ap (lines_of p most) (append_assoc held b (joined bs))
 
 -- THE LAW: whatever the blocks are, what is printed is what is printed of the whole input
-pub blocks-law : {p : Rule} {most : ℕ} {blocks : List (List ℕ)} {out : List ℕ} → Run p most [] blocks out → out ≡ lines_of p most (joined blocks)
-blocks-law r = run-law r
+pub blocks_law : {p : Rule} {most : ℕ} {blocks : List (List ℕ)} {out : List ℕ} → Run p most [] blocks out → out ≡ lines_of p most (joined blocks)
+blocks_law r = run_law r
 
 -- ---- the input's end
 
@@ -71,16 +71,16 @@ module _ (p : Rule) where
   unfolding lines_of
   cut_off left rest e = rw e
 
-  pub cut-none : (left : ℕ) (rest : List ℕ) → (left ≡ 0) ⊎ (length rest < p.size) → length rest ≡ 0 → [] ≡ lines_of p left rest
-  unfolding lines_of cutLine
-  cut-none zero rest s e = refl
-  cut-none (suc m) [] (inl z) e = absurd (omega arith)
-  cut-none (suc m) [] (inr l) e = rw (lt-ltb 0 p.size l)
-  cut-none (suc m) (b ∷ bs) s e = absurd (omega arith)
+  pub cut_none : (left : ℕ) (rest : List ℕ) → (left ≡ 0) ⊎ (length rest < p.size) → length rest ≡ 0 → [] ≡ lines_of p left rest
+  unfolding lines_of cut_line
+  cut_none zero rest s e = refl
+  cut_none (suc m) [] (inl z) e = absurd (omega arith)
+  cut_none (suc m) [] (inr l) e = rw (lt-ltb 0 p.size l)
+  cut_none (suc m) (b ∷ bs) s e = absurd (omega arith)
 
-  pub cut-some : (left : ℕ) (rest : List ℕ) → (left ≡ 0) ⊎ (length rest < p.size) → (left ≡ 0 → ⊥) → (length rest ≡ 0 → ⊥) → p.cut ≡ lines_of p left rest
-  unfolding lines_of cutLine
-  cut-some zero rest s u v = absurd (u refl)
-  cut-some (suc m) [] s u v = absurd (v refl)
-  cut-some (suc m) (b ∷ bs) (inl z) u v = absurd (u z)
-  cut-some (suc m) (b ∷ bs) (inr l) u v = rw (lt-ltb (length (b ∷ bs)) p.size l)
+  pub cut_some : (left : ℕ) (rest : List ℕ) → (left ≡ 0) ⊎ (length rest < p.size) → (left ≡ 0 → ⊥) → (length rest ≡ 0 → ⊥) → p.cut ≡ lines_of p left rest
+  unfolding lines_of cut_line
+  cut_some zero rest s u v = absurd (u refl)
+  cut_some (suc m) [] s u v = absurd (v refl)
+  cut_some (suc m) (b ∷ bs) (inl z) u v = absurd (u z)
+  cut_some (suc m) (b ∷ bs) (inr l) u v = rw (lt-ltb (length (b ∷ bs)) p.size l)

@@ -10,57 +10,57 @@ use lib.ListN.{length, length-append}
 use borrow.Author.Tests.{le-leb, eq-eqb, ne_eqb}
 use Rattle.answer.specs.declared.Answer.{Answer}
 use Rattle.lines.specs.Digit.{decimal}
-use Rattle.lines.specs.Line.{okLine, noLine, line_of, longest}
-use Rattle.lines.specs.Put.{room_for, lineInto, lineEnd}
+use Rattle.lines.specs.Line.{ok_line, no_line, line_of, longest}
+use Rattle.lines.specs.Put.{room_for, line_into, line_end}
 use Rattle.lines.specs.Scaffolding.{Wrote}
-use Rattle.lines.proofs.Digits.{digits-length, decimal-most}
+use Rattle.lines.proofs.Digits.{digits-length, decimal_most}
 
 module _ (a : Answer) where
-  pub line_ok : a.number ≡ 0 → line_of a ≡ okLine a.value
+  pub line_ok : a.number ≡ 0 → line_of a ≡ ok_line a.value
   unfolding line_of
   line_ok h = rw (eq-eqb a.number 0 h)
 
-  pub line-no : (a.number ≡ 0 → ⊥) → line_of a ≡ noLine a.number a.axis a.place
+  pub line_no : (a.number ≡ 0 → ⊥) → line_of a ≡ no_line a.number a.axis a.place
   unfolding line_of
-  line-no h = rw (ne_eqb a.number 0 h)
+  line_no h = rw (ne_eqb a.number 0 h)
 
 -- ---- how long a line is
 
-pub ok-length : (value : Float) → length (okLine value) ≡ 20
-unfolding okLine
-ok-length value = simp (length-append, digits-length)
+pub ok_length : (value : Float) → length (ok_line value) ≡ 20
+unfolding ok_line
+ok_length value = simp (length-append, digits-length)
 
-pub no_length : (number axis place : ℕ) → length (noLine number axis place) ≡ length (decimal number) + length (decimal axis) + length (decimal place) + 6
-unfolding noLine
+pub no_length : (number axis place : ℕ) → length (no_line number axis place) ≡ length (decimal number) + length (decimal axis) + length (decimal place) + 6
+unfolding no_line
 no_length number axis place = simp length-append (omega arith)
 
-pub no-fits : (number axis place : ℕ) → number < 2 ^ 32 → axis < 2 ^ 64 → place < 2 ^ 64 → length (noLine number axis place) ≤ longest
-no-fits number axis place l m n =
-    omega (arith, no_length number axis place, decimal-most 9 number (omega arith), decimal-most 19 axis (omega arith), decimal-most 19 place (omega arith))
+pub no_fits : (number axis place : ℕ) → number < 2 ^ 32 → axis < 2 ^ 64 → place < 2 ^ 64 → length (no_line number axis place) ≤ longest
+no_fits number axis place l m n =
+    omega (arith, no_length number axis place, decimal_most 9 number (omega arith), decimal_most 19 axis (omega arith), decimal_most 19 place (omega arith))
 
 -- every line of an answer that the code can hold has room where a longest one has
-pub line-fits : (a : Answer) → a.number < 2 ^ 32 → a.axis < 2 ^ 64 → a.place < 2 ^ 64 → length (line_of a) ≤ longest
+pub line_fits : (a : Answer) → a.number < 2 ^ 32 → a.axis < 2 ^ 64 → a.place < 2 ^ 64 → length (line_of a) ≤ longest
 unfolding line_of
-line-fits a l m n = go (eqb a.number 0)
+line_fits a l m n = go (eqb a.number 0)
   where
-    go : (t : Bool) → length (cond t (okLine a.value) (noLine a.number a.axis a.place)) ≤ longest
-    go true = omega (arith, ok-length a.value)
-    go false = no-fits a.number a.axis a.place l m n
+    go : (t : Bool) → length (cond t (ok_line a.value) (no_line a.number a.axis a.place)) ≤ longest
+    go true = omega (arith, ok_length a.value)
+    go false = no_fits a.number a.axis a.place l m n
 
 -- ---- the line put into a buffer
 
 module _ (a : Answer) (d : List ℕ) (at : ℕ) where
-  pub line-left : leb (at + longest) (length d) ≡ false → ((at ≡ lineEnd a d at) × (d ≡ lineInto a d at)) × (at ≤ at + longest)
-  unfolding lineEnd lineInto room_for
-  line-left h = ((rw h, rw h), omega arith)
+  pub line_left : leb (at + longest) (length d) ≡ false → ((at ≡ line_end a d at) × (d ≡ line_into a d at)) × (at ≤ at + longest)
+  unfolding line_end line_into room_for
+  line_left h = ((rw h, rw h), omega arith)
 
   module _ {e : List ℕ} {r : ℕ} where
     pub line-put : leb (at + longest) (length d) ≡ true → length (line_of a) ≤ longest → Wrote d at (line_of a) e r
-        → ((r ≡ lineEnd a d at) × (e ≡ lineInto a d at)) × (r ≤ at + longest)
-    unfolding lineEnd lineInto room_for
+        → ((r ≡ line_end a d at) × (e ≡ line_into a d at)) × (r ≤ at + longest)
+    unfolding line_end line_into room_for
     line-put h l w = ((rw h w.next, rw h w.bytes), omega (arith, w.next))
 
     -- for a caller that saw to the room
-    pub line_wrote : at + longest ≤ length d → r ≡ lineEnd a d at → e ≡ lineInto a d at → Wrote d at (line_of a) e r
-    unfolding lineEnd lineInto room_for
+    pub line_wrote : at + longest ≤ length d → r ≡ line_end a d at → e ≡ line_into a d at → Wrote d at (line_of a) e r
+    unfolding line_end line_into room_for
     line_wrote h p q = let t = le-leb (at + longest) (length d) h in record { bytes = rw t at q; next = rw t at p }

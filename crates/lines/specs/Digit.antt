@@ -2,13 +2,13 @@
 use Rattle.std.specs.Prelude.{cond, List, [], ◌∷◌, ◌++◌, ℕ, zero, suc, ◌+◌, ◌/◌, ◌%◌, ltb}
 
 -- "lower-case hex digits": a digit below 16, `0` to `9`, then `a` to `f`
-unfoldable pub glyphOf : ℕ → ℕ
-glyphOf d = cond (ltb d 10) (48 + d) (87 + d)
+unfoldable pub glyph_of : ℕ → ℕ
+glyph_of d = cond (ltb d 10) (48 + d) (87 + d)
 
 -- the last k digits of n in a base, the highest first
 unfoldable pub digits : ℕ → ℕ → ℕ → List ℕ
 digits base zero n = []
-digits base (suc k) n = digits base k (n / base) ++ (glyphOf (n % base) ∷ [])
+digits base (suc k) n = digits base k (n / base) ++ (glyph_of (n % base) ∷ [])
 
 -- how many decimal digits n has, up to k + 1: one below ten, else one more than a tenth of it has
 unfoldable pub places : ℕ → ℕ → ℕ

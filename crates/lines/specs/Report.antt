@@ -7,13 +7,13 @@ use Rattle.lines.specs.Line.{line_of}
 use Rattle.lines.specs.Put.{put, room_for}
 
 -- "`cell` axis, index, count", in decimal, with a blank between two
-unfoldable pub cellLine : ℕ → ℕ → ℕ → List ℕ
-cellLine axis index count =
+unfoldable pub cell_line : ℕ → ℕ → ℕ → List ℕ
+cell_line axis index count =
     (99 ∷ 101 ∷ 108 ∷ 108 ∷ 32 ∷ []) ++ decimal axis ++ (32 ∷ []) ++ decimal index ++ (32 ∷ []) ++ decimal count ++ (10 ∷ [])
 
 -- "`no` number, count for each number met": nothing of a number that was not met
-unfoldable pub numberLine : ℕ → ℕ → List ℕ
-numberLine number count = cond (eqb count 0) [] ((110 ∷ 111 ∷ 32 ∷ []) ++ decimal number ++ (32 ∷ []) ++ decimal count ++ (10 ∷ []))
+unfoldable pub number_line : ℕ → ℕ → List ℕ
+number_line number count = cond (eqb count 0) [] ((110 ∷ 111 ∷ 32 ∷ []) ++ decimal number ++ (32 ∷ []) ++ decimal count ++ (10 ∷ []))
 
 -- f 0 ++ .. ++ f (n - 1)
 unfoldable pub joined : ℕ → (ℕ → List ℕ) → List ℕ
@@ -21,17 +21,17 @@ joined zero f = []
 joined (suc n) f = joined n f ++ f n
 
 -- "for every cell": an axis of n nodes has n - 1 of them; axes and cells ascending
-abbrev pub cellLines : List ℕ → (ℕ → ℕ → ℕ) → List ℕ
-cellLines counts cell = joined (length counts) (λ a. joined (get_or counts a 0 - 1) (λ i. cellLine a i (cell a i)))
+abbrev pub cell_lines : List ℕ → (ℕ → ℕ → ℕ) → List ℕ
+cell_lines counts cell = joined (length counts) (λ a. joined (get_or counts a 0 - 1) (λ i. cell_line a i (cell a i)))
 
 -- "for each number met, ascending": of the numbers that a tally has a place for, 1 to 20
-abbrev pub numberLines : (ℕ → ℕ) → List ℕ
-numberLines number = joined 20 (λ k. numberLine (suc k) (number (suc k)))
+abbrev pub number_lines : (ℕ → ℕ) → List ℕ
+number_lines number = joined 20 (λ k. number_line (suc k) (number (suc k)))
 
 -- of the counts of nodes, the count of cell i of axis a, the count of number k, and whether the input went past the limit:
 -- "the report covers the first 1,000,000, then prints `no 17 0 0`"
-unfoldable pub reportOf : List ℕ → (ℕ → ℕ → ℕ) → (ℕ → ℕ) → Bool → List ℕ
-reportOf counts cell number past = cellLines counts cell ++ numberLines number ++ cond past (line_of (refused (refusal 17 0 0))) []
+unfoldable pub report_of : List ℕ → (ℕ → ℕ → ℕ) → (ℕ → ℕ) → Bool → List ℕ
+report_of counts cell number past = cell_lines counts cell ++ number_lines number ++ cond past (line_of (refused (refusal 17 0 0))) []
 
 -- ---- the report of a tally, put into a buffer
 
@@ -43,17 +43,17 @@ held counts = map (min 64) counts
 abbrev pub cell_at : List ℕ → ℕ → ℕ → ℕ
 cell_at cells a i = get_or cells (a * 63 + i) 0
 
-unfoldable pub tallyReport : ℕ → List ℕ → List ℕ → List ℕ → Bool → List ℕ
-tallyReport axes counts cells numbers past = reportOf (held (take axes counts)) (cell_at cells) (λ k. get_or numbers k 0) past
+unfoldable pub tally_report : ℕ → List ℕ → List ℕ → List ℕ → Bool → List ℕ
+tally_report axes counts cells numbers past = report_of (held (take axes counts)) (cell_at cells) (λ k. get_or numbers k 0) past
 
 -- no report of a tally has more bytes
-abbrev pub reportMost : ℕ
-reportMost = 8192
+abbrev pub report_most : ℕ
+report_most = 8192
 
 -- a report at the front of a buffer of at least so many bytes; a shorter one is as it was
-unfoldable pub reportInto : List ℕ → List ℕ → List ℕ
-reportInto report d = cond (room_for reportMost d 0) (put d 0 report) d
+unfoldable pub report_into : List ℕ → List ℕ → List ℕ
+report_into report d = cond (room_for report_most d 0) (put d 0 report) d
 
 -- how many bytes were written
-unfoldable pub reportEnd : List ℕ → List ℕ → ℕ
-reportEnd report d = cond (room_for reportMost d 0) (length report) 0
+unfoldable pub report_end : List ℕ → List ℕ → ℕ
+report_end report d = cond (room_for report_most d 0) (length report) 0

@@ -11,21 +11,21 @@ pub record Rule : Type 0 where
   pub longest : ℕ
 
 -- the lines of the first k records of an input
-unfoldable pub linesFirst : Rule → ℕ → List ℕ → List ℕ
-linesFirst p zero input = []
-linesFirst p (suc k) input = p.line (take p.size input) ++ linesFirst p k (drop p.size input)
+unfoldable pub lines_first : Rule → ℕ → List ℕ → List ℕ
+lines_first p zero input = []
+lines_first p (suc k) input = p.line (take p.size input) ++ lines_first p k (drop p.size input)
 
 -- "A short last record prints" its line "and nothing more"; no bytes are no record
-unfoldable pub cutLine : Rule → List ℕ → List ℕ
-cutLine p [] = []
-cutLine p (b ∷ bs) = p.cut
+unfoldable pub cut_line : Rule → List ℕ → List ℕ
+cut_line p [] = []
+cut_line p (b ∷ bs) = p.cut
 
 -- what is printed of an input, "records until input ends", and "of a longer input" the first m
 unfoldable pub lines_of : Rule → ℕ → List ℕ → List ℕ
 lines_of p zero input = []
 lines_of p (suc m) input =
     cond (ltb (length input) p.size)
-    (cutLine p input)
+    (cut_line p input)
     (p.line (take p.size input) ++ lines_of p m (drop p.size input))
 
 -- ---- a block
@@ -41,5 +41,5 @@ count_of p (suc m) input room =
 -- what a block does: of the output d, left as e, how many records were answered and how many bytes were written
 pub record Block (p : Rule) (most : ℕ) (input d e : List ℕ) (count written : ℕ) : Type 0 where
   pub many : count ≡ count_of p most input (length d)
-  pub long : written ≡ length (linesFirst p count input)
-  pub bytes : e ≡ put d 0 (linesFirst p count input)
+  pub long : written ≡ length (lines_first p count input)
+  pub bytes : e ≡ put d 0 (lines_first p count input)

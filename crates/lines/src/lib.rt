@@ -1,8 +1,8 @@
 // An answer's line put into a buffer, and the coverage report. What is printed of records, block by block, is in specs/Stream.antt.
 ghost use Rattle.std.specs.Prelude.{◌≡◌, ◌+◌, ◌≤◌, length, leb};
 ghost use Rattle.lines.specs.Digit.{decimal};
-ghost use Rattle.lines.specs.Line.{okLine, noLine, longest};
-ghost use Rattle.lines.specs.Put.{lineInto, lineEnd, allInto};
+ghost use Rattle.lines.specs.Line.{ok_line, no_line, longest};
+ghost use Rattle.lines.specs.Put.{line_into, line_end, all_into};
 ghost use Rattle.lines.specs.Scaffolding.{Wrote};
 
 pub mod report;
@@ -22,7 +22,7 @@ fn within(at: usize, n: usize, len: usize) -> bool
 
 fn put_ok(value: f64, out: &mut [u8], at: usize) -> usize
     requires { at + 20 ≤ length out.old }
-    ensures { Wrote out.old at (okLine value) out.new result }
+    ensures { Wrote out.old at (ok_line value) out.new result }
 {
     let a = text::put_bytes(b"ok ", out, at);
     let b = text::put_digits(binary64::bits_of_float(value), 16, 16, out, a);
@@ -31,14 +31,14 @@ fn put_ok(value: f64, out: &mut [u8], at: usize) -> usize
 
 fn put_no(number: u64, axis: u64, place: u64, out: &mut [u8], at: usize) -> usize
     requires { at + (length (decimal number) + length (decimal axis) + length (decimal place) + 6) ≤ length out.old }
-    ensures { Wrote out.old at (noLine number axis place) out.new result }
+    ensures { Wrote out.old at (no_line number axis place) out.new result }
 {
     text::put_three(b"no ", number, axis, place, out, at)
 }
 
 // Puts an answer's line at a place and gives the place past it; writes nothing where a longest line has no room.
 pub fn put_line(a: Answer, out: &mut [u8], at: usize) -> usize
-    ensures value { (result ≡ lineEnd a out.old at) × (out.new ≡ lineInto a out.old at) }
+    ensures value { (result ≡ line_end a out.old at) × (out.new ≡ line_into a out.old at) }
     ensures upper_bound { result ≤ at + longest }
 {
     if !within(at, LONGEST, out.len()) {
@@ -53,7 +53,7 @@ pub fn put_line(a: Answer, out: &mut [u8], at: usize) -> usize
 
 // Puts bytes at a place where they all have room, else none of them.
 pub fn put_all(src: &[u8], out: &mut [u8], at: usize)
-    ensures { out.new ≡ allInto src.now out.old at }
+    ensures { out.new ≡ all_into src.now out.old at }
 {
     if !within(at, src.len(), out.len()) {
         return;

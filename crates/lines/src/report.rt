@@ -3,8 +3,8 @@ ghost use Rattle.std.specs.Prelude.{◌≡◌, cond, [], ◌+◌, ◌-◌, ◌<�
 ghost use Rattle.answer.specs.Faults.{refusal};
 ghost use Rattle.answer.specs.Answer.{refused};
 ghost use Rattle.lines.specs.Line.{line_of, longest};
-ghost use Rattle.lines.specs.Report.{cellLine, numberLine, joined, cellLines, numberLines, held, cell_at};
-ghost use Rattle.lines.specs.Report.{tallyReport, reportInto, reportEnd};
+ghost use Rattle.lines.specs.Report.{cell_line, number_line, joined, cell_lines, number_lines, held, cell_at};
+ghost use Rattle.lines.specs.Report.{tally_report, report_into, report_end};
 ghost use Rattle.lines.specs.Scaffolding.{Wrote};
 
 use crate::text;
@@ -14,7 +14,7 @@ pub const MOST: usize = 8192;
 
 fn put_cell(axis: usize, index: usize, count: u32, out: &mut [u8], at: usize) -> usize
     requires { (axis < 10) × ((index < 100) × (at + 21 ≤ length out.old)) }
-    ensures wrote { Wrote out.old at (cellLine axis index count) out.new result }
+    ensures wrote { Wrote out.old at (cell_line axis index count) out.new result }
     ensures upper_bound { result ≤ at + 21 }
 {
     text::put_three(b"cell ", axis as u64, index as u64, count as u64, out, at)
@@ -23,7 +23,7 @@ fn put_cell(axis: usize, index: usize, count: u32, out: &mut [u8], at: usize) ->
 // The n cells of an axis.
 fn put_cells(axis: usize, n: usize, cells: &[u32; 252], out: &mut [u8], at: usize) -> usize
     requires { (axis < 4) × ((n ≤ 63) × (at + 1323 ≤ length out.old)) }
-    ensures wrote { Wrote out.old at (joined n (λ i. cellLine axis i (cell_at cells.now axis i))) out.new result }
+    ensures wrote { Wrote out.old at (joined n (λ i. cell_line axis i (cell_at cells.now axis i))) out.new result }
     ensures upper_bound { result ≤ at + 1323 }
 {
     let mut next = at;
@@ -55,7 +55,7 @@ fn axes_of(axes: usize) -> usize
 
 fn put_axes(axes: usize, counts: [usize; 4], cells: &[u32; 252], out: &mut [u8]) -> usize
     requires { 5292 ≤ length out.old }
-    ensures wrote { Wrote out.old 0 (cellLines (held (take axes counts)) (cell_at cells.now)) out.new result }
+    ensures wrote { Wrote out.old 0 (cell_lines (held (take axes counts)) (cell_at cells.now)) out.new result }
     ensures upper_bound { result ≤ 5292 }
 {
     let n = axes_of(axes);
@@ -71,7 +71,7 @@ fn put_axes(axes: usize, counts: [usize; 4], cells: &[u32; 252], out: &mut [u8])
 
 fn put_number(number: usize, count: u32, out: &mut [u8], at: usize) -> usize
     requires { (number < 100) × (at + 17 ≤ length out.old) }
-    ensures wrote { Wrote out.old at (numberLine number count) out.new result }
+    ensures wrote { Wrote out.old at (number_line number count) out.new result }
     ensures upper_bound { result ≤ at + 17 }
 {
     if count == 0 {
@@ -83,7 +83,7 @@ fn put_number(number: usize, count: u32, out: &mut [u8], at: usize) -> usize
 
 fn put_numbers(numbers: &[u32; 21], out: &mut [u8], at: usize) -> usize
     requires { at + 340 ≤ length out.old }
-    ensures wrote { Wrote out.old at (numberLines (λ k. get_or numbers.now k 0)) out.new result }
+    ensures wrote { Wrote out.old at (number_lines (λ k. get_or numbers.now k 0)) out.new result }
     ensures upper_bound { result ≤ at + 340 }
 {
     let mut next = at;
@@ -118,9 +118,9 @@ pub fn put(
     past: bool,
     out: &mut [u8],
 ) -> usize
-    ensures value { (result ≡ reportEnd (tallyReport axes counts cells.now numbers.now past) out.old)
+    ensures value { (result ≡ report_end (tally_report axes counts cells.now numbers.now past) out.old)
         × (out.new
-        ≡ reportInto (tallyReport axes counts cells.now numbers.now past) out.old) }
+        ≡ report_into (tally_report axes counts cells.now numbers.now past) out.old) }
     ensures upper_bound { result ≤ length out.old }
 {
     if out.len() < MOST {

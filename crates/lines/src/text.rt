@@ -1,7 +1,7 @@
 // Bytes and digits put into a buffer: each writer gives the place past what it wrote.
 ghost use Rattle.std.specs.Prelude.{◌≡◌, [], ◌∷◌, ◌++◌, ◌+◌, ◌<◌, ◌≤◌, length};
 ghost use Rattle.lines.specs.Scaffolding.{Wrote};
-ghost use Rattle.lines.specs.Digit.{glyphOf, digits, places, decimal};
+ghost use Rattle.lines.specs.Digit.{glyph_of, digits, places, decimal};
 
 pub(crate) fn put_byte(b: u8, out: &mut [u8], at: usize) -> usize
     requires { at < length out.old }
@@ -26,7 +26,7 @@ pub(crate) fn put_bytes(src: &[u8], out: &mut [u8], at: usize) -> usize
 // From ten on (d + 6) / 16 is 1, and `a` lies 39 past what follows `9`. No table: it would be laid on the stack for each digit.
 fn glyph(d: u64) -> u8
     requires { d < 16 }
-    ensures { result ≡ glyphOf d }
+    ensures { result ≡ glyph_of d }
 {
     (48 + d + (d + 6) / 16 * 39) as u8
 }

@@ -2,7 +2,7 @@
 ghost use Rattle.std.specs.Prelude.{◌≡◌, ◌≤◌, length};
 ghost use Rattle.lines.specs.Line.{longest};
 ghost use Rattle.lines.specs.Stream.{lines_of};
-ghost use Rattle.program.specs.Run.{ruleOf};
+ghost use Rattle.program.specs.Run.{rule_of};
 ghost use Rattle.program.specs.Whole.{TableOf};
 ghost use Rattle.lookup.specs.Whole.{Whole};
 ghost use Rattle.lookup.specs.Scaffolding.{Room, Last, Stepped};
@@ -39,8 +39,8 @@ fn step(
     left: usize,
 ) -> Next
     requires table_of { TableOf img.now shape nodes.now values.now }
-    requires room { Room (ruleOf img.now) size held buf.old out.old }
-    ensures stepped { Stepped (ruleOf img.now) held left buf.old buf.new result }
+    requires room { Room (rule_of img.now) size held buf.old out.old }
+    ensures stepped { Stepped (rule_of img.now) held left buf.old buf.new result }
     ensures printed_in_bounds { result.printed ≤ length out.old }
 {
     let asked = buf.len() - held;
@@ -68,8 +68,8 @@ fn step(
 
 // Prints what is printed at the input's end, of the bytes that are left.
 fn end(img: &[u8], rest: &[u8], left: usize, out: &mut [u8]) -> Printed
-    requires { (longest ≤ length out.old) × Last (ruleOf img.now) left rest.now }
-    ensures bytes_value { result.bytes ≡ length (lines_of (ruleOf img.now) left rest.now) }
+    requires { (longest ≤ length out.old) × Last (rule_of img.now) left rest.now }
+    ensures bytes_value { result.bytes ≡ length (lines_of (rule_of img.now) left rest.now) }
     ensures bytes_in_bounds { result.bytes ≤ length out.old }
 {
     let n = input::finish(rest.len(), left, out);

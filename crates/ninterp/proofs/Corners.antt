@@ -14,90 +14,90 @@ use lib.Ieee.{Float, nan}
 use Rattle.layout.specs.Shape.{size}
 use Rattle.layout.specs.Layout.{place, table, tabulate, Inside}
 use Rattle.layout.proofs.Totals.{ahead, past}
-use Rattle.layout.proofs.Layouts.{place-cons, place_none, size-cons, size-nil, place-below, get_d_tabulate}
+use Rattle.layout.proofs.Layouts.{place-cons, place_none, size-cons, size_nil, place_below, get_d_tabulate}
 use Rattle.blend.specs.Blend.{linear}
 use Rattle.rust.specs.Scaffolding.{diffs, butterfly}
-use Rattle.blend.specs.Scaffolding.{cornerAt, moreCorners, cornerPlace}
+use Rattle.blend.specs.Scaffolding.{corner_at, more_corners, corner_place}
 use Rattle.rust.specs.declared.AxisLocation.{AxisLocation}
 use Rattle.rust.specs.declared.AxisLocation.TheVariants.{Exact, Between}
-use Rattle.rust.proofs.Passes.{power-suc, butterfly-same}
-use Rattle.blend.proofs.Bits.{low-corner, high-corner, fold-linear}
-use Rattle.blend.proofs.Counts.{few-diffs, few-corners, more-power}
-use Rattle.axis.specs.Locations.{locationIndex}
-use Rattle.axis.specs.Scaffolding.{upperOf}
-use Rattle.axis.proofs.Located.{lower-upper}
+use Rattle.rust.proofs.Passes.{power_suc, butterfly_same}
+use Rattle.blend.proofs.Bits.{low_corner, high_corner, fold_linear}
+use Rattle.blend.proofs.Counts.{few_diffs, few_corners, more_power}
+use Rattle.axis.specs.Locations.{location_index}
+use Rattle.axis.specs.Scaffolding.{upper_of}
+use Rattle.axis.proofs.Located.{lower_upper}
 use Rattle.ninterp.specs.Scaffolding.{AllWithin}
 
 -- ---- locations on their axes
-pub corner-inside : (ps : List AxisLocation) (cs : List ℕ) (m : ℕ) → AllWithin ps cs → Inside (cornerAt ps m) cs
-corner-inside [] [] m w = tt
-corner-inside [] (c ∷ cs) m w = w
-corner-inside (p ∷ ps) [] m w = absurd w
-corner-inside (Exact node ∷ ps) (c ∷ cs) m w = (w.0, corner-inside ps cs m w.1)
-corner-inside (Between lower frac ∷ ps) (c ∷ cs) m w =
+pub corner_inside : (ps : List AxisLocation) (cs : List ℕ) (m : ℕ) → AllWithin ps cs → Inside (corner_at ps m) cs
+corner_inside [] [] m w = tt
+corner_inside [] (c ∷ cs) m w = w
+corner_inside (p ∷ ps) [] m w = absurd w
+corner_inside (Exact node ∷ ps) (c ∷ cs) m w = (w.0, corner_inside ps cs m w.1)
+corner_inside (Between lower frac ∷ ps) (c ∷ cs) m w =
     let b : m / 2 ^ length (diffs ps) % 2 < 2 = mod-lt (m / 2 ^ length (diffs ps)) (omega arith) in
-    (omega (arith, w.0, b), corner-inside ps cs m w.1)
+    (omega (arith, w.0, b), corner_inside ps cs m w.1)
 
-pub within-positive : (ps : List AxisLocation) (cs : List ℕ) → AllWithin ps cs → 0 < size cs
-within-positive [] [] w = omega (arith, size-nil)
-within-positive [] (c ∷ cs) w = absurd w
-within-positive (p ∷ ps) [] w = absurd w
-within-positive (p ∷ ps) (c ∷ cs) w =
+pub within_positive : (ps : List AxisLocation) (cs : List ℕ) → AllWithin ps cs → 0 < size cs
+within_positive [] [] w = omega (arith, size_nil)
+within_positive [] (c ∷ cs) w = absurd w
+within_positive (p ∷ ps) [] w = absurd w
+within_positive (p ∷ ps) (c ∷ cs) w =
     let a : 1 ≤ c = omega (arith, w.0) in
-    let b : 1 ≤ size cs = within-positive ps cs w.1 in
+    let b : 1 ≤ size cs = within_positive ps cs w.1 in
     let q : 1 * 1 ≤ c * size cs = mul-le-mul a b in
     omega (arith, size-cons c cs, q)
 
-pub within-drop : (d : ℕ) (ps : List AxisLocation) (cs : List ℕ) → AllWithin ps cs → AllWithin (drop d ps) (drop d cs)
-within-drop zero ps cs w = w
-within-drop (suc d) [] [] w = tt
-within-drop (suc d) [] (c ∷ cs) w = absurd w
-within-drop (suc d) (p ∷ ps) [] w = absurd w
-within-drop (suc d) (p ∷ ps) (c ∷ cs) w = within-drop d ps cs w.1
+pub within_drop : (d : ℕ) (ps : List AxisLocation) (cs : List ℕ) → AllWithin ps cs → AllWithin (drop d ps) (drop d cs)
+within_drop zero ps cs w = w
+within_drop (suc d) [] [] w = tt
+within_drop (suc d) [] (c ∷ cs) w = absurd w
+within_drop (suc d) (p ∷ ps) [] w = absurd w
+within_drop (suc d) (p ∷ ps) (c ∷ cs) w = within_drop d ps cs w.1
 
 -- the axes from one on have no more values than all
-pub suffix-small : (d : ℕ) (ps : List AxisLocation) (cs : List ℕ) → AllWithin ps cs → size (drop d cs) ≤ size cs
-suffix-small zero ps cs w = omega arith
-suffix-small (suc d) [] [] w = omega arith
-suffix-small (suc d) [] (c ∷ cs) w = absurd w
-suffix-small (suc d) (p ∷ ps) [] w = absurd w
-suffix-small (suc d) (p ∷ ps) (c ∷ cs) w =
+pub suffix_small : (d : ℕ) (ps : List AxisLocation) (cs : List ℕ) → AllWithin ps cs → size (drop d cs) ≤ size cs
+suffix_small zero ps cs w = omega arith
+suffix_small (suc d) [] [] w = omega arith
+suffix_small (suc d) [] (c ∷ cs) w = absurd w
+suffix_small (suc d) (p ∷ ps) [] w = absurd w
+suffix_small (suc d) (p ∷ ps) (c ∷ cs) w =
     let q : 1 * size cs ≤ c * size cs = mul-le-mul_right (size cs) (omega (arith, w.0)) in
-    omega (arith, size-cons c cs, q, one-mul (size cs), suffix-small d ps cs w.1)
+    omega (arith, size-cons c cs, q, one-mul (size cs), suffix_small d ps cs w.1)
 
 -- ---- one axis more
 module _ (p : AxisLocation) (ps : List AxisLocation) (c : ℕ) (cs : List ℕ) where
   -- what its upper node adds to a place, and so its lower one, is small
   module _ (w : AllWithin (p ∷ ps) (c ∷ cs)) (small : size (c ∷ cs) ≤ 4096) where
-    pub upper-few : upperOf p ≤ 4096
-    upper-few =
-        let a : upperOf p ≤ c = omega (arith, w.0) in
-        let b : 1 ≤ size cs = within-positive ps cs w.1 in
-        let q : upperOf p * 1 ≤ c * size cs = mul-le-mul a b in
-        omega (arith, size-cons c cs, small, q, mul-one (upperOf p))
+    pub upper_few : upper_of p ≤ 4096
+    upper_few =
+        let a : upper_of p ≤ c = omega (arith, w.0) in
+        let b : 1 ≤ size cs = within_positive ps cs w.1 in
+        let q : upper_of p * 1 ≤ c * size cs = mul-le-mul a b in
+        omega (arith, size-cons c cs, small, q, mul-one (upper_of p))
 
-    pub upper-small : upperOf p * size cs ≤ 4096
-    upper-small = omega (arith, size-cons c cs, small, mul-le-mul_right (size cs) w.0, mul-le-mul_right {m = upperOf p} {n = c} (size cs) (omega (arith, w.0)))
+    pub upper_small : upper_of p * size cs ≤ 4096
+    upper_small = omega (arith, size-cons c cs, small, mul-le-mul_right (size cs) w.0, mul-le-mul_right {m = upper_of p} {n = c} (size cs) (omega (arith, w.0)))
 
-    pub lower-small : locationIndex p * size cs ≤ 4096
-    lower-small = omega (arith, upper-small, mul-le-mul_right (size cs) (lower-upper p))
+    pub lower_small : location_index p * size cs ≤ 4096
+    lower_small = omega (arith, upper_small, mul-le-mul_right (size cs) (lower_upper p))
 
-  pub low-place : (m : ℕ) → m < 2 ^ length (diffs ps) → place (c ∷ cs) (cornerAt (p ∷ ps) m) ≡ locationIndex p * size cs + place cs (cornerAt ps m)
-  low-place = go p
+  pub low_place : (m : ℕ) → m < 2 ^ length (diffs ps) → place (c ∷ cs) (corner_at (p ∷ ps) m) ≡ location_index p * size cs + place cs (corner_at ps m)
+  low_place = go p
     where
-      go : (q : AxisLocation) (m : ℕ) → m < 2 ^ length (diffs ps) → place (c ∷ cs) (cornerAt (q ∷ ps) m) ≡ locationIndex q * size cs + place cs (cornerAt ps m)
-      go (Exact node) m b = place-cons c cs node (cornerAt ps m)
-      go (Between lower frac) m b = ap (place (c ∷ cs)) (low-corner ps lower frac m b) ∙ place-cons c cs lower (cornerAt ps m)
+      go : (q : AxisLocation) (m : ℕ) → m < 2 ^ length (diffs ps) → place (c ∷ cs) (corner_at (q ∷ ps) m) ≡ location_index q * size cs + place cs (corner_at ps m)
+      go (Exact node) m b = place-cons c cs node (corner_at ps m)
+      go (Between lower frac) m b = ap (place (c ∷ cs)) (low_corner ps lower frac m b) ∙ place-cons c cs lower (corner_at ps m)
 
-pub high-place : (lower : ℕ) (f : Float) (ps : List AxisLocation) (c : ℕ) (cs : List ℕ) (m : ℕ) → m < 2 ^ length (diffs ps)
-    → place (c ∷ cs) (cornerAt (Between lower f ∷ ps) (m + 2 ^ length (diffs ps))) ≡ (lower + 1) * size cs + place cs (cornerAt ps m)
-high-place lower f ps c cs m b = ap (place (c ∷ cs)) (high-corner ps lower f m b) ∙ place-cons c cs (lower + 1) (cornerAt ps m)
+pub high_place : (lower : ℕ) (f : Float) (ps : List AxisLocation) (c : ℕ) (cs : List ℕ) (m : ℕ) → m < 2 ^ length (diffs ps)
+    → place (c ∷ cs) (corner_at (Between lower f ∷ ps) (m + 2 ^ length (diffs ps))) ≡ (lower + 1) * size cs + place cs (corner_at ps m)
+high_place lower f ps c cs m b = ap (place (c ∷ cs)) (high_corner ps lower f m b) ∙ place-cons c cs (lower + 1) (corner_at ps m)
 
 -- ---- the loop, from the last axis on
 pub record Spreading (ps : List AxisLocation) (cs : List ℕ) (places : List ℕ) (count stride : ℕ) : Type 0 where
   pub counted : count ≡ 2 ^ length (diffs ps)
   pub strided : stride ≡ size cs
-  pub placed : (i : ℕ) → i < 2 ^ length (diffs ps) → get_or places i 0 ≡ place cs (cornerAt ps i)
+  pub placed : (i : ℕ) → i < 2 ^ length (diffs ps) → get_or places i 0 ≡ place cs (corner_at ps i)
 
 abbrev pub Spread : List ℕ → ℕ → ℕ → ℕ → List ℕ → Type 0
 Spread places count low high next = (i : ℕ) → i < count → (get_or next i 0 ≡ get_or places i 0 + low) × (get_or next (i + count) 0 ≡ get_or places i 0 + high)
@@ -106,41 +106,41 @@ module _ (ps : List AxisLocation) (c : ℕ) (cs places next : List ℕ) (count s
   within_count : (i : ℕ) → i < 2 ^ length (diffs ps) → i < count
   within_count i b = omega (arith, z.counted, b)
 
-  low-next : (p : AxisLocation) (low high i : ℕ) → low ≡ locationIndex p * stride → Spread places count low high next → i < 2 ^ length (diffs ps) → get_or next i 0 ≡ place (c ∷ cs) (cornerAt (p ∷ ps) i)
-  low-next p low high i e h b =
-      let s : low ≡ locationIndex p * size cs = e ∙ ap (λ (x : ℕ). locationIndex p * x) z.strided in
-      omega (arith, (h i (within_count i b)).0, z.placed i b, s, low-place p ps c cs i b)
+  low_next : (p : AxisLocation) (low high i : ℕ) → low ≡ location_index p * stride → Spread places count low high next → i < 2 ^ length (diffs ps) → get_or next i 0 ≡ place (c ∷ cs) (corner_at (p ∷ ps) i)
+  low_next p low high i e h b =
+      let s : low ≡ location_index p * size cs = e ∙ ap (λ (x : ℕ). location_index p * x) z.strided in
+      omega (arith, (h i (within_count i b)).0, z.placed i b, s, low_place p ps c cs i b)
 
-  high-next : (lower : ℕ) (f : Float) (low high i : ℕ) → high ≡ (lower + 1) * stride → Spread places count low high next → i < 2 ^ length (diffs ps)
-      → get_or next (i + 2 ^ length (diffs ps)) 0 ≡ place (c ∷ cs) (cornerAt (Between lower f ∷ ps) (i + 2 ^ length (diffs ps)))
-  high-next lower f low high i e h b =
+  high_next : (lower : ℕ) (f : Float) (low high i : ℕ) → high ≡ (lower + 1) * stride → Spread places count low high next → i < 2 ^ length (diffs ps)
+      → get_or next (i + 2 ^ length (diffs ps)) 0 ≡ place (c ∷ cs) (corner_at (Between lower f ∷ ps) (i + 2 ^ length (diffs ps)))
+  high_next lower f low high i e h b =
       let s : high ≡ (lower + 1) * size cs = e ∙ ap (λ (x : ℕ). (lower + 1) * x) z.strided in
       let at : get_or next (i + 2 ^ length (diffs ps)) 0 ≡ get_or places i 0 + high = ap (λ (k : ℕ). get_or next (i + k) 0) (sym z.counted) ∙ (h i (within_count i b)).1 in
-      omega (arith, at, z.placed i b, s, high-place lower f ps c cs i b)
+      omega (arith, at, z.placed i b, s, high_place lower f ps c cs i b)
 
-  pub spread-step : (p : AxisLocation) (low high more wide : ℕ) → low ≡ locationIndex p * stride → high ≡ upperOf p * stride → Spread places count low high next
-      → more ≡ moreCorners p count → wide ≡ c * stride → 2 ^ length (diffs (p ∷ ps)) ≤ 16 → Spreading (p ∷ ps) (c ∷ cs) next more wide
-  spread-step p low high more wide el eh h em ew few = record {
-    counted = em ∙ more-power p ps count z.counted few;
+  pub spread_step : (p : AxisLocation) (low high more wide : ℕ) → low ≡ location_index p * stride → high ≡ upper_of p * stride → Spread places count low high next
+      → more ≡ more_corners p count → wide ≡ c * stride → 2 ^ length (diffs (p ∷ ps)) ≤ 16 → Spreading (p ∷ ps) (c ∷ cs) next more wide
+  spread_step p low high more wide el eh h em ew few = record {
+    counted = em ∙ more_power p ps count z.counted few;
     strided = ew ∙ ap (λ (x : ℕ). c * x) z.strided ∙ sym (size-cons c cs);
     placed = go p el eh;
   }
     where
-      go : (q : AxisLocation) → low ≡ locationIndex q * stride → high ≡ upperOf q * stride → (i : ℕ) → i < 2 ^ length (diffs (q ∷ ps)) → get_or next i 0 ≡ place (c ∷ cs) (cornerAt (q ∷ ps) i)
-      go (Exact node) e f i b = low-next (Exact node) low high i e h b
+      go : (q : AxisLocation) → low ≡ location_index q * stride → high ≡ upper_of q * stride → (i : ℕ) → i < 2 ^ length (diffs (q ∷ ps)) → get_or next i 0 ≡ place (c ∷ cs) (corner_at (q ∷ ps) i)
+      go (Exact node) e f i b = low_next (Exact node) low high i e h b
       go (Between lower frac) e f i b = half (ltb i (2 ^ length (diffs ps))) refl
         where
-          half : (t : Bool) → ltb i (2 ^ length (diffs ps)) ≡ t → get_or next i 0 ≡ place (c ∷ cs) (cornerAt (Between lower frac ∷ ps) i)
-          half true u = low-next (Between lower frac) low high i e h (ltb-true i (2 ^ length (diffs ps)) u)
+          half : (t : Bool) → ltb i (2 ^ length (diffs ps)) ≡ t → get_or next i 0 ≡ place (c ∷ cs) (corner_at (Between lower frac ∷ ps) i)
+          half true u = low_next (Between lower frac) low high i e h (ltb-true i (2 ^ length (diffs ps)) u)
           half false u =
               let ge : 2 ^ length (diffs ps) ≤ i = ltb-false i (2 ^ length (diffs ps)) u in
-              let below : i - 2 ^ length (diffs ps) < 2 ^ length (diffs ps) = omega (arith, b, power-suc (length (diffs ps)), ge) in
+              let below : i - 2 ^ length (diffs ps) < 2 ^ length (diffs ps) = omega (arith, b, power_suc (length (diffs ps)), ge) in
               let is : i ≡ i - 2 ^ length (diffs ps) + 2 ^ length (diffs ps) = omega (arith, ge) in
-              subst (λ (k : ℕ). get_or next k 0 ≡ place (c ∷ cs) (cornerAt (Between lower frac ∷ ps) k)) (sym is) (high-next lower frac low high (i - 2 ^ length (diffs ps)) f h below)
+              subst (λ (k : ℕ). get_or next k 0 ≡ place (c ∷ cs) (corner_at (Between lower frac ∷ ps) k)) (sym is) (high_next lower frac low high (i - 2 ^ length (diffs ps)) f h below)
 
 -- ---- lists filled place by place
-less-or-same : (k i : ℕ) → k < i + 1 → (k < i) ⊎ (k ≡ i)
-less-or-same k i l = go (ltb k i) refl
+less_or_same : (k i : ℕ) → k < i + 1 → (k < i) ⊎ (k ≡ i)
+less_or_same k i l = go (ltb k i) refl
   where
     go : (t : Bool) → ltb k i ≡ t → (k < i) ⊎ (k ≡ i)
     go true e = inl (ltb-true k i e)
@@ -148,7 +148,7 @@ less-or-same k i l = go (ltb k i) refl
 
 pub put_step : {A : Type 0} (xs : List A) (i : ℕ) (x z : A) (h : ℕ → A) → i < length xs → ((k : ℕ) → k < i → get_or xs k z ≡ h k) → x ≡ h i
     → (k : ℕ) → k < i + 1 → get_or (set xs i x) k z ≡ h k
-put_step xs i x z h l p e k b = ⊎_elim below same (less-or-same k i b)
+put_step xs i x z h l p e k b = ⊎_elim below same (less_or_same k i b)
   where
     below : k < i → get_or (set xs i x) k z ≡ h k
     below c = get_or-set_other xs i k x z (λ q. omega arith) ∙ p k c
@@ -160,7 +160,7 @@ put_step xs i x z h l p e k b = ⊎_elim below same (less-or-same k i b)
 pub put_both : {A : Type 0} (xs : List A) (i count : ℕ) (x y z : A) (g h : ℕ → A) → i < count → i + count < length xs
     → ((k : ℕ) → k < i → (get_or xs k z ≡ g k) × (get_or xs (k + count) z ≡ h k)) → x ≡ g i → y ≡ h i
     → (k : ℕ) → k < i + 1 → (get_or (set (set xs (i + count) y) i x) k z ≡ g k) × (get_or (set (set xs (i + count) y) i x) (k + count) z ≡ h k)
-put_both {A} xs i count x y z g h m l p e f k b = ⊎_elim below same (less-or-same k i b)
+put_both {A} xs i count x y z g h m l p e f k b = ⊎_elim below same (less_or_same k i b)
   where
     below : k < i → (get_or (set (set xs (i + count) y) i x) k z ≡ g k) × (get_or (set (set xs (i + count) y) i x) (k + count) z ≡ h k)
     below c = (
@@ -194,11 +194,11 @@ module _ (v₀ v : List ℕ) (count low high i at : ℕ) (few : count + count �
   here : at ≡ get_or v₀ i 0
   here = e ∙ z.rest i (omega arith) l
 
-  long-upper : length upper ≡ length v₀
-  long-upper = length-set v (i + count) (at + high) ∙ z.long
+  long_upper : length upper ≡ length v₀
+  long_upper = length-set v (i + count) (at + high) ∙ z.long
 
   at_low : get_or last i 0 ≡ get_or v₀ i 0 + low
-  at_low = get_or-set_same upper i (at + low) 0 (omega (arith, long-upper, few, l)) ∙ ap (λ (x : ℕ). x + low) here
+  at_low = get_or-set_same upper i (at + low) 0 (omega (arith, long_upper, few, l)) ∙ ap (λ (x : ℕ). x + low) here
 
   at_high : get_or last (i + count) 0 ≡ get_or v₀ i 0 + high
   at_high =
@@ -206,11 +206,11 @@ module _ (v₀ v : List ℕ) (count low high i at : ℕ) (few : count + count �
       ∙ get_or-set_same v (i + count) (at + high) 0 (omega (arith, z.long, few, l))
       ∙ ap (λ (x : ℕ). x + high) here
 
-  pub spread-turn : Spreaded v₀ count low high (i + 1) last
-  spread-turn = record { long = length-set upper i (at + low) ∙ long-upper; done = done_next; rest = rest-next }
+  pub spread_turn : Spreaded v₀ count low high (i + 1) last
+  spread_turn = record { long = length-set upper i (at + low) ∙ long_upper; done = done_next; rest = rest_next }
     where
       done_next : (k : ℕ) → k < i + 1 → (get_or last k 0 ≡ get_or v₀ k 0 + low) × (get_or last (k + count) 0 ≡ get_or v₀ k 0 + high)
-      done_next k b = ⊎_elim below same (less-or-same k i b)
+      done_next k b = ⊎_elim below same (less_or_same k i b)
         where
           below : k < i → (get_or last k 0 ≡ get_or v₀ k 0 + low) × (get_or last (k + count) 0 ≡ get_or v₀ k 0 + high)
           below c = (kept k (λ q. omega (arith, q, c)) (λ q. omega (arith, q, c)) ∙ (z.done k c).0, kept (k + count) (λ q. omega (arith, q, l)) (λ q. omega (arith, q, c)) ∙ (z.done k c).1)
@@ -218,8 +218,8 @@ module _ (v₀ v : List ℕ) (count low high i at : ℕ) (few : count + count �
           same : k ≡ i → (get_or last k 0 ≡ get_or v₀ k 0 + low) × (get_or last (k + count) 0 ≡ get_or v₀ k 0 + high)
           same q = subst (λ (n : ℕ). (get_or last n 0 ≡ get_or v₀ n 0 + low) × (get_or last (n + count) 0 ≡ get_or v₀ n 0 + high)) (sym q) (at_low, at_high)
 
-      rest-next : (k : ℕ) → i + 1 ≤ k → k < count → get_or last k 0 ≡ get_or v₀ k 0
-      rest-next k a b = kept k (λ q. omega (arith, q, a)) (λ q. omega (arith, q, b)) ∙ z.rest k (omega (arith, a)) b
+      rest_next : (k : ℕ) → i + 1 ≤ k → k < count → get_or last k 0 ≡ get_or v₀ k 0
+      rest_next k a b = kept k (λ q. omega (arith, q, a)) (λ q. omega (arith, q, b)) ∙ z.rest k (omega (arith, a)) b
 
 -- ---- the loop over the axes, from the last one on: what is at axis d - 1
 module _ (ls : List AxisLocation) (C : List ℕ) (n d : ℕ) (few : n ≤ 4) (longl : n ≤ length ls) (longc : n ≤ length C) (above : 1 < d) (most : d ≤ n)
@@ -227,113 +227,113 @@ module _ (ls : List AxisLocation) (C : List ℕ) (n d : ℕ) (few : n ≤ 4) (lo
   again : d - 1 + 1 ≡ d
   again = omega arith
 
-  open-l : drop (d - 1) (take n ls) ≡ get_or ls (d - 1) (Exact 0) ∷ drop d (take n ls)
-  open-l = ahead ls n (d - 1) (Exact 0) (omega arith) longl ∙ ap (λ (k : ℕ). get_or ls (d - 1) (Exact 0) ∷ drop k (take n ls)) again
+  open_l : drop (d - 1) (take n ls) ≡ get_or ls (d - 1) (Exact 0) ∷ drop d (take n ls)
+  open_l = ahead ls n (d - 1) (Exact 0) (omega arith) longl ∙ ap (λ (k : ℕ). get_or ls (d - 1) (Exact 0) ∷ drop k (take n ls)) again
 
-  open-c : drop (d - 1) (take n C) ≡ get_or C (d - 1) 0 ∷ drop d (take n C)
-  open-c = ahead C n (d - 1) 0 (omega arith) longc ∙ ap (λ (k : ℕ). get_or C (d - 1) 0 ∷ drop k (take n C)) again
+  open_c : drop (d - 1) (take n C) ≡ get_or C (d - 1) 0 ∷ drop d (take n C)
+  open_c = ahead C n (d - 1) 0 (omega arith) longc ∙ ap (λ (k : ℕ). get_or C (d - 1) 0 ∷ drop k (take n C)) again
 
-  pub within-at : AllWithin (get_or ls (d - 1) (Exact 0) ∷ drop d (take n ls)) (get_or C (d - 1) 0 ∷ drop d (take n C))
-  within-at = subst (λ (q : List ℕ). AllWithin (get_or ls (d - 1) (Exact 0) ∷ drop d (take n ls)) q) open-c (subst (λ (q : List AxisLocation). AllWithin q (drop (d - 1) (take n C))) open-l (within-drop (d - 1) (take n ls) (take n C) w))
+  pub within_at : AllWithin (get_or ls (d - 1) (Exact 0) ∷ drop d (take n ls)) (get_or C (d - 1) 0 ∷ drop d (take n C))
+  within_at = subst (λ (q : List ℕ). AllWithin (get_or ls (d - 1) (Exact 0) ∷ drop d (take n ls)) q) open_c (subst (λ (q : List AxisLocation). AllWithin q (drop (d - 1) (take n C))) open_l (within_drop (d - 1) (take n ls) (take n C) w))
 
   pub small_at : size (get_or C (d - 1) 0 ∷ drop d (take n C)) ≤ 4096
-  small_at = omega (arith, ap size open-c, suffix-small (d - 1) (take n ls) (take n C) w, small)
+  small_at = omega (arith, ap size open_c, suffix_small (d - 1) (take n ls) (take n C) w, small)
 
-  pub few-at : 2 ^ length (diffs (get_or ls (d - 1) (Exact 0) ∷ drop d (take n ls))) ≤ 16
-  few-at =
+  pub few_at : 2 ^ length (diffs (get_or ls (d - 1) (Exact 0) ∷ drop d (take n ls))) ≤ 16
+  few_at =
       let long : length (drop (d - 1) (take n ls)) ≤ 4 = omega (arith, length-drop (d - 1) (take n ls), length-take n ls, few) in
-      subst (λ (r : List AxisLocation). 2 ^ length (diffs r) ≤ 16) open-l (few-corners (drop (d - 1) (take n ls)) long)
+      subst (λ (r : List AxisLocation). 2 ^ length (diffs r) ≤ 16) open_l (few_corners (drop (d - 1) (take n ls)) long)
 
   pub closed_at : (places : List ℕ) (count stride : ℕ) → Spreading (get_or ls (d - 1) (Exact 0) ∷ drop d (take n ls)) (get_or C (d - 1) 0 ∷ drop d (take n C)) places count stride
       → Spreading (drop (d - 1) (take n ls)) (drop (d - 1) (take n C)) places count stride
   closed_at places count stride z =
-      subst (λ (q : List ℕ). Spreading (drop (d - 1) (take n ls)) q places count stride) (sym open-c)
-      (subst (λ (q : List AxisLocation). Spreading q (get_or C (d - 1) 0 ∷ drop d (take n C)) places count stride) (sym open-l) z)
+      subst (λ (q : List ℕ). Spreading (drop (d - 1) (take n ls)) q places count stride) (sym open_c)
+      (subst (λ (q : List AxisLocation). Spreading q (get_or C (d - 1) 0 ∷ drop d (take n C)) places count stride) (sym open_l) z)
 
   -- before an axis there are at most 8
-  pub eight-at : (places : List ℕ) (count stride : ℕ) → Spreading (drop d (take n ls)) (drop d (take n C)) places count stride → count ≤ 8
-  eight-at places count stride z =
+  pub eight_at : (places : List ℕ) (count stride : ℕ) → Spreading (drop d (take n ls)) (drop d (take n C)) places count stride → count ≤ 8
+  eight_at places count stride z =
       let long : length (drop d (take n ls)) ≤ 3 = omega (arith, length-drop d (take n ls), length-take n ls, few, above) in
-      let u : 2 ^ length (diffs (drop d (take n ls))) ≤ 2 ^ 3 = pow-le-pow_right (omega arith) {j = 3} (omega (arith, few-diffs (drop d (take n ls)), long)) in
+      let u : 2 ^ length (diffs (drop d (take n ls))) ≤ 2 ^ 3 = pow-le-pow_right (omega arith) {j = 3} (omega (arith, few_diffs (drop d (take n ls)), long)) in
       omega (arith, z.counted, u)
 
-  pub placed-small : (places : List ℕ) (count stride : ℕ) → Spreading (drop d (take n ls)) (drop d (take n C)) places count stride → (i : ℕ) → i < count → get_or places i 0 ≤ 4096
-  placed-small places count stride z i b =
-      let below : place (drop d (take n C)) (cornerAt (drop d (take n ls)) i) < size (drop d (take n C)) =
-      place-below (cornerAt (drop d (take n ls)) i) (drop d (take n C)) (corner-inside (drop d (take n ls)) (drop d (take n C)) i (within-drop d (take n ls) (take n C) w)) in
-      omega (arith, z.placed i (omega (arith, z.counted, b)), below, suffix-small d (take n ls) (take n C) w, small)
+  pub placed_small : (places : List ℕ) (count stride : ℕ) → Spreading (drop d (take n ls)) (drop d (take n C)) places count stride → (i : ℕ) → i < count → get_or places i 0 ≤ 4096
+  placed_small places count stride z i b =
+      let below : place (drop d (take n C)) (corner_at (drop d (take n ls)) i) < size (drop d (take n C)) =
+      place_below (corner_at (drop d (take n ls)) i) (drop d (take n C)) (corner_inside (drop d (take n ls)) (drop d (take n C)) i (within_drop d (take n ls) (take n C) w)) in
+      omega (arith, z.placed i (omega (arith, z.counted, b)), below, suffix_small d (take n ls) (take n C) w, small)
 
 pub spread_none : (ls : List AxisLocation) (C : List ℕ) (n : ℕ) (places : List ℕ) → get_or places 0 0 ≡ 0 → Spreading (drop n (take n ls)) (drop n (take n C)) places 1 1
-spread_none ls C n places e = rw (past ls n n (omega arith), past C n n (omega arith)) (record { counted = refl; strided = sym size-nil; placed = only })
+spread_none ls C n places e = rw (past ls n n (omega arith), past C n n (omega arith)) (record { counted = refl; strided = sym size_nil; placed = only })
   where
     only : (i : ℕ) → i < 1 → get_or places i 0 ≡ place [] []
     only i b = let z : i ≡ 0 = omega arith in ap (λ (k : ℕ). get_or places k 0) z ∙ e ∙ sym place_none
 
 -- ---- the first axis, under whose nodes the corners of the others lie
 module _ (ls : List AxisLocation) (C : List ℕ) (n : ℕ) (some : 1 ≤ n) (longl : n ≤ length ls) (longc : n ≤ length C) (w : AllWithin (take n ls) (take n C)) where
-  abbrev rest-l : List AxisLocation
-  rest-l = drop 1 (take n ls)
+  abbrev rest_l : List AxisLocation
+  rest_l = drop 1 (take n ls)
 
-  abbrev rest-c : List ℕ
-  rest-c = drop 1 (take n C)
+  abbrev rest_c : List ℕ
+  rest_c = drop 1 (take n C)
 
-  first-l : take n ls ≡ get_or ls 0 (Exact 0) ∷ rest-l
-  first-l = ahead ls n 0 (Exact 0) some longl
+  first_l : take n ls ≡ get_or ls 0 (Exact 0) ∷ rest_l
+  first_l = ahead ls n 0 (Exact 0) some longl
 
-  first-c : take n C ≡ get_or C 0 0 ∷ rest-c
-  first-c = ahead C n 0 0 some longc
+  first_c : take n C ≡ get_or C 0 0 ∷ rest_c
+  first_c = ahead C n 0 0 some longc
 
-  within_first : AllWithin (get_or ls 0 (Exact 0) ∷ rest-l) (get_or C 0 0 ∷ rest-c)
-  within_first = subst (λ (q : List ℕ). AllWithin (get_or ls 0 (Exact 0) ∷ rest-l) q) first-c (subst (λ (q : List AxisLocation). AllWithin q (take n C)) first-l w)
+  within_first : AllWithin (get_or ls 0 (Exact 0) ∷ rest_l) (get_or C 0 0 ∷ rest_c)
+  within_first = subst (λ (q : List ℕ). AllWithin (get_or ls 0 (Exact 0) ∷ rest_l) q) first_c (subst (λ (q : List AxisLocation). AllWithin q (take n C)) first_l w)
 
-  pub first-few : size (take n C) ≤ 4096 → upperOf (get_or ls 0 (Exact 0)) ≤ 4096
-  first-few small = upper-few (get_or ls 0 (Exact 0)) rest-l (get_or C 0 0) rest-c within_first (omega (arith, ap size first-c, small))
+  pub first_few : size (take n C) ≤ 4096 → upper_of (get_or ls 0 (Exact 0)) ≤ 4096
+  first_few small = upper_few (get_or ls 0 (Exact 0)) rest_l (get_or C 0 0) rest_c within_first (omega (arith, ap size first_c, small))
 
-  pub first_small : size (take n C) ≤ 4096 → upperOf (get_or ls 0 (Exact 0)) * size rest-c ≤ 4096
-  first_small small = upper-small (get_or ls 0 (Exact 0)) rest-l (get_or C 0 0) rest-c within_first (omega (arith, ap size first-c, small))
+  pub first_small : size (take n C) ≤ 4096 → upper_of (get_or ls 0 (Exact 0)) * size rest_c ≤ 4096
+  first_small small = upper_small (get_or ls 0 (Exact 0)) rest_l (get_or C 0 0) rest_c within_first (omega (arith, ap size first_c, small))
 
   -- a node of the first axis that is its upper one or below it
   module _ (p : AxisLocation) (e : get_or ls 0 (Exact 0) ≡ p) where
-    under : (node q stride : ℕ) → node ≤ upperOf p → q < size rest-c → stride ≡ size rest-c → q + node * stride < size (take n C)
+    under : (node q stride : ℕ) → node ≤ upper_of p → q < size rest_c → stride ≡ size rest_c → q + node * stride < size (take n C)
     under node q stride l b f =
-        let u : upperOf p < get_or C 0 0 = subst (λ (x : AxisLocation). upperOf x < get_or C 0 0) e within_first.0 in
-        let m : (node + 1) * size rest-c ≤ get_or C 0 0 * size rest-c = mul-le-mul_right (size rest-c) (omega (arith, u, l)) in
-        omega (arith, b, m, ap (λ (x : ℕ). node * x) f, ap size first-c, size-cons (get_or C 0 0) rest-c)
+        let u : upper_of p < get_or C 0 0 = subst (λ (x : AxisLocation). upper_of x < get_or C 0 0) e within_first.0 in
+        let m : (node + 1) * size rest_c ≤ get_or C 0 0 * size rest_c = mul-le-mul_right (size rest_c) (omega (arith, u, l)) in
+        omega (arith, b, m, ap (λ (x : ℕ). node * x) f, ap size first_c, size-cons (get_or C 0 0) rest_c)
 
-    pub corner-under : (node q stride i : ℕ) → node ≤ upperOf p → q ≡ cornerPlace rest-c rest-l i → stride ≡ size rest-c → q + node * stride < size (take n C)
-    corner-under node q stride i l b f =
-        under node q stride l (omega (arith, b, place-below (cornerAt rest-l i) rest-c (corner-inside rest-l rest-c i within_first.1))) f
+    pub corner_under : (node q stride i : ℕ) → node ≤ upper_of p → q ≡ corner_place rest_c rest_l i → stride ≡ size rest_c → q + node * stride < size (take n C)
+    corner_under node q stride i l b f =
+        under node q stride l (omega (arith, b, place_below (corner_at rest_l i) rest_c (corner_inside rest_l rest_c i within_first.1))) f
 
     module _ (values : List Float) where
-      pub at-node : (node q stride i : ℕ) → q ≡ cornerPlace rest-c rest-l i → stride ≡ size rest-c → get_or values (q + node * stride) nan ≡ table (take n C) values (node ∷ cornerAt rest-l i)
+      pub at-node : (node q stride i : ℕ) → q ≡ corner_place rest_c rest_l i → stride ≡ size rest_c → get_or values (q + node * stride) nan ≡ table (take n C) values (node ∷ corner_at rest_l i)
       unfolding table
       at-node node q stride i b f =
           ap (λ (k : ℕ). get_or values k nan)
-          (omega (arith, b, ap (λ (x : ℕ). node * x) f, place-cons (get_or C 0 0) rest-c node (cornerAt rest-l i), ap (λ (cs : List ℕ). place cs (node ∷ cornerAt rest-l i)) first-c))
+          (omega (arith, b, ap (λ (x : ℕ). node * x) f, place-cons (get_or C 0 0) rest_c node (corner_at rest_l i), ap (λ (cs : List ℕ). place cs (node ∷ corner_at rest_l i)) first_c))
 
-      corner-value : (q : AxisLocation) (vals : List Float)
-          → ((i : ℕ) → i < 2 ^ length (diffs rest-l) → (get_or vals i nan ≡ table (take n C) values (locationIndex q ∷ cornerAt rest-l i)) × (get_or vals (i + 2 ^ length (diffs rest-l)) nan ≡ table (take n C) values (upperOf q ∷ cornerAt rest-l i)))
-          → (i : ℕ) → i < 2 ^ length (diffs (q ∷ rest-l)) → get_or vals i nan ≡ table (take n C) values (cornerAt (q ∷ rest-l) i)
-      corner-value (Exact node) vals v i b = (v i b).0
-      corner-value (Between lower frac) vals v i b = half (ltb i (2 ^ length (diffs rest-l))) refl
+      corner_value : (q : AxisLocation) (vals : List Float)
+          → ((i : ℕ) → i < 2 ^ length (diffs rest_l) → (get_or vals i nan ≡ table (take n C) values (location_index q ∷ corner_at rest_l i)) × (get_or vals (i + 2 ^ length (diffs rest_l)) nan ≡ table (take n C) values (upper_of q ∷ corner_at rest_l i)))
+          → (i : ℕ) → i < 2 ^ length (diffs (q ∷ rest_l)) → get_or vals i nan ≡ table (take n C) values (corner_at (q ∷ rest_l) i)
+      corner_value (Exact node) vals v i b = (v i b).0
+      corner_value (Between lower frac) vals v i b = half (ltb i (2 ^ length (diffs rest_l))) refl
         where
-          half : (t : Bool) → ltb i (2 ^ length (diffs rest-l)) ≡ t → get_or vals i nan ≡ table (take n C) values (cornerAt (Between lower frac ∷ rest-l) i)
+          half : (t : Bool) → ltb i (2 ^ length (diffs rest_l)) ≡ t → get_or vals i nan ≡ table (take n C) values (corner_at (Between lower frac ∷ rest_l) i)
           half true u =
-              let l : i < 2 ^ length (diffs rest-l) = ltb-true i (2 ^ length (diffs rest-l)) u in
-              (v i l).0 ∙ ap (table (take n C) values) (sym (low-corner rest-l lower frac i l))
+              let l : i < 2 ^ length (diffs rest_l) = ltb-true i (2 ^ length (diffs rest_l)) u in
+              (v i l).0 ∙ ap (table (take n C) values) (sym (low_corner rest_l lower frac i l))
           half false u =
-              let ge : 2 ^ length (diffs rest-l) ≤ i = ltb-false i (2 ^ length (diffs rest-l)) u in
-              let below : i - 2 ^ length (diffs rest-l) < 2 ^ length (diffs rest-l) = omega (arith, b, power-suc (length (diffs rest-l)), ge) in
-              let is : i - 2 ^ length (diffs rest-l) + 2 ^ length (diffs rest-l) ≡ i = omega (arith, ge) in
-              subst (λ (k : ℕ). get_or vals k nan ≡ table (take n C) values (cornerAt (Between lower frac ∷ rest-l) k)) is
-              ((v (i - 2 ^ length (diffs rest-l)) below).1 ∙ ap (table (take n C) values) (sym (high-corner rest-l lower frac (i - 2 ^ length (diffs rest-l)) below)))
+              let ge : 2 ^ length (diffs rest_l) ≤ i = ltb-false i (2 ^ length (diffs rest_l)) u in
+              let below : i - 2 ^ length (diffs rest_l) < 2 ^ length (diffs rest_l) = omega (arith, b, power_suc (length (diffs rest_l)), ge) in
+              let is : i - 2 ^ length (diffs rest_l) + 2 ^ length (diffs rest_l) ≡ i = omega (arith, ge) in
+              subst (λ (k : ℕ). get_or vals k nan ≡ table (take n C) values (corner_at (Between lower frac ∷ rest_l) k)) is
+              ((v (i - 2 ^ length (diffs rest_l)) below).1 ∙ ap (table (take n C) values) (sym (high_corner rest_l lower frac (i - 2 ^ length (diffs rest_l)) below)))
 
       -- the values read under the two nodes of the first axis fold to the rule
       pub folded : (vals : List Float)
-          → ((i : ℕ) → i < 2 ^ length (diffs rest-l) → (get_or vals i nan ≡ table (take n C) values (locationIndex p ∷ cornerAt rest-l i)) × (get_or vals (i + 2 ^ length (diffs rest-l)) nan ≡ table (take n C) values (upperOf p ∷ cornerAt rest-l i)))
+          → ((i : ℕ) → i < 2 ^ length (diffs rest_l) → (get_or vals i nan ≡ table (take n C) values (location_index p ∷ corner_at rest_l i)) × (get_or vals (i + 2 ^ length (diffs rest_l)) nan ≡ table (take n C) values (upper_of p ∷ corner_at rest_l i)))
           → butterfly (diffs (take n ls)) vals ≡ linear (take n ls) (table (take n C) values)
       folded vals v =
-          subst (λ (ps : List AxisLocation). butterfly (diffs ps) vals ≡ linear ps (table (take n C) values)) (sym (first-l ∙ ap (λ (x : AxisLocation). x ∷ rest-l) e))
-          (butterfly-same (diffs (p ∷ rest-l)) vals (tabulate (2 ^ length (diffs (p ∷ rest-l))) (λ m. table (take n C) values (cornerAt (p ∷ rest-l) m)))
-          (λ i b. corner-value p vals v i b ∙ sym (get_d_tabulate (2 ^ length (diffs (p ∷ rest-l))) i (λ m. table (take n C) values (cornerAt (p ∷ rest-l) m)) nan b))
-          ∙ fold-linear (p ∷ rest-l) (table (take n C) values))
+          subst (λ (ps : List AxisLocation). butterfly (diffs ps) vals ≡ linear ps (table (take n C) values)) (sym (first_l ∙ ap (λ (x : AxisLocation). x ∷ rest_l) e))
+          (butterfly_same (diffs (p ∷ rest_l)) vals (tabulate (2 ^ length (diffs (p ∷ rest_l))) (λ m. table (take n C) values (corner_at (p ∷ rest_l) m)))
+          (λ i b. corner_value p vals v i b ∙ sym (get_d_tabulate (2 ^ length (diffs (p ∷ rest_l))) i (λ m. table (take n C) values (corner_at (p ∷ rest_l) m)) nan b))
+          ∙ fold_linear (p ∷ rest_l) (table (take n C) values))

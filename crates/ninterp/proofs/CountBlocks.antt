@@ -8,115 +8,115 @@ use borrow.Author.Tests.{lt-ltb, le-ltb}
 use lib.ListN.{length, take, drop, length-drop}
 use lib.Seq.{drop-drop}
 use lib.Ieee.{Float}
-use Rattle.answer.specs.Faults.{noFault}
-use Rattle.answer.proofs.Orders.{no-fault-number}
+use Rattle.answer.specs.Faults.{no_fault}
+use Rattle.answer.proofs.Orders.{no_fault_number}
 use Rattle.layout.specs.declared.Shape.{Shape}
-use Rattle.checks.specs.Numbers.{mostRecords}
-use Rattle.checks.proofs.lent.Rows.{limit-ahead}
+use Rattle.checks.specs.Numbers.{most_records}
+use Rattle.checks.proofs.lent.Rows.{limit_ahead}
 use Rattle.tally.specs.declared.Tally.{Tally}
 use Rattle.tally.specs.declared.Outcome.{Outcome}
-use Rattle.tally.specs.Tally.{tallied, countedOf}
-use Rattle.tally.specs.Counts.{countAll}
+use Rattle.tally.specs.Tally.{tallied, counted_of}
+use Rattle.tally.specs.Counts.{count_all}
 use Rattle.tally.proofs.Steps.{counts-on}
 use Rattle.ninterp.specs.declared.records.count.BlockTally.{BlockTally}
-use Rattle.ninterp.specs.Records.{recordSize}
-use Rattle.ninterp.specs.Coverage.{recordsIn}
-use Rattle.ninterp.specs.Counting.{outcomeOf, wholeRecords, blockCount, blockTally}
-use Rattle.ninterp.proofs.RecordsIn.{records-more}
+use Rattle.ninterp.specs.Records.{record_size}
+use Rattle.ninterp.specs.Coverage.{records_in}
+use Rattle.ninterp.specs.Counting.{outcome_of, whole_records, block_count, block_tally}
+use Rattle.ninterp.proofs.RecordsIn.{records_more}
 
 -- ---- how many records there are, and which
 module _ (size : ℕ) (input : List ℕ) where
-  count_most : (m : ℕ) → m ≡ 0 → wholeRecords size m input ≡ 0
-  unfolding wholeRecords
+  count_most : (m : ℕ) → m ≡ 0 → whole_records size m input ≡ 0
+  unfolding whole_records
   count_most m e = rw e
 
-  count-short : (m : ℕ) → length input < size → wholeRecords size m input ≡ 0
-  unfolding wholeRecords
-  count-short zero h = refl
-  count-short (suc m) h = rw (lt-ltb (length input) size h)
+  count_short : (m : ℕ) → length input < size → whole_records size m input ≡ 0
+  unfolding whole_records
+  count_short zero h = refl
+  count_short (suc m) h = rw (lt-ltb (length input) size h)
 
-  count-more : (m : ℕ) → size ≤ length input → wholeRecords size (suc m) input ≡ suc (wholeRecords size m (drop size input))
-  unfolding wholeRecords
+  count-more : (m : ℕ) → size ≤ length input → whole_records size (suc m) input ≡ suc (whole_records size m (drop size input))
+  unfolding whole_records
   count-more m h = rw (le-ltb (length input) size h)
 
 -- a record counted ahead of the limit is one more
-pub counted-one : (t : Tally) (o : Outcome) → t.records < mostRecords → (countedOf t o).tally.records ≡ t.records + 1
+pub counted_one : (t : Tally) (o : Outcome) → t.records < most_records → (counted_of t o).tally.records ≡ t.records + 1
 unfolding tallied
-counted-one t o h = sym (ap (λ (u : Tally). u.records) (counts-on t o noFault (limit-ahead t.records h) (tallied t o) no-fault-number refl))
+counted_one t o h = sym (ap (λ (u : Tally). u.records) (counts-on t o no_fault (limit_ahead t.records h) (tallied t o) no_fault_number refl))
 
 -- ---- a block
 module _ (s : Shape) (nodes values : List Float) where
   abbrev outcome : List ℕ → Outcome
-  outcome = outcomeOf s nodes values
+  outcome = outcome_of s nodes values
 
   abbrev counted : Tally → ℕ → List ℕ → BlockTally
-  counted t k input = record { tally = countAll t (map outcome (recordsIn (recordSize s) k input)); used = k * recordSize s }
+  counted t k input = record { tally = count_all t (map outcome (records_in (record_size s) k input)); used = k * record_size s }
 
   -- no record may still be counted
-  block-end : (t : Tally) (input : List ℕ) → blockCount t s input ≡ 0 → blockTally t s nodes values input ≡ record { tally = t; used = 0 }
-  unfolding blockTally countAll recordsIn
-  block-end t input e = ap (λ (k : ℕ). counted t k input) e ∙ ap (λ (n : ℕ). record { tally = t; used = n }) (zero-mul (recordSize s))
+  block_end : (t : Tally) (input : List ℕ) → block_count t s input ≡ 0 → block_tally t s nodes values input ≡ record { tally = t; used = 0 }
+  unfolding block_tally count_all records_in
+  block_end t input e = ap (λ (k : ℕ). counted t k input) e ∙ ap (λ (n : ℕ). record { tally = t; used = n }) (zero-mul (record_size s))
 
-  pub counting-none : (t : Tally) (input : List ℕ) → length input < recordSize s → record { tally = t; used = 0 } ≡ blockTally t s nodes values input
-  counting-none t input h = sym (block-end t input (count-short (recordSize s) input (mostRecords - t.records) h))
+  pub counting_none : (t : Tally) (input : List ℕ) → length input < record_size s → record { tally = t; used = 0 } ≡ block_tally t s nodes values input
+  counting_none t input h = sym (block_end t input (count_short (record_size s) input (most_records - t.records) h))
 
   -- a whole record is in front
-  module _ (t u : Tally) (input : List ℕ) (h : t.records < mostRecords) (l : recordSize s ≤ length input)
-      (e : u ≡ (countedOf t (outcomeOf s nodes values (take (recordSize s) input))).tally) where
-    count_next : blockCount t s input ≡ suc (blockCount u s (drop (recordSize s) input))
+  module _ (t u : Tally) (input : List ℕ) (h : t.records < most_records) (l : record_size s ≤ length input)
+      (e : u ≡ (counted_of t (outcome_of s nodes values (take (record_size s) input))).tally) where
+    count_next : block_count t s input ≡ suc (block_count u s (drop (record_size s) input))
     count_next =
-        ap (λ (m : ℕ). wholeRecords (recordSize s) m input) left
-        ∙ count-more (recordSize s) input (mostRecords - u.records) l
+        ap (λ (m : ℕ). whole_records (record_size s) m input) left
+        ∙ count-more (record_size s) input (most_records - u.records) l
       where
         one : u.records ≡ t.records + 1
-        one = ap (λ (v : Tally). v.records) e ∙ counted-one t (outcome (take (recordSize s) input)) h
+        one = ap (λ (v : Tally). v.records) e ∙ counted_one t (outcome (take (record_size s) input)) h
 
-        left : mostRecords - t.records ≡ suc (mostRecords - u.records)
+        left : most_records - t.records ≡ suc (most_records - u.records)
         left = omega (arith, one, h)
 
-    block-next : blockTally t s nodes values input
-        ≡ record { tally = (blockTally u s nodes values (drop (recordSize s) input)).tally; used = recordSize s + (blockTally u s nodes values (drop (recordSize s) input)).used }
-    unfolding blockTally countAll
-    block-next =
+    block_next : block_tally t s nodes values input
+        ≡ record { tally = (block_tally u s nodes values (drop (record_size s) input)).tally; used = record_size s + (block_tally u s nodes values (drop (record_size s) input)).used }
+    unfolding block_tally count_all
+    block_next =
         ap (λ (k : ℕ). counted t k input) count_next
-        ∙ ap₂ (λ (v : Tally) (n : ℕ). record { tally = v; used = n }) all (omega (arith, suc-mul more (recordSize s)))
+        ∙ ap₂ (λ (v : Tally) (n : ℕ). record { tally = v; used = n }) all (omega (arith, suc-mul more (record_size s)))
       where
         more : ℕ
-        more = blockCount u s (drop (recordSize s) input)
+        more = block_count u s (drop (record_size s) input)
 
-        all : countAll t (map outcome (recordsIn (recordSize s) (suc more) input)) ≡ countAll u (map outcome (recordsIn (recordSize s) more (drop (recordSize s) input)))
+        all : count_all t (map outcome (records_in (record_size s) (suc more) input)) ≡ count_all u (map outcome (records_in (record_size s) more (drop (record_size s) input)))
         all =
-            ap (λ (rs : List (List ℕ)). countAll t (map outcome rs)) (records-more (recordSize s) more input (omega (arith, l)))
-            ∙ ap (λ (v : Tally). countAll v (map outcome (recordsIn (recordSize s) more (drop (recordSize s) input)))) (sym e)
+            ap (λ (rs : List (List ℕ)). count_all t (map outcome rs)) (records_more (record_size s) more input (omega (arith, l)))
+            ∙ ap (λ (v : Tally). count_all v (map outcome (records_in (record_size s) more (drop (record_size s) input)))) (sym e)
 
 -- ---- the loop: u is the tally after the records before `at`
 pub record Counting (s : Shape) (nodes values : List Float) (t : Tally) (input : List ℕ) (u : Tally) (at : ℕ) : Type 0 where
   pub whole : at ≤ length input
-  pub same : record { tally = (blockTally u s nodes values (drop at input)).tally; used = at + (blockTally u s nodes values (drop at input)).used } ≡ blockTally t s nodes values input
+  pub same : record { tally = (block_tally u s nodes values (drop at input)).tally; used = at + (block_tally u s nodes values (drop at input)).used } ≡ block_tally t s nodes values input
 
 module _ (s : Shape) (nodes values : List Float) (t : Tally) (input : List ℕ) where
-  pub counting-begin : Counting s nodes values t input t 0
-  counting-begin = record {
+  pub counting_begin : Counting s nodes values t input t 0
+  counting_begin = record {
     whole = omega arith;
-    same = ap (λ (n : ℕ). record { tally = (blockTally t s nodes values input).tally; used = n }) (zero-add (blockTally t s nodes values input).used);
+    same = ap (λ (n : ℕ). record { tally = (block_tally t s nodes values input).tally; used = n }) (zero-add (block_tally t s nodes values input).used);
   }
 
-  module _ (size : ℕ) (e : size ≡ recordSize s) (u : Tally) (at : ℕ) (g : Counting s nodes values t input u at) where
-    stops : blockCount u s (drop at input) ≡ 0 → record { tally = u; used = at } ≡ blockTally t s nodes values input
+  module _ (size : ℕ) (e : size ≡ record_size s) (u : Tally) (at : ℕ) (g : Counting s nodes values t input u at) where
+    stops : block_count u s (drop at input) ≡ 0 → record { tally = u; used = at } ≡ block_tally t s nodes values input
     stops z =
         ap (λ (n : ℕ). record { tally = u; used = n }) (omega arith)
-        ∙ sym (ap (λ (b : BlockTally). record { tally = b.tally; used = at + b.used }) (block-end s nodes values u (drop at input) z))
+        ∙ sym (ap (λ (b : BlockTally). record { tally = b.tally; used = at + b.used }) (block_end s nodes values u (drop at input) z))
         ∙ g.same
 
-    pub counting-most : mostRecords ≤ u.records → record { tally = u; used = at } ≡ blockTally t s nodes values input
-    counting-most h = stops (count_most (recordSize s) (drop at input) (mostRecords - u.records) (omega (arith, h)))
+    pub counting_most : most_records ≤ u.records → record { tally = u; used = at } ≡ block_tally t s nodes values input
+    counting_most h = stops (count_most (record_size s) (drop at input) (most_records - u.records) (omega (arith, h)))
 
-    pub counting-short : length input - at < size → record { tally = u; used = at } ≡ blockTally t s nodes values input
-    counting-short h = stops (count-short (recordSize s) (drop at input) (mostRecords - u.records) (omega (arith, h, e, length-drop at input)))
+    pub counting_short : length input - at < size → record { tally = u; used = at } ≡ block_tally t s nodes values input
+    counting_short h = stops (count_short (record_size s) (drop at input) (most_records - u.records) (omega (arith, h, e, length-drop at input)))
 
-    pub counting-again : (v : Tally) → u.records < mostRecords → size ≤ length input - at
-        → v ≡ (countedOf u (outcomeOf s nodes values (take (at + size - at) (drop at input)))).tally → Counting s nodes values t input v (at + size)
-    counting-again v h l q = record {
+    pub counting_again : (v : Tally) → u.records < most_records → size ≤ length input - at
+        → v ≡ (counted_of u (outcome_of s nodes values (take (at + size - at) (drop at input)))).tally → Counting s nodes values t input v (at + size)
+    counting_again v h l q = record {
       whole = omega (arith, l, g.whole);
       same =
           ap (λ (n : ℕ). record { tally = rest.tally; used = n }) (omega (arith, e))
@@ -125,16 +125,16 @@ module _ (s : Shape) (nodes values : List Float) (t : Tally) (input : List ℕ) 
     }
       where
         rest : BlockTally
-        rest = blockTally v s nodes values (drop (at + size) input)
+        rest = block_tally v s nodes values (drop (at + size) input)
 
-        here : at + size - at ≡ recordSize s
+        here : at + size - at ≡ record_size s
         here = omega (arith, e)
 
-        past : drop (recordSize s) (drop at input) ≡ drop (at + size) input
-        past = drop-drop (recordSize s) at input ∙ ap (λ (n : ℕ). drop (at + n) input) (sym e)
+        past : drop (record_size s) (drop at input) ≡ drop (at + size) input
+        past = drop-drop (record_size s) at input ∙ ap (λ (n : ℕ). drop (at + n) input) (sym e)
 
-        step : blockTally u s nodes values (drop at input) ≡ record { tally = rest.tally; used = recordSize s + rest.used }
+        step : block_tally u s nodes values (drop at input) ≡ record { tally = rest.tally; used = record_size s + rest.used }
         step =
-            block-next s nodes values u v (drop at input) h (omega (arith, e, l, length-drop at input))
-            (q ∙ ap (λ (n : ℕ). (countedOf u (outcomeOf s nodes values (take n (drop at input)))).tally) here)
-            ∙ ap (λ (xs : List ℕ). record { tally = (blockTally v s nodes values xs).tally; used = recordSize s + (blockTally v s nodes values xs).used }) past
+            block_next s nodes values u v (drop at input) h (omega (arith, e, l, length-drop at input))
+            (q ∙ ap (λ (n : ℕ). (counted_of u (outcome_of s nodes values (take n (drop at input)))).tally) here)
+            ∙ ap (λ (xs : List ℕ). record { tally = (block_tally v s nodes values xs).tally; used = record_size s + (block_tally v s nodes values xs).used }) past

@@ -7,92 +7,92 @@ use lib.Ieee.{Float}
 use Rattle.answer.specs.Faults.{refusal}
 use Rattle.answer.specs.Answer.{refused, answered}
 use Rattle.answer.specs.declared.Answer.{Answer}
-use Rattle.answer.proofs.Numbers.{when-upto, or-upto, first-upto, then-upto}
+use Rattle.answer.proofs.Numbers.{when_upto, or_upto, first_upto, then_upto}
 use Rattle.answer.proofs.Tests.{either}
 use Rattle.layout.specs.declared.Shape.{Shape}
-use Rattle.checks.specs.Numbers.{axesCountFault, countFault, productFault, lengthFault, finiteFault, riseFault, nodeFault, nodesFault, axesFault, valueFault, valuesFault, gapFault, uniformFault, axesUniformFault, directionFault, directionsFault, readingFault, readingsFault, rangeFault, rangesFault, resultFault}
-use Rattle.checks.specs.Shapes.{shapeFault, frameFault}
-use Rattle.orders.specs.Orders.{lookupFault, stepFault, linearUniformFault}
+use Rattle.checks.specs.Numbers.{axes_count_fault, count_fault, product_fault, length_fault, finite_fault, rise_fault, node_fault, nodes_fault, axes_fault, value_fault, values_fault, gap_fault, uniform_fault, axes_uniform_fault, direction_fault, directions_fault, reading_fault, readings_fault, range_fault, ranges_fault, result_fault}
+use Rattle.checks.specs.Shapes.{shape_fault, frame_fault}
+use Rattle.orders.specs.Orders.{lookup_fault, step_fault, linear_uniform_fault}
 use Rattle.blend.specs.Blend.{computed}
-use Rattle.ninterp.specs.Tables.{nearestAnswer, stepAnswer}
-use Rattle.ninterp.specs.Linears.{linearAnswer, linearUniformAnswer}
-use Rattle.ninterp.specs.Records.{all_of, kindAnswer, recordFault, recordAnswer}
+use Rattle.ninterp.specs.Tables.{nearest_answer, step_answer}
+use Rattle.ninterp.specs.Linears.{linear_answer, linear_uniform_answer}
+use Rattle.ninterp.specs.Records.{all_of, kind_answer, record_fault, record_answer}
 
-ruleset upto = (or-upto, when-upto, first-upto, lit≤)
+ruleset upto = (or_upto, when_upto, first_upto, lit≤)
 
 -- ---- the rows
-frame-known : (s : Shape) (nodes values : ℕ) → (frameFault s nodes values).number ≤ 12
-unfolding frameFault shapeFault axesCountFault countFault productFault lengthFault refusal
-frame-known s nodes values = search upto depth 9
+frame_known : (s : Shape) (nodes values : ℕ) → (frame_fault s nodes values).number ≤ 12
+unfolding frame_fault shape_fault axes_count_fault count_fault product_fault length_fault refusal
+frame_known s nodes values = search upto depth 9
 
-lent-known : (place wanted lent : ℕ) → (lengthFault place wanted lent).number ≤ 12
-unfolding lengthFault refusal
-lent-known place wanted lent = search upto
+lent_known : (place wanted lent : ℕ) → (length_fault place wanted lent).number ≤ 12
+unfolding length_fault refusal
+lent_known place wanted lent = search upto
 
-axes-known : (counts : List ℕ) (nodes : List Float) → (axesFault counts nodes).number ≤ 12
-unfolding axesFault nodesFault nodeFault finiteFault riseFault refusal
-axes-known counts nodes = search upto depth 9
+axes_known : (counts : List ℕ) (nodes : List Float) → (axes_fault counts nodes).number ≤ 12
+unfolding axes_fault nodes_fault node_fault finite_fault rise_fault refusal
+axes_known counts nodes = search upto depth 9
 
-values-known : (values : List Float) → (valuesFault values).number ≤ 12
-unfolding valuesFault valueFault refusal
-values-known values = search upto
+values_known : (values : List Float) → (values_fault values).number ≤ 12
+unfolding values_fault value_fault refusal
+values_known values = search upto
 
-uniform-known : (counts : List ℕ) (nodes : List Float) → (axesUniformFault counts nodes).number ≤ 12
-unfolding axesUniformFault uniformFault gapFault refusal
-uniform-known counts nodes = search upto
+uniform_known : (counts : List ℕ) (nodes : List Float) → (axes_uniform_fault counts nodes).number ≤ 12
+unfolding axes_uniform_fault uniform_fault gap_fault refusal
+uniform_known counts nodes = search upto
 
-directions-known : (directions : List ℕ) → (directionsFault directions).number ≤ 12
-unfolding directionsFault directionFault refusal
-directions-known directions = search upto
+directions_known : (directions : List ℕ) → (directions_fault directions).number ≤ 12
+unfolding directions_fault direction_fault refusal
+directions_known directions = search upto
 
-readings-known : (readings : List Float) → (readingsFault readings).number ≤ 12
-unfolding readingsFault readingFault refusal
-readings-known readings = search upto
+readings_known : (readings : List Float) → (readings_fault readings).number ≤ 12
+unfolding readings_fault reading_fault refusal
+readings_known readings = search upto
 
-ranges-known : (counts : List ℕ) (nodes readings : List Float) → (rangesFault counts nodes readings).number ≤ 12
-unfolding rangesFault rangeFault refusal
-ranges-known counts nodes readings = search upto
+ranges_known : (counts : List ℕ) (nodes readings : List Float) → (ranges_fault counts nodes readings).number ≤ 12
+unfolding ranges_fault range_fault refusal
+ranges_known counts nodes readings = search upto
 
-ruleset rows = (or-upto, frame-known, lent-known, axes-known, values-known, uniform-known, directions-known, readings-known, ranges-known)
+ruleset rows = (or_upto, frame_known, lent_known, axes_known, values_known, uniform_known, directions_known, readings_known, ranges_known)
 
 -- ---- the lookups
-computed-known : (x : Float) → (computed x).number ≤ 12
-unfolding computed resultFault answered refusal
-computed-known x = search (upto, then-upto)
+computed_known : (x : Float) → (computed x).number ≤ 12
+unfolding computed result_fault answered refusal
+computed_known x = search (upto, then_upto)
 
 module _ (s : Shape) (nodes values readings : List Float) where
-  linear-known : (linearAnswer s nodes values readings).number ≤ 12
-  unfolding linearAnswer lookupFault
-  linear-known = search (rows, then-upto, computed-known) depth 9
+  linear_known : (linear_answer s nodes values readings).number ≤ 12
+  unfolding linear_answer lookup_fault
+  linear_known = search (rows, then_upto, computed_known) depth 9
 
-  linear-uniform-known : (linearUniformAnswer s nodes values readings).number ≤ 12
-  unfolding linearUniformAnswer linearUniformFault
-  linear-uniform-known = search (rows, then-upto, computed-known) depth 9
+  linear_uniform_known : (linear_uniform_answer s nodes values readings).number ≤ 12
+  unfolding linear_uniform_answer linear_uniform_fault
+  linear_uniform_known = search (rows, then_upto, computed_known) depth 9
 
-  nearest-known : (nearestAnswer s nodes values readings).number ≤ 12
-  unfolding nearestAnswer lookupFault answered
-  nearest-known = search (rows, then-upto, lit≤) depth 9
+  nearest_known : (nearest_answer s nodes values readings).number ≤ 12
+  unfolding nearest_answer lookup_fault answered
+  nearest_known = search (rows, then_upto, lit≤) depth 9
 
-  step-known : (directions : List ℕ) → (stepAnswer s nodes values readings directions).number ≤ 12
-  unfolding stepAnswer stepFault answered
-  step-known directions = search (rows, then-upto, lit≤) depth 10
+  step_known : (directions : List ℕ) → (step_answer s nodes values readings directions).number ≤ 12
+  unfolding step_answer step_fault answered
+  step_known directions = search (rows, then_upto, lit≤) depth 10
 
-  kind-known : (kind : ℕ) → (kindAnswer kind s nodes values readings).number ≤ 12
-  unfolding kindAnswer refused refusal
-  kind-known kind =
-      either Known (eqb kind 0) _ _ linear-known
-      (either Known (eqb kind 1) _ _ linear-uniform-known
-      (either Known (eqb kind 2) _ _ nearest-known
-      (either Known (eqb kind 3) _ _ (step-known (all_of s 0))
-      (either Known (eqb kind 4) _ _ (step-known (all_of s 1)) (omega arith)))))
+  kind_known : (kind : ℕ) → (kind_answer kind s nodes values readings).number ≤ 12
+  unfolding kind_answer refused refusal
+  kind_known kind =
+      either Known (eqb kind 0) _ _ linear_known
+      (either Known (eqb kind 1) _ _ linear_uniform_known
+      (either Known (eqb kind 2) _ _ nearest_known
+      (either Known (eqb kind 3) _ _ (step_known (all_of s 0))
+      (either Known (eqb kind 4) _ _ (step_known (all_of s 1)) (omega arith)))))
     where
       Known : Answer → Type 0
       Known a = a.number ≤ 12
 
 -- ---- a record
-pub number-known : (s : Shape) (nodes values : List Float) (rec : List ℕ) → (recordAnswer s nodes values rec).number < 21
-unfolding recordAnswer recordFault
-number-known s nodes values rec = omega (arith, most)
+pub number_known : (s : Shape) (nodes values : List Float) (rec : List ℕ) → (record_answer s nodes values rec).number < 21
+unfolding record_answer record_fault
+number_known s nodes values rec = omega (arith, most)
   where
-    most : (recordAnswer s nodes values rec).number ≤ 12
-    most = search (rows, then-upto, kind-known) depth 9
+    most : (record_answer s nodes values rec).number ≤ 12
+    most = search (rows, then_upto, kind_known) depth 9

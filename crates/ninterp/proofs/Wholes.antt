@@ -3,25 +3,25 @@ use mathlib.Core.Path.{◌≡◌, refl, sym, ◌∙◌}
 use mathlib.Core.Bool.{Bool, true, false, not}
 use Prim.Native.Nat.{ℕ, ◌+◌, ◌-◌, ◌*◌, ◌/◌, ◌≤◌, ◌<◌}
 use native.Mathlib.Omega.{arith}
-use borrow.Author.Tests.{le-leb, lt-leb, leb-true, leb-false, not-true, not-false}
+use borrow.Author.Tests.{le-leb, lt-leb, leb-true, leb-false, not-true, not_false}
 use lib.Dec.{leb}
 use Rattle.layout.specs.declared.Shape.{Shape}
-use Rattle.ninterp.specs.Records.{recordSize}
+use Rattle.ninterp.specs.Records.{record_size}
 
-pub whole-none : (s : Shape) (len : ℕ) → len ≡ 0 → false ≡ leb (recordSize s) len
-whole-none s len e = sym (lt-leb (recordSize s) len (omega arith))
+pub whole_none : (s : Shape) (len : ℕ) → len ≡ 0 → false ≡ leb (record_size s) len
+whole_none s len e = sym (lt-leb (record_size s) len (omega arith))
 
-pub whole_by : (s : Shape) (len : ℕ) → (len ≡ 0 → ⊥) → leb s.axes ((len - 1) / 8) ≡ leb (recordSize s) len
-whole_by s len n = go (leb (recordSize s) len) (leb-true (recordSize s) len) (leb-false (recordSize s) len)
+pub whole_by : (s : Shape) (len : ℕ) → (len ≡ 0 → ⊥) → leb s.axes ((len - 1) / 8) ≡ leb (record_size s) len
+whole_by s len n = go (leb (record_size s) len) (leb-true (record_size s) len) (leb-false (record_size s) len)
   where
-    go : (t : Bool) → (t ≡ true → recordSize s ≤ len) → (t ≡ false → len < recordSize s) → leb s.axes ((len - 1) / 8) ≡ t
+    go : (t : Bool) → (t ≡ true → record_size s ≤ len) → (t ≡ false → len < record_size s) → leb s.axes ((len - 1) / 8) ≡ t
     go true h k = let l : 1 + 8 * s.axes ≤ len = h refl in le-leb s.axes ((len - 1) / 8) (omega arith)
     go false h k = let l : len < 1 + 8 * s.axes = k refl in lt-leb s.axes ((len - 1) / 8) (omega arith)
 
 -- b is what the code's test gave, and its opposite was tested
-module _ (s : Shape) (len : ℕ) (b : Bool) (e : b ≡ leb (recordSize s) len) where
-  pub whole-there : not b ≡ false → recordSize s ≤ len
-  whole-there h = leb-true (recordSize s) len (sym e ∙ not-false b h)
+module _ (s : Shape) (len : ℕ) (b : Bool) (e : b ≡ leb (record_size s) len) where
+  pub whole_there : not b ≡ false → record_size s ≤ len
+  whole_there h = leb-true (record_size s) len (sym e ∙ not_false b h)
 
-  pub whole-missing : not b ≡ true → len < recordSize s
-  whole-missing h = leb-false (recordSize s) len (sym e ∙ not-true b h)
+  pub whole_missing : not b ≡ true → len < record_size s
+  whole_missing h = leb-false (record_size s) len (sym e ∙ not-true b h)

@@ -2,13 +2,13 @@
 ghost use Rattle.std.specs.Prelude.{◌≡◌, true, ◌+◌, ◌*◌, ◌≤◌, leb, eqb, length};
 ghost use Rattle.answer.specs.Faults.{good, when, ◌or◌};
 ghost use Rattle.answer.specs.Answer.{◌then◌};
-ghost use Rattle.layout.specs.Shape.{countsOf};
-ghost use Rattle.checks.specs.Numbers.{lengthFault, readingsFault, rangesFault};
-ghost use Rattle.checks.specs.Shapes.{frameFault};
+ghost use Rattle.layout.specs.Shape.{counts_of};
+ghost use Rattle.checks.specs.Numbers.{length_fault, readings_fault, ranges_fault};
+ghost use Rattle.checks.specs.Shapes.{frame_fault};
 ghost use Rattle.layout.specs.Layout.{tabulate};
-ghost use Rattle.bytes.specs.Words.{float_at};
-ghost use Rattle.ninterp.specs.Scaffolding.{LookupJudged, Known, tableFault, kindFault, pick_of, kindFound};
-ghost use Rattle.ninterp.specs.Records.{recordSize, recordAnswer};
+ghost use Rattle.little_endian.specs.Words.{float_at};
+ghost use Rattle.ninterp.specs.Scaffolding.{LookupJudged, Known, table_fault, kind_fault, pick_of, kind_found};
+ghost use Rattle.ninterp.specs.Records.{record_size, record_answer};
 
 pub mod block;
 pub mod count;
@@ -23,7 +23,7 @@ use orders::stages;
 
 // 1 to 7.
 pub(crate) fn whole_table_fault(shape: Shape, nodes: &[f64], values: &[f64]) -> Fault
-    ensures { result ≡ tableFault shape nodes.now values.now }
+    ensures { result ≡ table_fault shape nodes.now values.now }
 {
     let fault = shapes::frame_fault(shape, nodes.len(), values.len());
     if fault.number != 0 {
@@ -45,7 +45,7 @@ fn uniform_row(kind: u8, uniform: Fault) -> Fault
 
 // 1 to 7 as they were found, 9 of an unknown kind, 8.
 fn kind_fault(kind: u8, table: Fault, uniform: Fault) -> Fault
-    ensures { result ≡ kindFault kind table uniform }
+    ensures { result ≡ kind_fault kind table uniform }
 {
     if table.number != 0 {
         return table;
@@ -68,7 +68,7 @@ fn pick_of(kind: u8) -> u8
 // What a known kind comes to where nothing was refused before 12.
 fn found(kind: u8, shape: Shape, nodes: &[f64], values: &[f64], point: &[f64]) -> Answer
     requires { LookupJudged shape nodes.now values.now point.now }
-    ensures { result ≡ kindFound kind shape nodes.now values.now point.now }
+    ensures { result ≡ kind_found kind shape nodes.now values.now point.now }
 {
     if kind < 2 {
         return corners::interpolated(kind == 1, shape, nodes, values, point);
@@ -79,11 +79,11 @@ fn found(kind: u8, shape: Shape, nodes: &[f64], values: &[f64], point: &[f64]) -
 
 // 10; 11; and what is found.
 fn point_answer(kind: u8, shape: Shape, nodes: &[f64], values: &[f64], point: &[f64]) -> Answer
-    requires values_value { good (tableFault shape nodes.now values.now) ≡ true }
+    requires values_value { good (table_fault shape nodes.now values.now) ≡ true }
     requires point_len { length point.now ≡ shape.axes }
-    ensures { result ≡ ((readingsFault point.now
-        or rangesFault (countsOf shape) nodes.now point.now)
-        then kindFound kind shape nodes.now values.now point.now) }
+    ensures { result ≡ ((readings_fault point.now
+        or ranges_fault (counts_of shape) nodes.now point.now)
+        then kind_found kind shape nodes.now values.now point.now) }
 {
     let fault = stages::inside_fault(shape, nodes, point);
     if fault.number != 0 {
@@ -96,7 +96,7 @@ fn point_answer(kind: u8, shape: Shape, nodes: &[f64], values: &[f64], point: &[
 
 // Whether so many bytes hold a whole record.
 pub(crate) fn is_whole(shape: Shape, len: usize) -> bool
-    ensures { result ≡ leb (recordSize shape) len }
+    ensures { result ≡ leb (record_size shape) len }
 {
     if len == 0 {
         return false;
@@ -109,10 +109,10 @@ pub(crate) fn is_whole(shape: Shape, len: usize) -> bool
 fn readings_of(rec: &[u8]) -> [f64; 4]
     ensures { result ≡ tabulate 4 (λ a. float_at rec.now (1 + 8 * a)) }
 {
-    let first = bytes::float(rec, 1);
-    let second = bytes::float(rec, 9);
-    let third = bytes::float(rec, 17);
-    let fourth = bytes::float(rec, 25);
+    let first = little_endian::float(rec, 1);
+    let second = little_endian::float(rec, 9);
+    let third = little_endian::float(rec, 17);
+    let fourth = little_endian::float(rec, 25);
     [first, second, third, fourth]
 }
 
@@ -126,8 +126,8 @@ pub(crate) fn whole_answer(
     rec: &[u8],
 ) -> Answer
     requires known { Known shape nodes.now values.now table uniform }
-    requires rec_len { length rec.now ≡ recordSize shape }
-    ensures { result ≡ recordAnswer shape nodes.now values.now rec.now }
+    requires rec_len { length rec.now ≡ record_size shape }
+    ensures { result ≡ record_answer shape nodes.now values.now rec.now }
 {
     let kind = rec[0];
     let fault = kind_fault(kind, table, uniform);
@@ -141,8 +141,8 @@ pub(crate) fn whole_answer(
 
 // 1, 2, 3: of the shape, the nodes, the values and the record.
 fn length_row(shape: Shape, nodes: &[f64], values: &[f64], rec: &[u8]) -> Fault
-    ensures { result ≡ (frameFault shape (length nodes.now) (length values.now)
-        or lengthFault 2 (recordSize shape) (length rec.now)) }
+    ensures { result ≡ (frame_fault shape (length nodes.now) (length values.now)
+        or length_fault 2 (record_size shape) (length rec.now)) }
 {
     let fault = shapes::frame_fault(shape, nodes.len(), values.len());
     if fault.number != 0 {
@@ -153,7 +153,7 @@ fn length_row(shape: Shape, nodes: &[f64], values: &[f64], rec: &[u8]) -> Fault
 
 // What a record is answered, in a table that is judged for it alone.
 pub fn record_answer(shape: Shape, nodes: &[f64], values: &[f64], rec: &[u8]) -> Answer
-    ensures { result ≡ recordAnswer shape nodes.now values.now rec.now }
+    ensures { result ≡ record_answer shape nodes.now values.now rec.now }
 {
     let fault = length_row(shape, nodes, values, rec);
     if fault.number != 0 {

@@ -2,10 +2,10 @@
 // fault at two places.
 ghost use Rattle.std.specs.Prelude.{◌≡◌, length};
 ghost use Rattle.answer.specs.Faults.{◌or◌};
-ghost use Rattle.layout.specs.Shape.{countsOf};
-ghost use Rattle.checks.specs.Shapes.{frameFault};
-ghost use Rattle.checks.specs.Numbers.{axesFault, valuesFault, readingsFault, rangesFault};
-ghost use Rattle.orders.specs.Orders.{lookupFault, stepFault, linearUniformFault};
+ghost use Rattle.layout.specs.Shape.{counts_of};
+ghost use Rattle.checks.specs.Shapes.{frame_fault};
+ghost use Rattle.checks.specs.Numbers.{axes_fault, values_fault, readings_fault, ranges_fault};
+ghost use Rattle.orders.specs.Orders.{lookup_fault, step_fault, linear_uniform_fault};
 
 use crate::stages;
 use answer::Fault;
@@ -21,9 +21,9 @@ fn ordered(
     lent: Fault,
     own: Fault,
 ) -> Fault
-    ensures { result ≡ (frameFault shape (length nodes.now) (length values.now) or lent
-        or axesFault (countsOf shape) nodes.now or valuesFault values.now or own
-        or readingsFault point.now or rangesFault (countsOf shape) nodes.now point.now) }
+    ensures { result ≡ (frame_fault shape (length nodes.now) (length values.now) or lent
+        or axes_fault (counts_of shape) nodes.now or values_fault values.now or own
+        or readings_fault point.now or ranges_fault (counts_of shape) nodes.now point.now) }
 {
     let fault = answer::or(stages::table_fault(shape, nodes, values, lent), own);
     if fault.number != 0 {
@@ -34,7 +34,7 @@ fn ordered(
 
 // 1, 2, 3; 4, 5, 6; 7; 10; 11.
 pub fn lookup_fault(shape: Shape, nodes: &[f64], values: &[f64], point: &[f64]) -> Fault
-    ensures { result ≡ lookupFault shape nodes.now values.now point.now }
+    ensures { result ≡ lookup_fault shape nodes.now values.now point.now }
 {
     let lent = lent::length_fault(2, shape.axes, point.len());
     ordered(shape, nodes, values, point, lent, answer::no_fault())
@@ -48,7 +48,7 @@ pub fn step_fault(
     point: &[f64],
     directions: &[u8],
 ) -> Fault
-    ensures { result ≡ stepFault shape nodes.now values.now point.now
+    ensures { result ≡ step_fault shape nodes.now values.now point.now
         directions.now }
 {
     let reading = lent::length_fault(2, shape.axes, point.len());
@@ -59,7 +59,7 @@ pub fn step_fault(
 
 // The same with 8 of all axes.
 pub fn linear_uniform_fault(shape: Shape, nodes: &[f64], values: &[f64], point: &[f64]) -> Fault
-    ensures { result ≡ linearUniformFault shape nodes.now values.now point.now }
+    ensures { result ≡ linear_uniform_fault shape nodes.now values.now point.now }
 {
     let lent = lent::length_fault(2, shape.axes, point.len());
     let own = table::axes_uniform_fault(shape, nodes);

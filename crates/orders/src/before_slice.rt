@@ -2,8 +2,8 @@
 // room.
 ghost use Rattle.std.specs.Prelude.{◌≡◌, not, ◌||◌, leb};
 ghost use Rattle.answer.specs.Faults.{refusal, when};
-ghost use Rattle.checks.specs.Numbers.{noAxisFault, notFirstFault};
-ghost use Rattle.orders.specs.Orders.{nearestFront, stepFront, linearFront, linearUniformFront};
+ghost use Rattle.checks.specs.Numbers.{no_axis_fault, not_first_fault};
+ghost use Rattle.orders.specs.Orders.{nearest_front, step_front, linear_front, linear_uniform_front};
 
 use crate::stages;
 use answer::Fault;
@@ -19,21 +19,21 @@ fn sliced_axis_fault(axes: usize, right: bool) -> Fault
 
 // 16: no second axis, or no such axis.
 fn no_axis_fault(axes: usize, axis: usize) -> Fault
-    ensures { result ≡ noAxisFault axes axis }
+    ensures { result ≡ no_axis_fault axes axis }
 {
     sliced_axis_fault(axes, axis < axes)
 }
 
 // 16 of the two linears: no second axis, or not the first.
 fn not_first_fault(axes: usize, axis: usize) -> Fault
-    ensures { result ≡ notFirstFault axes axis }
+    ensures { result ≡ not_first_fault axes axis }
 {
     sliced_axis_fault(axes, axis == 0)
 }
 
 // 1, 2, 3; 16; 4, 5, 6; 7.
 pub fn nearest_front(shape: Shape, nodes: &[f64], values: &[f64], axis: usize) -> Fault
-    ensures { result ≡ nearestFront shape nodes.now values.now axis }
+    ensures { result ≡ nearest_front shape nodes.now values.now axis }
 {
     stages::table_fault(shape, nodes, values, no_axis_fault(shape.axes, axis))
 }
@@ -46,7 +46,7 @@ pub fn step_front(
     directions: &[u8],
     axis: usize,
 ) -> Fault
-    ensures { result ≡ stepFront shape nodes.now values.now directions.now axis }
+    ensures { result ≡ step_front shape nodes.now values.now directions.now axis }
 {
     let lengths = lent::length_fault(3, shape.axes, directions.len());
     let lent = answer::or(lengths, no_axis_fault(shape.axes, axis));
@@ -56,14 +56,14 @@ pub fn step_front(
 
 // 1, 2, 3; 16 of the two linears; 4, 5, 6; 7.
 pub fn linear_front(shape: Shape, nodes: &[f64], values: &[f64], axis: usize) -> Fault
-    ensures { result ≡ linearFront shape nodes.now values.now axis }
+    ensures { result ≡ linear_front shape nodes.now values.now axis }
 {
     stages::table_fault(shape, nodes, values, not_first_fault(shape.axes, axis))
 }
 
 // The same with 8 of all axes.
 pub fn linear_uniform_front(shape: Shape, nodes: &[f64], values: &[f64], axis: usize) -> Fault
-    ensures { result ≡ linearUniformFront shape nodes.now values.now axis }
+    ensures { result ≡ linear_uniform_front shape nodes.now values.now axis }
 {
     let fault = linear_front(shape, nodes, values, axis);
     answer::or(fault, table::axes_uniform_fault(shape, nodes))

@@ -2,9 +2,9 @@
 // (10; 11). Each for every input.
 ghost use Rattle.std.specs.Prelude.{◌≡◌, length};
 ghost use Rattle.answer.specs.Faults.{◌or◌};
-ghost use Rattle.layout.specs.Shape.{countsOf};
-ghost use Rattle.checks.specs.Shapes.{frameFault};
-ghost use Rattle.checks.specs.Numbers.{axesFault, rangesFault, valuesFault, readingsFault};
+ghost use Rattle.layout.specs.Shape.{counts_of};
+ghost use Rattle.checks.specs.Shapes.{frame_fault};
+ghost use Rattle.checks.specs.Numbers.{axes_fault, ranges_fault, values_fault, readings_fault};
 
 use answer::Fault;
 use checks::{lists, shapes, table, values};
@@ -12,7 +12,7 @@ use layout::Shape;
 
 // 4, 5, 6; 7.
 pub fn stored_fault(shape: Shape, nodes: &[f64], values: &[f64]) -> Fault
-    ensures { result ≡ (axesFault (countsOf shape) nodes.now or valuesFault values.now) }
+    ensures { result ≡ (axes_fault (counts_of shape) nodes.now or values_fault values.now) }
 {
     let fault = table::axes_fault(shape, nodes);
     if fault.number != 0 {
@@ -23,8 +23,8 @@ pub fn stored_fault(shape: Shape, nodes: &[f64], values: &[f64]) -> Fault
 
 // 1, 2, 3; what is judged of the rest that is lent; 4, 5, 6; 7.
 pub(crate) fn table_fault(shape: Shape, nodes: &[f64], values: &[f64], lent: Fault) -> Fault
-    ensures { result ≡ (frameFault shape (length nodes.now) (length values.now) or lent
-        or axesFault (countsOf shape) nodes.now or valuesFault values.now) }
+    ensures { result ≡ (frame_fault shape (length nodes.now) (length values.now) or lent
+        or axes_fault (counts_of shape) nodes.now or values_fault values.now) }
 {
     let fault = answer::or(shapes::frame_fault(shape, nodes.len(), values.len()), lent);
     if fault.number != 0 {
@@ -35,8 +35,8 @@ pub(crate) fn table_fault(shape: Shape, nodes: &[f64], values: &[f64], lent: Fau
 
 // 10; 11.
 pub fn inside_fault(shape: Shape, nodes: &[f64], point: &[f64]) -> Fault
-    ensures { result ≡ (readingsFault point.now
-        or rangesFault (countsOf shape) nodes.now point.now) }
+    ensures { result ≡ (readings_fault point.now
+        or ranges_fault (counts_of shape) nodes.now point.now) }
 {
     let fault = lists::readings_fault(point);
     if fault.number != 0 {

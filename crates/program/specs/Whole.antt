@@ -4,17 +4,17 @@ use Rattle.std.specs.Prelude.{◌≡◌, true, false, ◌⊎◌, List, ◌++◌,
 use Rattle.answer.specs.Faults.{good}
 use Rattle.layout.specs.declared.Shape.{Shape}
 use Rattle.image.specs.Fields.{shape_of}
-use Rattle.image.specs.Image.{nodesIn, valuesIn}
-use Rattle.image.specs.Load.{loadFault}
+use Rattle.image.specs.Image.{nodes_in, values_in}
+use Rattle.image.specs.Load.{load_fault}
 use Rattle.program.specs.Run.{run_by}
 use Rattle.program.specs.declared.Counts.{Counts}
 
 -- the table of an image that no check refuses: the shape, the nodes and the values are the image's
 pub record TableOf (img : List ℕ) (shape : Shape) (nodes values : List Float) : Type 0 where
-  pub loads : good (loadFault img 256 4096) ≡ true
+  pub loads : good (load_fault img 256 4096) ≡ true
   pub shape_is : shape ≡ shape_of img
-  pub nodes-are : nodes ≡ nodesIn img
-  pub values-are : values ≡ valuesIn img
+  pub nodes_are : nodes ≡ nodes_in img
+  pub values_are : values ≡ values_in img
 
 -- A run of the program that prints such a text, and reads until the input ends or it has had enough: what follows an image, for some
 -- records of as many bytes as were read.
@@ -22,8 +22,8 @@ pub record Ran (text : List ℕ → List ℕ → List ℕ) (enough : ℕ) (img :
   pub records : List ℕ
   pub all_read : length records ≡ n.read
   -- where no write failed, as many bytes were printed as a run of the image and the records prints
-  pub all-printed : n.ok ≡ true → n.printed ≡ length (run_by text (img ++ records))
+  pub all_printed : n.ok ≡ true → n.printed ≡ length (run_by text (img ++ records))
   -- "A refused image prints one line and ends": nothing more is asked for
-  pub refused-ends : good (loadFault img 256 4096) ≡ false → n.asked + n.read ≡ 0
+  pub refused_ends : good (load_fault img 256 4096) ≡ false → n.asked + n.read ≡ 0
   -- "then records until input ends": where no write failed, fewer bytes came than were asked for, or enough of them did
-  pub input-ends : good (loadFault img 256 4096) ≡ true → n.ok ≡ true → (n.read < n.asked) ⊎ (enough ≤ n.read)
+  pub input_ends : good (load_fault img 256 4096) ≡ true → n.ok ≡ true → (n.read < n.asked) ⊎ (enough ≤ n.read)

@@ -2,9 +2,9 @@
 // read or printed.
 ghost use Rattle.std.specs.Prelude.{◌≡◌, true, ◌≤◌, length};
 ghost use Rattle.answer.specs.Faults.{good};
-ghost use Rattle.checks.specs.Shapes.{shapeFault};
-ghost use Rattle.lines.specs.Report.{reportMost, reportInto, reportEnd};
-ghost use Rattle.program.specs.Coverage.{coverageReport, coverageOf, reportOn, lastReport};
+ghost use Rattle.checks.specs.Shapes.{shape_fault};
+ghost use Rattle.lines.specs.Report.{report_most, report_into, report_end};
+ghost use Rattle.program.specs.Coverage.{coverage_report, coverage_of, report_on, last_report};
 ghost use Rattle.program.specs.Run.{Texted};
 ghost use Rattle.program.specs.Scaffolding.{Fronted, text_of};
 
@@ -18,8 +18,8 @@ use tally::Tally;
 
 // Puts the report of a tally at the front of a buffer that has room for any, else nothing, and gives how many bytes it wrote.
 pub fn put(shape: Shape, t: Tally, past: bool, out: &mut [u8]) -> usize
-    ensures value { (result ≡ reportEnd (reportOn shape t past) out.old)
-        × (out.new ≡ reportInto (reportOn shape t past) out.old) }
+    ensures value { (result ≡ report_end (report_on shape t past) out.old)
+        × (out.new ≡ report_into (report_on shape t past) out.old) }
     ensures upper_bound { result ≤ length out.old }
 {
     let counts = shape.counts;
@@ -37,9 +37,9 @@ pub fn finish(
     rest: &[u8],
     out: &mut [u8],
 ) -> usize
-    ensures value { (result ≡ reportEnd (lastReport t shape nodes.now values.now rest.now) out.old)
+    ensures value { (result ≡ report_end (last_report t shape nodes.now values.now rest.now) out.old)
         × (out.new
-        ≡ reportInto (lastReport t shape nodes.now values.now rest.now) out.old) }
+        ≡ report_into (last_report t shape nodes.now values.now rest.now) out.old) }
     ensures upper_bound { result ≤ length out.old }
 {
     let last = count::counted_rest(t, shape, nodes, values, rest);
@@ -56,10 +56,10 @@ fn put_records(
     records: &[u8],
     chunk: &mut [u8],
 ) -> usize
-    requires { (good (shapeFault shape) ≡ true) × (length chunk.old ≡ reportMost) }
-    ensures fronted { Fronted (coverageReport shape nodes.now values.now records.now)
+    requires { (good (shape_fault shape) ≡ true) × (length chunk.old ≡ report_most) }
+    ensures fronted { Fronted (coverage_report shape nodes.now values.now records.now)
         chunk.old chunk.new result }
-    ensures upper_bound { result ≤ reportMost }
+    ensures upper_bound { result ≤ report_most }
 {
     let done = count::count_block(tally::none_read(), shape, nodes, values, records);
     let used = done.used;
@@ -75,10 +75,10 @@ fn put_text(
     records: &[u8],
     chunk: &mut [u8],
 ) -> usize
-    requires { (loaded.number ≡ 0 → good (shapeFault shape) ≡ true) × (length chunk.old ≡ reportMost) }
-    ensures fronted { Fronted (text_of loaded (coverageReport shape nodes.now values.now records.now))
+    requires { (loaded.number ≡ 0 → good (shape_fault shape) ≡ true) × (length chunk.old ≡ report_most) }
+    ensures fronted { Fronted (text_of loaded (coverage_report shape nodes.now values.now records.now))
         chunk.old chunk.new result }
-    ensures upper_bound { result ≤ reportMost }
+    ensures upper_bound { result ≤ report_most }
 {
     if loaded.number != 0 {
         return lines::put_line(loaded, chunk, 0);
@@ -103,8 +103,8 @@ fn run_in(
     chunk: &mut [u8],
     out: &mut [u8],
 ) -> RunAnswer
-    requires { (length nodes.old ≡ 256) × ((length values.old ≡ 4096) × (length chunk.old ≡ reportMost)) }
-    ensures { Texted (coverageOf input.now) out.old out.new result }
+    requires { (length nodes.old ≡ 256) × ((length values.old ≡ 4096) × (length chunk.old ≡ report_most)) }
+    ensures { Texted (coverage_of input.now) out.old out.new result }
 {
     let loaded = front::load(input, nodes, values);
     let n = loaded.nodes;
@@ -123,7 +123,7 @@ fn run_in(
 
 // Puts what the program prints of an input at the front of an output, which may be longer.
 pub fn run(input: &[u8], out: &mut [u8]) -> RunAnswer
-    ensures { Texted (coverageOf input.now) out.old out.new result }
+    ensures { Texted (coverage_of input.now) out.old out.new result }
 {
     let mut nodes = [0.0f64; 256];
     let mut values = [0.0f64; 4096];

@@ -1,13 +1,13 @@
 // What the program does with the bytes of its input, of whatever table: where the image ends, whether to read
 // on, and the input's end.
 ghost use Rattle.std.specs.Prelude.{◌≡◌};
-ghost use Rattle.program.specs.Input.{imageSize, goesOn, endSize, endInto};
+ghost use Rattle.program.specs.Input.{image_size, goes_on, end_size, end_into};
 
 // How many bytes the image is to have, by what its first bytes state.
 pub fn image_size(head: &[u8]) -> usize
-    ensures { result ≡ imageSize head.now }
+    ensures { result ≡ image_size head.now }
 {
-    let stated = bytes::word(head, 4, 4) as usize;
+    let stated = little_endian::word(head, 4, 4) as usize;
     if stated < image::HEADER {
         return image::HEADER;
     }
@@ -19,7 +19,7 @@ pub fn image_size(head: &[u8]) -> usize
 
 // Whether to read on.
 pub fn goes_on(ok: bool, full: bool, left: usize, whole: bool) -> bool
-    ensures { result ≡ goesOn ok full left whole }
+    ensures { result ≡ goes_on ok full left whole }
 {
     if !ok {
         return false;
@@ -35,7 +35,7 @@ pub fn goes_on(ok: bool, full: bool, left: usize, whole: bool) -> bool
 
 // Puts what is printed at the input's end, where so many bytes are left and so many records may still come.
 pub fn finish(rest: usize, left: usize, out: &mut [u8]) -> usize
-    ensures { (result ≡ endSize rest left out.old) × (out.new ≡ endInto rest left out.old) }
+    ensures { (result ≡ end_size rest left out.old) × (out.new ≡ end_into rest left out.old) }
 {
     if left == 0 {
         return 0;

@@ -1,9 +1,9 @@
 // A refused image: its line is printed, and no records are read, whatever the program prints of records.
 ghost use Rattle.std.specs.Prelude.{◌≡◌, false, List, ℕ, ◌≤◌, length};
 ghost use Rattle.answer.specs.Faults.{good};
-ghost use Rattle.image.specs.Load.{loadFault};
+ghost use Rattle.image.specs.Load.{load_fault};
 ghost use Rattle.lines.specs.Line.{line_of, longest};
-ghost use Rattle.program.specs.Input.{imageIn};
+ghost use Rattle.program.specs.Input.{image_in};
 ghost use Rattle.program.specs.Run.{run_by};
 ghost use Rattle.program.specs.Whole.{Ran};
 
@@ -32,8 +32,8 @@ fn put_line(img: &[u8], answer: Answer, out: &mut [u8]) -> Printed
 // The run, with space for the nodes, the values and a line.
 fn refuse_in(img: &[u8], nodes: &mut [f64], values: &mut [f64], out: &mut [u8]) -> Counts
     requires { (length nodes.old ≡ 256) × ((length values.old ≡ 4096) × (longest ≤ length out.old)) }
-    ensures { imageIn img.now ≡ img.now
-        → good (loadFault img.now 256 4096) ≡ false
+    ensures { image_in img.now ≡ img.now
+        → good (load_fault img.now 256 4096) ≡ false
         → (by : List ℕ → List ℕ → List ℕ) (enough : ℕ) → Ran by enough img.now result }
 {
     let loaded = front::load(img, nodes, values);
@@ -57,8 +57,8 @@ fn refuse_in(img: &[u8], nodes: &mut [f64], values: &mut [f64], out: &mut [u8]) 
 
 // Loads an image, and where it is refused prints its line: a whole run of it, of whatever program.
 pub fn refuse(img: &[u8]) -> Counts
-    ensures { imageIn img.now ≡ img.now
-        → good (loadFault img.now 256 4096) ≡ false
+    ensures { image_in img.now ≡ img.now
+        → good (load_fault img.now 256 4096) ≡ false
         → (by : List ℕ → List ℕ → List ℕ) (enough : ℕ) → Ran by enough img.now result }
 {
     let mut nodes = [0.0f64; 256];

@@ -1,11 +1,11 @@
 // One whole run as a call: what the program prints of an input, put into an output. Nothing is read or printed.
 ghost use Rattle.std.specs.Prelude.{◌≡◌, ◌≤◌, length};
 ghost use Rattle.lines.specs.Line.{line_of, longest};
-ghost use Rattle.lines.specs.Stream.{linesFirst, lines_of, Block};
-ghost use Rattle.ninterp.specs.Records.{recordRule, recordSize};
-ghost use Rattle.program.specs.Scaffolding.{Placed, Fronted, end_of, roomAnswer, text_of};
+ghost use Rattle.lines.specs.Stream.{lines_first, lines_of, Block};
+ghost use Rattle.ninterp.specs.Records.{record_rule, record_size};
+ghost use Rattle.program.specs.Scaffolding.{Placed, Fronted, end_of, room_answer, text_of};
 ghost use Rattle.program.specs.Run.{run_of, Texted};
-ghost use Rattle.checks.specs.Numbers.{mostRecords};
+ghost use Rattle.checks.specs.Numbers.{most_records};
 
 use crate::{front, input};
 use answer::Answer;
@@ -56,9 +56,9 @@ fn put_chunk(
     out: &mut [u8],
     to: usize,
 ) -> Done
-    ensures block { Block (recordRule shape nodes.now values.now) most records.now
+    ensures block { Block (record_rule shape nodes.now values.now) most records.now
         chunk.old chunk.new result.count result.written }
-    ensures placed { Placed (linesFirst (recordRule shape nodes.now values.now) result.count records.now)
+    ensures placed { Placed (lines_first (record_rule shape nodes.now values.now) result.count records.now)
         out.old to out.new result.written }
 {
     let done = block::answer_block(shape, nodes, values, records, most, chunk);
@@ -77,8 +77,8 @@ fn put_records(
     chunk: &mut [u8],
     out: &mut [u8],
 ) -> usize
-    requires { (size ≡ recordSize shape) × (length chunk.old ≡ 4096) }
-    ensures { Fronted (lines_of (recordRule shape nodes.now values.now) mostRecords records.now)
+    requires { (size ≡ record_size shape) × (length chunk.old ≡ 4096) }
+    ensures { Fronted (lines_of (record_rule shape nodes.now values.now) most_records records.now)
         out.old out.new result }
 {
     let mut at: usize = 0;
@@ -114,7 +114,7 @@ fn put_text(
 ) -> usize
     requires { (shape.axes ≤ 4) × (length chunk.old ≡ 4096) }
     ensures { Fronted
-        (text_of loaded (lines_of (recordRule shape nodes.now values.now) mostRecords records.now))
+        (text_of loaded (lines_of (record_rule shape nodes.now values.now) most_records records.now))
         out.old out.new result }
 {
     if loaded.number != 0 {
@@ -133,7 +133,7 @@ fn put_text(
 
 // What is answered of a text of so many bytes, for which there is so much room.
 pub(crate) fn room_answer(need: usize, room: usize) -> RunAnswer
-    ensures { result ≡ roomAnswer need room }
+    ensures { result ≡ room_answer need room }
 {
     let fault = lent::room_fault(2, need, room);
     if fault.number != 0 {
@@ -160,7 +160,7 @@ fn give_text(
 ) -> RunAnswer
     requires { (shape.axes ≤ 4) × (length chunk.old ≡ 4096) }
     ensures { Texted
-        (text_of loaded (lines_of (recordRule shape nodes.now values.now) mostRecords records.now))
+        (text_of loaded (lines_of (record_rule shape nodes.now values.now) most_records records.now))
         out.old out.new result }
 {
     let need = put_text(loaded, shape, nodes, values, records, chunk, &mut out[..0]);

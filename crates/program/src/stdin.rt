@@ -1,7 +1,7 @@
 // Standard input: the table image, then blocks of records. How much of it is the image is worked out in `input`.
 ghost use Rattle.std.specs.Prelude.{◌≡◌, ◌≤◌, length, take};
 ghost use Rattle.lines.specs.Scaffolding.{Filled};
-ghost use Rattle.program.specs.Input.{imageIn};
+ghost use Rattle.program.specs.Input.{image_in};
 
 use crate::input;
 
@@ -25,7 +25,7 @@ fn read_rest(img: &mut [u8], size: usize) -> usize
 // Reads 40 bytes, then up to the stated length, and answers how many there are: all of them are the image. Reads nothing into a
 // space that is too short for a longest image.
 pub fn read_image(img: &mut [u8]) -> usize
-    ensures { (result ≤ length img.new) × (imageIn (take result img.new) ≡ take result img.new) }
+    ensures { (result ≤ length img.new) × (image_in (take result img.new) ≡ take result img.new) }
 {
     if img.len() < image::MOST_BYTES {
         return 0;

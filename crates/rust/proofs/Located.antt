@@ -30,5 +30,5 @@ lowers (Exact pos ∷ ps) = lowers ps
 lowers (Between lower frac ∷ ps) = lower ∷ lowers ps
 
 -- the whole of it; that it is `linear`, axis by axis, is `rust-linear` (blend/proofs/Bits.antt)
-unfoldable pub rustLinear : List AxisLocation → (List ℕ → Float) → Float
-rustLinear ps g = butterfly (diffs ps) (corners (lowers ps) (view ps g))
+unfoldable pub rust_linear : List AxisLocation → (List ℕ → Float) → Float
+rust_linear ps g = butterfly (diffs ps) (corners (lowers ps) (view ps g))

@@ -2,7 +2,7 @@
 -- The checker holds the code to it, and no promise cites it.
 use Rattle.std.specs.Prelude.{List, [], ◌∷◌, ℕ, ◌^◌, length, Float}
 use Rattle.layout.specs.Layout.{tabulate}
-use Rattle.rust.specs.Strategies.{reducedBy}
+use Rattle.rust.specs.Strategies.{reduced_by}
 use Rattle.rust.specs.Utils.{at}
 use Rattle.rust.specs.declared.AxisLocation.{AxisLocation}
 use Rattle.rust.specs.declared.AxisLocation.TheVariants.{Exact, Between}
@@ -11,7 +11,7 @@ use Rattle.rust.specs.declared.AxisLocation.TheVariants.{Exact, Between}
 
 -- one pass: the first half, which alone is read again
 unfoldable pub passed : Float → ℕ → List Float → List Float
-passed diff half vals = tabulate half (reducedBy diff half vals)
+passed diff half vals = tabulate half (reduced_by diff half vals)
 
 -- all passes, one for each axis that is left
 unfoldable pub butterfly : List Float → List Float → Float

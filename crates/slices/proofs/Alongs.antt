@@ -9,49 +9,49 @@ use lib.ListN.{length, take, drop, get_or, length-drop}
 use lib.Seq.{get_or-take, get_or-drop, length-take-le}
 use lib.Ieee.{Float, nan}
 use lib.Ieee.Scale.{finite}
-use Rattle.answer.specs.Faults.{noFault, good}
+use Rattle.answer.specs.Faults.{no_fault, good}
 use Rattle.answer.specs.declared.Fault.{Fault}
-use Rattle.answer.proofs.Orders.{none-good, passed-no-fault, row-passed, no-fault-number}
-use Rattle.layout.specs.Shape.{countsOf, size}
-use Rattle.layout.specs.Layout.{place, table, tabulate, indicesAt, without, sliceValues, axisOf}
+use Rattle.answer.proofs.Orders.{none_good, passed-no_fault, row_passed, no_fault_number}
+use Rattle.layout.specs.Shape.{counts_of, size}
+use Rattle.layout.specs.Layout.{place, table, tabulate, indices_at, without, slice_values, axis_of}
 use Rattle.layout.specs.declared.Shape.{Shape}
-use Rattle.layout.proofs.Layouts.{length-tabulate, get_d_tabulate, tabulate-same, size-cons, place-cons, place-below, indices-place, indices-inside}
+use Rattle.layout.proofs.Layouts.{length-tabulate, get_d_tabulate, tabulate_same, size-cons, place-cons, place_below, indices-place, indices_inside}
 use Rattle.blend.specs.Blend.{blended, sliced}
-use Rattle.blend.specs.Scaffolding.{blends, blendedInto}
-use Rattle.checks.specs.Numbers.{resultsFault, resultFault}
+use Rattle.blend.specs.Scaffolding.{blends, blended_into}
+use Rattle.checks.specs.Numbers.{results_fault, result_fault}
 use Rattle.rust.specs.declared.AxisLocation.{AxisLocation}
 use Rattle.rust.specs.declared.AxisLocation.TheVariants.{Exact, Between}
-use Rattle.axis.specs.Locations.{locationIndex}
-use Rattle.axis.specs.Scaffolding.{upperOf}
-use Rattle.slices.specs.LinearSlices.{alongFirst, linearValues}
-use Rattle.slices.specs.Scaffolding.{Ready, Results, Runs, Neighbours, runValues, blendedRuns}
-use Rattle.slices.proofs.Slices.{few-values, slice-count, runs-there, runs-written}
+use Rattle.axis.specs.Locations.{location_index}
+use Rattle.axis.specs.Scaffolding.{upper_of}
+use Rattle.slices.specs.LinearSlices.{along_first, linear_values}
+use Rattle.slices.specs.Scaffolding.{Ready, Results, Runs, Neighbours, run_values, blended_runs}
+use Rattle.slices.proofs.Slices.{few_values, slice_count, runs_there, runs_written}
 use Rattle.slices.proofs.Sliced.{written}
 
-pub length-along : (l : AxisLocation) (counts : List ℕ) (values : List Float) → length (alongFirst l counts values) ≡ size (without 0 counts)
-unfolding alongFirst
-length-along l counts values = length-tabulate (size (without 0 counts)) (λ t. sliced l (table counts values) (indicesAt (without 0 counts) t))
+pub length-along : (l : AxisLocation) (counts : List ℕ) (values : List Float) → length (along_first l counts values) ≡ size (without 0 counts)
+unfolding along_first
+length-along l counts values = length-tabulate (size (without 0 counts)) (λ t. sliced l (table counts values) (indices_at (without 0 counts) t))
 
 without-first : (cs : List ℕ) → without 0 cs ≡ drop 1 cs
 without-first [] = refl
 without-first (c ∷ cs) = refl
 
 -- ---- at a node
-along-exact : (node : ℕ) (counts : List ℕ) (values : List Float) → alongFirst (Exact node) counts values ≡ sliceValues 0 node counts values
-unfolding alongFirst sliceValues
+along-exact : (node : ℕ) (counts : List ℕ) (values : List Float) → along_first (Exact node) counts values ≡ slice_values 0 node counts values
+unfolding along_first slice_values
 along-exact node counts values = refl
 
 -- ---- between two: a value of the run, and of the next one
 module _ (c : ℕ) (cs : List ℕ) (values : List Float) where
-  run_value : (l t : ℕ) → t < size cs → get_or (take (size cs) (drop (l * size cs) values)) t nan ≡ table (c ∷ cs) values (l ∷ indicesAt cs t)
+  run_value : (l t : ℕ) → t < size cs → get_or (take (size cs) (drop (l * size cs) values)) t nan ≡ table (c ∷ cs) values (l ∷ indices_at cs t)
   unfolding table
   run_value l t b =
       get_or-take (size cs) (drop (l * size cs) values) t nan b
       ∙ get_or-drop (l * size cs) values t nan
-      ∙ ap (λ (k : ℕ). get_or values k nan) (sym (place-cons c cs l (indicesAt cs t) ∙ ap (λ (k : ℕ). l * size cs + k) (indices-place cs t b)))
+      ∙ ap (λ (k : ℕ). get_or values k nan) (sym (place-cons c cs l (indices_at cs t) ∙ ap (λ (k : ℕ). l * size cs + k) (indices-place cs t b)))
 
-  run-next : (l t : ℕ) → t < size cs → get_or (take (size cs) (drop (l * size cs + size cs) values)) t nan ≡ table (c ∷ cs) values ((l + 1) ∷ indicesAt cs t)
-  run-next l t b =
+  run_next : (l t : ℕ) → t < size cs → get_or (take (size cs) (drop (l * size cs + size cs) values)) t nan ≡ table (c ∷ cs) values ((l + 1) ∷ indices_at cs t)
+  run_next l t b =
       let e : l * size cs + size cs ≡ (l + 1) * size cs = omega (arith, add-mul l 1 (size cs), one-mul (size cs)) in
       ap (λ (k : ℕ). get_or (take (size cs) (drop k values)) t nan) e ∙ run_value (l + 1) t b
 
@@ -59,46 +59,46 @@ module _ (c : ℕ) (cs : List ℕ) (values : List Float) where
   run_length k h = length-take-le (size cs) (drop k values) (omega (arith, length-drop k values, h))
 
   along-cons : (l : ℕ) (f : Float) → l * size cs + size cs + size cs ≤ length values
-      → blendedRuns f l (size cs) values ≡ alongFirst (Between l f) (c ∷ cs) values
-  unfolding blends alongFirst
+      → blended_runs f l (size cs) values ≡ along_first (Between l f) (c ∷ cs) values
+  unfolding blends along_first
   along-cons l f h =
       let low : length (take (size cs) (drop (l * size cs) values)) ≡ size cs = run_length (l * size cs) (omega (arith, h)) in
       let high : length (take (size cs) (drop (l * size cs + size cs) values)) ≡ size cs = run_length (l * size cs + size cs) h in
       let n : min (length (take (size cs) (drop (l * size cs) values))) (length (take (size cs) (drop (l * size cs + size cs) values))) ≡ size cs = omega (arith, low, high) in
       ap (λ (k : ℕ). tabulate k (λ i. blended (get_or (take (size cs) (drop (l * size cs) values)) i nan) (get_or (take (size cs) (drop (l * size cs + size cs) values)) i nan) f)) n
-      ∙ tabulate-same (size cs) _ _ (λ t b. ap₂ (λ (x y : Float). blended x y f) (run_value l t b) (run-next l t b))
+      ∙ tabulate_same (size cs) _ _ (λ t b. ap₂ (λ (x y : Float). blended x y f) (run_value l t b) (run_next l t b))
 
-along-between : (counts : List ℕ) (values : List Float) (rest l : ℕ) (f : Float) → 0 < length counts → rest ≡ size (without 0 counts) → l * rest + rest + rest ≤ length values
-    → blendedRuns f l rest values ≡ alongFirst (Between l f) counts values
-along-between [] values rest l f n e h = absurd (omega arith)
-along-between (c ∷ cs) values rest l f n e h =
-    ap (λ (r : ℕ). blendedRuns f l r values) e
+along_between : (counts : List ℕ) (values : List Float) (rest l : ℕ) (f : Float) → 0 < length counts → rest ≡ size (without 0 counts) → l * rest + rest + rest ≤ length values
+    → blended_runs f l rest values ≡ along_first (Between l f) counts values
+along_between [] values rest l f n e h = absurd (omega arith)
+along_between (c ∷ cs) values rest l f n e h =
+    ap (λ (r : ℕ). blended_runs f l r values) e
     ∙ along-cons c cs values l f (subst (λ (r : ℕ). l * r + r + r ≤ length values) e h)
 
 -- both runs lie in the table
-runs-within : (c r l m : ℕ) → l + 1 < c → m ≡ c * r → l * r + r + r ≤ m
-runs-within c r l m h e = omega (arith, e, mul-le-mul_right r h, suc-mul (l + 1) r, add-mul l 1 r, one-mul r)
+runs_within : (c r l m : ℕ) → l + 1 < c → m ≡ c * r → l * r + r + r ≤ m
+runs_within c r l m h e = omega (arith, e, mul-le-mul_right r h, suc-mul (l + 1) r, add-mul l 1 r, one-mul r)
 
 -- stored values are finite, so a slice at a node is never refused
-stored-finite : (node : ℕ) (counts : List ℕ) (values : List Float) → length values ≡ size counts → node < get_or counts 0 0
-    → ((t : ℕ) → t < length values → finite (get_or values t nan) ≡ true) → noFault ≡ resultsFault (alongFirst (Exact node) counts values)
-unfolding resultsFault resultFault alongFirst table
-stored-finite node [] values e l h = absurd (omega arith)
-stored-finite node (c ∷ cs) values e l h =
-    sym (none-good (λ i. resultFault i (get_or (alongFirst (Exact node) (c ∷ cs) values) i nan)) 0 (length (alongFirst (Exact node) (c ∷ cs) values)) each)
+stored_finite : (node : ℕ) (counts : List ℕ) (values : List Float) → length values ≡ size counts → node < get_or counts 0 0
+    → ((t : ℕ) → t < length values → finite (get_or values t nan) ≡ true) → no_fault ≡ results_fault (along_first (Exact node) counts values)
+unfolding results_fault result_fault along_first table
+stored_finite node [] values e l h = absurd (omega arith)
+stored_finite node (c ∷ cs) values e l h =
+    sym (none_good (λ i. result_fault i (get_or (along_first (Exact node) (c ∷ cs) values) i nan)) 0 (length (along_first (Exact node) (c ∷ cs) values)) each)
   where
-    at : (t : ℕ) → t < size cs → finite (get_or (alongFirst (Exact node) (c ∷ cs) values) t nan) ≡ true
+    at : (t : ℕ) → t < size cs → finite (get_or (along_first (Exact node) (c ∷ cs) values) t nan) ≡ true
     at t b =
-        let inside : place (c ∷ cs) (node ∷ indicesAt cs t) < size (c ∷ cs) = place-below (node ∷ indicesAt cs t) (c ∷ cs) (l, indices-inside cs t b) in
-        ap finite (get_d_tabulate (size cs) t (λ k. table (c ∷ cs) values (node ∷ indicesAt cs k)) nan b) ∙ h (place (c ∷ cs) (node ∷ indicesAt cs t)) (omega (arith, inside, e))
+        let inside : place (c ∷ cs) (node ∷ indices_at cs t) < size (c ∷ cs) = place_below (node ∷ indices_at cs t) (c ∷ cs) (l, indices_inside cs t b) in
+        ap finite (get_d_tabulate (size cs) t (λ k. table (c ∷ cs) values (node ∷ indices_at cs k)) nan b) ∙ h (place (c ∷ cs) (node ∷ indices_at cs t)) (omega (arith, inside, e))
 
-    each : (j : ℕ) → 0 ≤ j → j < 0 + length (alongFirst (Exact node) (c ∷ cs) values) → good (resultFault j (get_or (alongFirst (Exact node) (c ∷ cs) values) j nan)) ≡ true
-    each j a b = passed-no-fault _ (row-passed _ _ _ _ (ap not (at j (omega (arith, b, length-along (Exact node) (c ∷ cs) values)))))
+    each : (j : ℕ) → 0 ≤ j → j < 0 + length (along_first (Exact node) (c ∷ cs) values) → good (result_fault j (get_or (along_first (Exact node) (c ∷ cs) values) j nan)) ≡ true
+    each j a b = passed-no_fault _ (row_passed _ _ _ _ (ap not (at j (omega (arith, b, length-along (Exact node) (c ∷ cs) values)))))
 
 -- with room for all of them, the blends are written and the rest stays
-pub into-blends : (f : Float) (low high out : List Float) (r : ℕ) → length low ≡ r → length high ≡ r → r ≤ length out → blendedInto f low high out ≡ blends f low high ++ drop r out
-unfolding blendedInto blends
-into-blends f low high out r a b l =
+pub into_blends : (f : Float) (low high out : List Float) (r : ℕ) → length low ≡ r → length high ≡ r → r ≤ length out → blended_into f low high out ≡ blends f low high ++ drop r out
+unfolding blended_into blends
+into_blends f low high out r a b l =
     let n : min (min (length low) (length high)) (length out) ≡ min (length low) (length high) = omega (arith, a, b, l) in
     let m : min (min (length low) (length high)) (length out) ≡ r = omega (arith, a, b, l) in
     ap₂ (λ (j k : ℕ). tabulate j (λ i. blended (get_or low i nan) (get_or high i nan) f) ++ drop k out) n m
@@ -112,9 +112,9 @@ size-first [] h = absurd (omega arith)
 size-first (c ∷ cs) h = size-cons c cs
 
 -- ---- in the code's terms: l is where the reading lies on the first axis
-module _ {s : Shape} {nodes values : List Float} (r : Ready s nodes values 0) (l : AxisLocation) (fits : upperOf l < get_or s.counts 0 0) where
+module _ {s : Shape} {nodes values : List Float} (r : Ready s nodes values 0) (l : AxisLocation) (fits : upper_of l < get_or s.counts 0 0) where
   abbrev cs : List ℕ
-  cs = countsOf s
+  cs = counts_of s
 
   abbrev n : ℕ
   n = get_or s.counts 0 0
@@ -123,60 +123,60 @@ module _ {s : Shape} {nodes values : List Float} (r : Ready s nodes values 0) (l
   abbrev rest : ℕ
   rest = length values / get_or s.counts 0 0
 
-  rest-is : rest ≡ size (without 0 cs)
-  rest-is = slice-count r
+  rest_is : rest ≡ size (without 0 cs)
+  rest_is = slice_count r
 
-  inner-is : rest ≡ size (drop 1 cs)
-  inner-is = rest-is ∙ ap size (without-first cs)
+  inner_is : rest ≡ size (drop 1 cs)
+  inner_is = rest_is ∙ ap size (without-first cs)
 
   first_count : get_or cs 0 0 ≡ n
   first_count = get_or-take s.axes s.counts 0 0 r.within
 
   -- on a node
-  module _ (x node : ℕ) (on : l ≡ Exact x) (e : node ≡ locationIndex l) where
+  module _ (x node : ℕ) (on : l ≡ Exact x) (e : node ≡ location_index l) where
     here : l ≡ Exact node
-    here = on ∙ ap Exact (sym (e ∙ ap locationIndex on))
+    here = on ∙ ap Exact (sym (e ∙ ap location_index on))
 
-    node-fits : node < n
-    node-fits = subst (λ (q : AxisLocation). upperOf q < n) here fits
+    node_fits : node < n
+    node_fits = subst (λ (q : AxisLocation). upper_of q < n) here fits
 
-    pub node-runs : (room : ℕ) → size (without 0 (countsOf s)) ≤ room → Runs values (get_or s.counts 0 0) (length values / get_or s.counts 0 0) node (length values / get_or s.counts 0 0) room
-    node-runs room h = runs-there r rest inner-is node node-fits room h
+    pub node_runs : (room : ℕ) → size (without 0 (counts_of s)) ≤ room → Runs values (get_or s.counts 0 0) (length values / get_or s.counts 0 0) node (length values / get_or s.counts 0 0) room
+    node_runs room h = runs_there r rest inner_is node node_fits room h
 
     abbrev xs : List Float
-    xs = alongFirst (Exact node) cs values
+    xs = along_first (Exact node) cs values
 
-    node-written : (f : Fault) (out after : List Float) → f ≡ noFault → after ≡ runValues values n rest node rest ++ drop rest out → Results xs out f after
+    node-written : (f : Fault) (out after : List Float) → f ≡ no_fault → after ≡ run_values values n rest node rest ++ drop rest out → Results xs out f after
     node-written f out after q w =
-        written f (resultsFault xs) (q ∙ stored-finite node cs values r.stored (omega (arith, node-fits, first_count)) r.finites) xs out (ap (λ (g : Fault). g.number) q ∙ no-fault-number)
+        written f (results_fault xs) (q ∙ stored_finite node cs values r.stored (omega (arith, node_fits, first_count)) r.finites) xs out (ap (λ (g : Fault). g.number) q ∙ no_fault_number)
         (size (without 0 cs)) (sym (length-along (Exact node) cs values)) after
-        (runs-written r rest inner-is node node refl out after w ∙ ap (λ (ys : List Float). ys ++ drop (size (without 0 cs)) out) (sym (along-exact node cs values)))
+        (runs_written r rest inner_is node node refl out after w ∙ ap (λ (ys : List Float). ys ++ drop (size (without 0 cs)) out) (sym (along-exact node cs values)))
 
   -- between two: both runs lie in the table
   module _ (lower : ℕ) (frac : Float) (e : l ≡ Between lower frac) where
-    pub runs-beside : (room : ℕ) → size (without 0 (countsOf s)) ≤ room → Neighbours values lower (length values / get_or s.counts 0 0) room
-    runs-beside room h = record {
+    pub runs_beside : (room : ℕ) → size (without 0 (counts_of s)) ≤ room → Neighbours values lower (length values / get_or s.counts 0 0) room
+    runs_beside room h = record {
       reach =
-          runs-within n rest lower (length values) (subst (λ (q : AxisLocation). upperOf q < n) e fits)
-          (r.stored ∙ size-first cs (omega (arith, r.count, r.within)) ∙ ap₂ (λ (x y : ℕ). x * y) first_count (sym rest-is));
-      stored = few-values r;
-      enough = omega (arith, rest-is);
+          runs_within n rest lower (length values) (subst (λ (q : AxisLocation). upper_of q < n) e fits)
+          (r.stored ∙ size-first cs (omega (arith, r.count, r.within)) ∙ ap₂ (λ (x y : ℕ). x * y) first_count (sym rest_is));
+      stored = few_values r;
+      enough = omega (arith, rest_is);
     }
 
-    beside-along : blendedRuns frac lower rest values ≡ alongFirst (Between lower frac) cs values
-    beside-along = along-between cs values rest lower frac (omega (arith, r.count, r.within)) rest-is (runs-beside (size (without 0 cs)) (omega arith)).reach
+    beside_along : blended_runs frac lower rest values ≡ along_first (Between lower frac) cs values
+    beside_along = along_between cs values rest lower frac (omega (arith, r.count, r.within)) rest_is (runs_beside (size (without 0 cs)) (omega arith)).reach
 
   -- .. by a rule
-  module _ (rule : List Float → Float → AxisLocation) (p : Float) (found : l ≡ rule (axisOf s nodes 0) p) where
-    along-rule : {m : AxisLocation} → l ≡ m → {f : Fault} {out after : List Float} → Results (alongFirst m cs values) out f after → Results (linearValues rule s nodes values p) out f after
-    unfolding linearValues
-    along-rule e {f = f} {out = out} {after = after} w = subst (λ (q : AxisLocation). Results (alongFirst q cs values) out f after) (sym e ∙ found) w
+  module _ (rule : List Float → Float → AxisLocation) (p : Float) (found : l ≡ rule (axis_of s nodes 0) p) where
+    along_rule : {m : AxisLocation} → l ≡ m → {f : Fault} {out after : List Float} → Results (along_first m cs values) out f after → Results (linear_values rule s nodes values p) out f after
+    unfolding linear_values
+    along_rule e {f = f} {out = out} {after = after} w = subst (λ (q : AxisLocation). Results (along_first q cs values) out f after) (sym e ∙ found) w
 
-    pub node-results : (x node : ℕ) → l ≡ Exact x → node ≡ locationIndex l → (f : Fault) (out after : List Float) → f ≡ noFault
-        → after ≡ runValues values (get_or s.counts 0 0) (length values / get_or s.counts 0 0) node (length values / get_or s.counts 0 0) ++ drop (length values / get_or s.counts 0 0) out
-        → Results (linearValues rule s nodes values p) out f after
-    node-results x node on e f out after q w = along-rule (here x node on e) (node-written x node on e f out after q w)
+    pub node_results : (x node : ℕ) → l ≡ Exact x → node ≡ location_index l → (f : Fault) (out after : List Float) → f ≡ no_fault
+        → after ≡ run_values values (get_or s.counts 0 0) (length values / get_or s.counts 0 0) node (length values / get_or s.counts 0 0) ++ drop (length values / get_or s.counts 0 0) out
+        → Results (linear_values rule s nodes values p) out f after
+    node_results x node on e f out after q w = along_rule (here x node on e) (node-written x node on e f out after q w)
 
-    pub between-results : (lower : ℕ) (frac : Float) → l ≡ Between lower frac → {f : Fault} {out after : List Float}
-        → Results (blendedRuns frac lower (length values / get_or s.counts 0 0) values) out f after → Results (linearValues rule s nodes values p) out f after
-    between-results lower frac e {f = f} {out = out} {after = after} w = along-rule e (subst (λ (xs : List Float). Results xs out f after) (beside-along lower frac e) w)
+    pub between_results : (lower : ℕ) (frac : Float) → l ≡ Between lower frac → {f : Fault} {out after : List Float}
+        → Results (blended_runs frac lower (length values / get_or s.counts 0 0) values) out f after → Results (linear_values rule s nodes values p) out f after
+    between_results lower frac e {f = f} {out = out} {after = after} w = along_rule e (subst (λ (xs : List Float). Results xs out f after) (beside_along lower frac e) w)

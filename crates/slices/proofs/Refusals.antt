@@ -10,38 +10,38 @@ use Rattle.answer.proofs.Orders as orders
 use Rattle.answer.proofs.Answers.{Quiet, quiet}
 use Rattle.layout.specs.Shape.{no_shape}
 use Rattle.layout.specs.declared.Shape.{Shape}
-use Rattle.slices.specs.Slices.{shapeWithout, sliceAnswer, nearestSlice, stepSlice}
-use Rattle.slices.specs.LinearSlices.{linearSlice, linearUniformSlice}
+use Rattle.slices.specs.Slices.{shape_without, slice_answer, nearest_slice, step_slice}
+use Rattle.slices.specs.LinearSlices.{linear_slice, linear_uniform_slice}
 
 -- ---- of any slice, by its fault
 module _ (f : Fault) (s : Shape) (axis : ℕ) where
-  pub slice-quiet : Quiet (sliceAnswer f s axis).answer
-  unfolding sliceAnswer
-  slice-quiet = quiet f
+  pub slice_quiet : Quiet (slice_answer f s axis).answer
+  unfolding slice_answer
+  slice_quiet = quiet f
 
-  pub no-shape : good f ≡ false → (sliceAnswer f s axis).shape ≡ no_shape
-  unfolding sliceAnswer
-  no-shape h = orders.given-bad f (shapeWithout s axis) no_shape h
+  pub no_shape_lem : good f ≡ false → (slice_answer f s axis).shape ≡ no_shape
+  unfolding slice_answer
+  no_shape_lem h = orders.given_bad f (shape_without s axis) no_shape h
 
   -- a slice that is made has the shape that is left
-  pub made-shape : good f ≡ true → (sliceAnswer f s axis).shape ≡ shapeWithout s axis
-  unfolding sliceAnswer
-  made-shape h = orders.given-good f (shapeWithout s axis) no_shape h
+  pub made_shape : good f ≡ true → (slice_answer f s axis).shape ≡ shape_without s axis
+  unfolding slice_answer
+  made_shape h = orders.given-good f (shape_without s axis) no_shape h
 
 -- ---- of the four
 module _ (s : Shape) (nodes values : List Float) (axis : ℕ) (p : Float) (room : ℕ) where
-  pub nearest-slice-quiet : Quiet (nearestSlice s nodes values axis p room).answer
-  unfolding nearestSlice
-  nearest-slice-quiet = slice-quiet _ s axis
+  pub nearest_slice_quiet : Quiet (nearest_slice s nodes values axis p room).answer
+  unfolding nearest_slice
+  nearest_slice_quiet = slice_quiet _ s axis
 
-  pub step-slice-quiet : (directions : List ℕ) → Quiet (stepSlice s nodes values directions axis p room).answer
-  unfolding stepSlice
-  step-slice-quiet directions = slice-quiet _ s axis
+  pub step_slice_quiet : (directions : List ℕ) → Quiet (step_slice s nodes values directions axis p room).answer
+  unfolding step_slice
+  step_slice_quiet directions = slice_quiet _ s axis
 
-  pub linear-slice-quiet : Quiet (linearSlice s nodes values axis p room).answer
-  unfolding linearSlice
-  linear-slice-quiet = slice-quiet _ s axis
+  pub linear_slice_quiet : Quiet (linear_slice s nodes values axis p room).answer
+  unfolding linear_slice
+  linear_slice_quiet = slice_quiet _ s axis
 
-  pub linear-uniform-slice-quiet : Quiet (linearUniformSlice s nodes values axis p room).answer
-  unfolding linearUniformSlice
-  linear-uniform-slice-quiet = slice-quiet _ s axis
+  pub linear_uniform_slice_quiet : Quiet (linear_uniform_slice s nodes values axis p room).answer
+  unfolding linear_uniform_slice
+  linear_uniform_slice_quiet = slice_quiet _ s axis

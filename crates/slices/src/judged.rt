@@ -1,11 +1,11 @@
 // A slice of a judged table: the one reading and the room are judged, then the values are written.
 ghost use Rattle.std.specs.Prelude.{◌≡◌, ◌++◌, length, drop};
-ghost use Rattle.layout.specs.Shape.{countsOf, size};
+ghost use Rattle.layout.specs.Shape.{counts_of, size};
 ghost use Rattle.layout.specs.Layout.{without};
-ghost use Rattle.axis.specs.Scaffolding.{locationBy};
-ghost use Rattle.orders.specs.Orders.{pointFault};
-ghost use Rattle.slices.specs.LinearSlices.{linearValues, linearRest};
-ghost use Rattle.slices.specs.Scaffolding.{Ready, Taken, JudgedOutput, Results, pickSlice};
+ghost use Rattle.axis.specs.Scaffolding.{location_by};
+ghost use Rattle.orders.specs.Orders.{point_fault};
+ghost use Rattle.slices.specs.LinearSlices.{linear_values, linear_rest};
+ghost use Rattle.slices.specs.Scaffolding.{Ready, Taken, JudgedOutput, Results, pick_slice};
 
 use crate::{remaining, written};
 use answer::Fault;
@@ -25,8 +25,8 @@ fn pick_slice(
 )
     requires ready { Ready shape nodes.now values.now axis }
     requires taken { Taken shape axis point (length out.old) }
-    ensures { out.new ≡ pickSlice pick shape nodes.now values.now axis point
-        ++ drop (size (without axis (countsOf shape))) out.old }
+    ensures { out.new ≡ pick_slice pick shape nodes.now values.now axis point
+        ++ drop (size (without axis (counts_of shape))) out.old }
 {
     let counts = shape.counts;
     let n = counts[axis];
@@ -49,8 +49,8 @@ pub(crate) fn pick_judged(
     out: &mut [f64],
 ) -> Fault
     requires { Ready shape nodes.now values.now axis }
-    ensures { JudgedOutput (pointFault shape nodes.now axis point (length out.old))
-        (pickSlice pick shape nodes.now values.now axis point)
+    ensures { JudgedOutput (point_fault shape nodes.now axis point (length out.old))
+        (pick_slice pick shape nodes.now values.now axis point)
         out.old result out.new }
 {
     let fault = remaining::point_fault(shape, nodes, values, axis, point, out.len());
@@ -72,7 +72,7 @@ fn along_first(
 ) -> Fault
     requires ready { Ready shape nodes.now values.now 0 }
     requires taken { Taken shape 0 point (length out.old) }
-    ensures { Results (linearValues (locationBy uniform) shape nodes.now values.now point)
+    ensures { Results (linear_values (location_by uniform) shape nodes.now values.now point)
         out.old result out.new }
 {
     let counts = shape.counts;
@@ -97,8 +97,8 @@ pub(crate) fn linear_judged(
     out: &mut [f64],
 ) -> Fault
     requires { Ready shape nodes.now values.now 0 }
-    ensures { JudgedOutput (linearRest (locationBy uniform) shape nodes.now values.now 0 point (length out.old))
-        (linearValues (locationBy uniform) shape nodes.now values.now point)
+    ensures { JudgedOutput (linear_rest (location_by uniform) shape nodes.now values.now 0 point (length out.old))
+        (linear_values (location_by uniform) shape nodes.now values.now point)
         out.old result out.new }
 {
     let fault = remaining::point_fault(shape, nodes, values, 0, point, out.len());

@@ -1,8 +1,8 @@
 // Slices of a table: one axis is removed at a reading, and the values of the other axes are written.
 ghost use Rattle.std.specs.Prelude.{◌≡◌, ◌≤◌, length};
-ghost use Rattle.slices.specs.Slices.{sliceAnswer, nearestSlice, nearestSliced, stepSlice, stepSliced};
-ghost use Rattle.slices.specs.Scaffolding.{refusedSlice};
-ghost use Rattle.slices.specs.LinearSlices.{linearSlice, linearSliced, linearUniformSlice, linearUniformSliced};
+ghost use Rattle.slices.specs.Slices.{slice_answer, nearest_slice, nearest_sliced, step_slice, step_sliced};
+ghost use Rattle.slices.specs.Scaffolding.{refused_slice};
+ghost use Rattle.slices.specs.LinearSlices.{linear_slice, linear_sliced, linear_uniform_slice, linear_uniform_sliced};
 
 pub(crate) mod judged;
 pub(crate) mod remaining;
@@ -22,7 +22,7 @@ pub struct SliceAnswer {
 
 // The answer of a slice that is refused.
 fn refused_slice(fault: Fault) -> SliceAnswer
-    ensures { result ≡ refusedSlice fault }
+    ensures { result ≡ refused_slice fault }
 {
     SliceAnswer {
         answer: answer::refuse(fault),
@@ -34,7 +34,7 @@ fn refused_slice(fault: Fault) -> SliceAnswer
 fn slice_answer(fault: Fault, shape: Shape, axis: usize) -> SliceAnswer
     requires le_axes { 1 ≤ shape.axes }
     requires axes_bound { shape.axes ≤ 4 }
-    ensures { result ≡ sliceAnswer fault shape axis }
+    ensures { result ≡ slice_answer fault shape axis }
 {
     if fault.number != 0 {
         return refused_slice(fault);
@@ -54,8 +54,8 @@ pub fn nearest(
     point: f64,
     out: &mut [f64],
 ) -> SliceAnswer
-    ensures value { result ≡ nearestSlice shape nodes.now values.now axis point (length out.old) }
-    ensures out_after { out.new ≡ nearestSliced shape nodes.now values.now axis point
+    ensures value { result ≡ nearest_slice shape nodes.now values.now axis point (length out.old) }
+    ensures out_after { out.new ≡ nearest_sliced shape nodes.now values.now axis point
         out.old }
 {
     let fault = before_slice::nearest_front(shape, nodes, values, axis);
@@ -76,9 +76,9 @@ pub fn step(
     point: f64,
     out: &mut [f64],
 ) -> SliceAnswer
-    ensures value { result ≡ stepSlice shape nodes.now values.now directions.now axis point
+    ensures value { result ≡ step_slice shape nodes.now values.now directions.now axis point
         (length out.old) }
-    ensures out_after { out.new ≡ stepSliced shape nodes.now values.now directions.now axis point
+    ensures out_after { out.new ≡ step_sliced shape nodes.now values.now directions.now axis point
         out.old }
 {
     let fault = before_slice::step_front(shape, nodes, values, directions, axis);
@@ -99,8 +99,8 @@ pub fn linear(
     point: f64,
     out: &mut [f64],
 ) -> SliceAnswer
-    ensures value { result ≡ linearSlice shape nodes.now values.now axis point (length out.old) }
-    ensures out_after { out.new ≡ linearSliced shape nodes.now values.now axis point
+    ensures value { result ≡ linear_slice shape nodes.now values.now axis point (length out.old) }
+    ensures out_after { out.new ≡ linear_sliced shape nodes.now values.now axis point
         out.old }
 {
     let fault = before_slice::linear_front(shape, nodes, values, axis);
@@ -120,9 +120,9 @@ pub fn linear_uniform(
     point: f64,
     out: &mut [f64],
 ) -> SliceAnswer
-    ensures value { result ≡ linearUniformSlice shape nodes.now values.now axis point
+    ensures value { result ≡ linear_uniform_slice shape nodes.now values.now axis point
         (length out.old) }
-    ensures out_after { out.new ≡ linearUniformSliced shape nodes.now values.now axis point out.old }
+    ensures out_after { out.new ≡ linear_uniform_sliced shape nodes.now values.now axis point out.old }
 {
     let fault = before_slice::linear_uniform_front(shape, nodes, values, axis);
     if fault.number != 0 {

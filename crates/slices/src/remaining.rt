@@ -1,10 +1,10 @@
 // What is left of a table without one axis, where that axis lies, and the checks of its reading and of the room.
 ghost use Rattle.std.specs.Prelude.{◌≡◌, cond, ℕ, suc, ◌+◌, ◌<◌, ◌≤◌, ltb, take, drop, get_or};
-ghost use Rattle.layout.specs.Shape.{countsOf, size, total};
+ghost use Rattle.layout.specs.Shape.{counts_of, size, total};
 ghost use Rattle.layout.specs.Layout.{without};
-ghost use Rattle.slices.specs.Slices.{shapeWithout};
+ghost use Rattle.slices.specs.Slices.{shape_without};
 ghost use Rattle.slices.specs.Scaffolding.{Ready};
-ghost use Rattle.orders.specs.Orders.{pointFault};
+ghost use Rattle.orders.specs.Orders.{point_fault};
 
 use answer::Fault;
 use checks::{lent, numbers, ranges};
@@ -22,7 +22,7 @@ fn axis_past(axis: usize, a: usize) -> usize
 fn count_without(shape: Shape, axis: usize, a: usize) -> usize
     requires axes_bound { shape.axes ≤ 4 }
     requires a_bound { a < 4 }
-    ensures { result ≡ get_or (without axis (countsOf shape)) a 0 }
+    ensures { result ≡ get_or (without axis (counts_of shape)) a 0 }
 {
     let counts = shape.counts;
     let b = axis_past(axis, a);
@@ -33,7 +33,7 @@ fn count_without(shape: Shape, axis: usize, a: usize) -> usize
 pub(crate) fn shape_without(shape: Shape, axis: usize) -> Shape
     requires le_axes { 1 ≤ shape.axes }
     requires axes_bound { shape.axes ≤ 4 }
-    ensures { result ≡ shapeWithout shape axis }
+    ensures { result ≡ shape_without shape axis }
 {
     let a = count_without(shape, axis, 0);
     let b = count_without(shape, axis, 1);
@@ -87,7 +87,7 @@ pub(crate) fn point_fault(
     room: usize,
 ) -> Fault
     requires { Ready shape nodes.now values.now axis }
-    ensures { result ≡ pointFault shape nodes.now axis point room }
+    ensures { result ≡ point_fault shape nodes.now axis point room }
 {
     let fault = numbers::reading_fault(axis, point);
     if fault.number != 0 {

@@ -1,6 +1,6 @@
 // Writing the values of a slice: runs that lie apart, or two neighbouring runs blended.
 ghost use Rattle.std.specs.Prelude.{◌≡◌, cond, ◌++◌, ◌+◌, ◌<◌, ◌≤◌, eqb, length, drop};
-ghost use Rattle.slices.specs.Scaffolding.{Results, Runs, Neighbours, runValues, blendedRuns};
+ghost use Rattle.slices.specs.Scaffolding.{Results, Runs, Neighbours, run_values, blended_runs};
 
 use answer::Fault;
 use blend::runs;
@@ -30,7 +30,7 @@ fn next_from(from: usize, j: usize, inner: usize, skip: usize) -> usize
 // Writes the values at node i of an axis with n nodes, in runs of `inner` that lie n runs apart.
 pub(crate) fn fill(values: &[f64], n: usize, inner: usize, i: usize, count: usize, out: &mut [f64])
     requires { Runs values.now n inner i count (length out.old) }
-    ensures { out.new ≡ runValues values.now n inner i count ++ drop count out.old }
+    ensures { out.new ≡ run_values values.now n inner i count ++ drop count out.old }
 {
     let skip = (n - 1) * inner;
     let mut from = i * inner;
@@ -53,7 +53,7 @@ pub(crate) fn blend_runs(
     out: &mut [f64],
 ) -> Fault
     requires { Neighbours values.now lower rest (length out.old) }
-    ensures { Results (blendedRuns frac lower rest values.now) out.old result out.new }
+    ensures { Results (blended_runs frac lower rest values.now) out.old result out.new }
 {
     let start = lower * rest;
     let middle = start + rest;

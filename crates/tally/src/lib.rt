@@ -2,9 +2,9 @@
 // refused by each number. Here a record is what became of it; what becomes of it is worked out by `ninterp::records`.
 ghost use Rattle.std.specs.Prelude.{◌≡◌, ◌<◌, take};
 ghost use Rattle.answer.specs.Answer.{fine, ◌then◌};
-ghost use Rattle.checks.specs.Numbers.{limitFault};
-ghost use Rattle.tally.specs.Tally.{more, cellMore, cellsMore, numberMore, countedOf};
-ghost use Rattle.tally.specs.Counts.{noneRead};
+ghost use Rattle.checks.specs.Numbers.{limit_fault};
+ghost use Rattle.tally.specs.Tally.{more, cell_more, cells_more, number_more, counted_of};
+ghost use Rattle.tally.specs.Counts.{none_read};
 ghost use Rattle.tally.specs.Scaffolding.{tally_of};
 
 use answer::Answer;
@@ -44,7 +44,7 @@ fn more(n: u32) -> u32
 
 fn count_cell(cells: &mut [u32; 252], axis: usize, cell: usize)
     requires { axis < 4 }
-    ensures { cells.new ≡ cellMore cells.old axis cell }
+    ensures { cells.new ≡ cell_more cells.old axis cell }
 {
     if cell < 63 {
         let at = axis * 63 + cell;
@@ -54,7 +54,7 @@ fn count_cell(cells: &mut [u32; 252], axis: usize, cell: usize)
 }
 
 fn count_cells(cells: &mut [u32; 252], axes: usize, found: [usize; 4])
-    ensures { cells.new ≡ cellsMore cells.old 0 (take axes found) }
+    ensures { cells.new ≡ cells_more cells.old 0 (take axes found) }
 {
     let n = layout::least(axes, 4);
     let mut a: usize = 0;
@@ -66,7 +66,7 @@ fn count_cells(cells: &mut [u32; 252], axes: usize, found: [usize; 4])
 }
 
 fn count_number(numbers: &mut [u32; 21], number: u32)
-    ensures { numbers.new ≡ numberMore numbers.old number }
+    ensures { numbers.new ≡ number_more numbers.old number }
 {
     if number < 21 {
         let at = number as usize;
@@ -78,7 +78,7 @@ fn count_number(numbers: &mut [u32; 21], number: u32)
 // Counts a record in a tally whose parts are lent, and gives how many were read then: nothing is copied. Past the limit it counts nothing.
 pub fn count_here(cells: &mut [u32; 252], numbers: &mut [u32; 21], records: u32, o: Outcome) -> u32
     ensures { tally_of result cells.new numbers.new
-        ≡ (countedOf (tally_of records cells.old numbers.old) o).tally }
+        ≡ (counted_of (tally_of records cells.old numbers.old) o).tally }
 {
     let fault = lent::limit_fault(records);
     if fault.number != 0 {
@@ -97,7 +97,7 @@ pub fn count_here(cells: &mut [u32; 252], numbers: &mut [u32; 21], records: u32,
 
 // A tally to begin with: no record was read.
 pub fn none_read() -> Tally
-    ensures { result ≡ noneRead }
+    ensures { result ≡ none_read }
 {
     Tally {
         records: 0,
@@ -108,7 +108,7 @@ pub fn none_read() -> Tally
 
 // What counting a record answers, where so many were read already.
 fn limit_answer(read: u32) -> Answer
-    ensures { result ≡ (limitFault read then fine) }
+    ensures { result ≡ (limit_fault read then fine) }
 {
     let fault = lent::limit_fault(read);
     if fault.number != 0 {
@@ -119,7 +119,7 @@ fn limit_answer(read: u32) -> Answer
 
 // Counts a record, and gives the tally after it.
 pub fn counted(t: Tally, o: Outcome) -> TallyAnswer
-    ensures { result ≡ countedOf t o }
+    ensures { result ≡ counted_of t o }
 {
     let answer = limit_answer(t.records);
     let mut cells = t.cells;

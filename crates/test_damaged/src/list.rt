@@ -29,7 +29,7 @@ pub enum Next {
 
 // A number of a head.
 fn number(bytes: &[u8], at: usize) -> usize {
-    bytes::word(bytes, at, 4) as usize
+    little_endian::word(bytes, at, 4) as usize
 }
 
 // A head, read.

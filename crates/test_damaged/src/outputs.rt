@@ -66,7 +66,7 @@ pub(crate) fn sum_bytes(output: &[u8]) -> u64 {
     let mut sum: u64 = 0;
     let mut i: usize = 0;
     while i < output.len() {
-        sum = with(sum, bytes::word(output, i, 1));
+        sum = with(sum, little_endian::word(output, i, 1));
         i += 1;
     }
     sum

@@ -38,9 +38,9 @@ fn header_of(bytes: &[u8], got: usize) -> Header
         op: op_of(bytes[0], bytes[2], got),
         a: bytes[1],
         b: bytes[2],
-        reading: bytes::float(bytes, 8),
-        second: bytes::word(bytes, 16, 8),
-        third: bytes::word(bytes, 24, 8),
+        reading: little_endian::float(bytes, 8),
+        second: little_endian::word(bytes, 16, 8),
+        third: little_endian::word(bytes, 24, 8),
     }
 }
 
@@ -91,7 +91,7 @@ fn floats_of(bytes: &[u8], count: usize, into: &mut [f64], at: usize)
 {
     let mut i: usize = 0;
     while i < count {
-        into[at + i] = bytes::float(bytes, 8 * i);
+        into[at + i] = little_endian::float(bytes, 8 * i);
         i += 1;
     }
 }

@@ -19,7 +19,7 @@ pub(crate) fn read_length() -> Next {
     if got < 4 {
         return Next::Cut;
     }
-    Next::Run(bytes::word(&bytes, 0, 4) as usize)
+    Next::Run(little_endian::word(&bytes, 0, 4) as usize)
 }
 
 // Fills an input from the list, and tells whether the list has all of it.

@@ -9,68 +9,68 @@ use Rattle.answer.specs.Answer.{refused, fine, ◌then◌}
 use Rattle.answer.specs.declared.Fault.{Fault}
 use Rattle.answer.specs.declared.Answer.{Answer}
 use Rattle.answer.proofs.Orders as orders
-use Rattle.answer.proofs.Answers.{then-stops, then-goes-on}
-use Rattle.checks.specs.Shapes.{axisFault}
-use Rattle.checks.specs.Numbers.{directionFault, readingFault, resultFault}
-use Rattle.checks.proofs.nodes.Rows.{axis-of}
-use Rattle.checks.proofs.numbers.Rows.{reading-finite}
-use Rattle.checks.proofs.lent.Rows.{direction-passed}
-use Rattle.axis.specs.Locations.{axisLocation}
-use Rattle.axis.specs.Scaffolding.{locationFound, pickFound}
-use Rattle.axis.specs.Steps.{stepIndex}
+use Rattle.answer.proofs.Answers.{then_stops, then_goes_on}
+use Rattle.checks.specs.Shapes.{axis_fault}
+use Rattle.checks.specs.Numbers.{direction_fault, reading_fault, result_fault}
+use Rattle.checks.proofs.nodes.Rows.{axis_of_lem}
+use Rattle.checks.proofs.numbers.Rows.{reading_finite}
+use Rattle.checks.proofs.lent.Rows.{direction_passed}
+use Rattle.axis.specs.Locations.{axis_location}
+use Rattle.axis.specs.Scaffolding.{location_found, pick_found}
+use Rattle.axis.specs.Steps.{step_index}
 use Rattle.rust.specs.declared.AxisLocation.{AxisLocation}
-use Rattle.axis.proofs.Located.{location-found}
-use Rattle.axis.proofs.picks.Picks.{step-found}
+use Rattle.axis.proofs.Located.{location_found_lem}
+use Rattle.axis.proofs.picks.Picks.{step_found}
 use Rattle.rust.specs.declared.MaybeIndex.{MaybeIndex}
-use Rattle.utils.specs.Calls.{locationFraction, axisReadingFault, locateFault, directedFault}
+use Rattle.utils.specs.Calls.{location_fraction, axis_reading_fault, locate_fault, directed_fault}
 use Rattle.utils.specs.Scaffolding.{ReadableAxis}
 use Rattle.utils.specs.declared.IndexAnswer.{IndexAnswer}
 use Rattle.utils.specs.declared.ExactAnswer.{ExactAnswer}
 use Rattle.utils.specs.declared.AxisAnswer.{AxisAnswer}
 
 -- ---- the three records that hold an answer and what it gives
-abbrev pub with-index : Answer → ℕ → IndexAnswer
-with-index a i = record { answer = a; index = i }
+abbrev pub with_index : Answer → ℕ → IndexAnswer
+with_index a i = record { answer = a; index = i }
 
-abbrev pub with-node : Answer → MaybeIndex → ExactAnswer
-with-node a i = record { answer = a; index = i }
+abbrev pub with_node : Answer → MaybeIndex → ExactAnswer
+with_node a i = record { answer = a; index = i }
 
-abbrev pub with-location : Answer → AxisLocation → AxisAnswer
-with-location a l = record { answer = a; location = l }
+abbrev pub with_location : Answer → AxisLocation → AxisAnswer
+with_location a l = record { answer = a; location = l }
 
 -- each of them by cases; r is what the checks gave, and its number was tested
 module _ {A R : Type 0} (make : Answer → A → R) (r f : Fault) (e : r ≡ f) (b : R) (x zeros : A) where
   pub stops : (r.number ≡ 0 → ⊥) → b ≡ make (refused r) zeros → b ≡ make (f then fine) (given f x zeros)
-  stops h q = q ∙ ap₂ make (then-stops r f e (refused r) fine h refl) (orders.given-refused r f e x zeros h)
+  stops h q = q ∙ ap₂ make (then_stops r f e (refused r) fine h refl) (orders.given-refused r f e x zeros h)
 
   pub goes_on : (y : A) → r.number ≡ 0 → y ≡ x → b ≡ make fine y → b ≡ make (f then fine) (given f x zeros)
-  goes_on y h k q = q ∙ ap₂ make (then-goes-on r f e fine fine h refl) (orders.given-kept r f e x zeros y h k)
+  goes_on y h k q = q ∙ ap₂ make (then_goes_on r f e fine fine h refl) (orders.given_kept r f e x zeros y h k)
 
 -- ---- what is known where the checks were passed
 module _ (nodes : List Float) (p : Float) where
-  pub readable : good (axisReadingFault nodes p) ≡ true → ReadableAxis nodes p
-  unfolding axisReadingFault
+  pub readable : good (axis_reading_fault nodes p) ≡ true → ReadableAxis nodes p
+  unfolding axis_reading_fault
   readable h = record {
-    axis = axis-of nodes (orders.first-passed (axisFault nodes) (readingFault 0 p) h);
-    reading = reading-finite 0 p (orders.second-passed (axisFault nodes) (readingFault 0 p) h);
+    axis = axis_of_lem nodes (orders.first-passed (axis_fault nodes) (reading_fault 0 p) h);
+    reading = reading_finite 0 p (orders.second_passed (axis_fault nodes) (reading_fault 0 p) h);
   }
 
-  pub directed-step : (direction : ℕ) → good (directedFault direction nodes p) ≡ true → (i : ℕ) → i ≡ pickFound direction nodes p → i ≡ stepIndex direction nodes p
-  unfolding directedFault
-  directed-step direction h i e =
-      let later = orders.second-passed (axisFault nodes) (directionFault 0 direction or readingFault 0 p) h in
+  pub directed_step : (direction : ℕ) → good (directed_fault direction nodes p) ≡ true → (i : ℕ) → i ≡ pick_found direction nodes p → i ≡ step_index direction nodes p
+  unfolding directed_fault
+  directed_step direction h i e =
+      let later = orders.second_passed (axis_fault nodes) (direction_fault 0 direction or reading_fault 0 p) h in
       e
-      ∙ step-found nodes p
-      (axis-of nodes (orders.first-passed (axisFault nodes) (directionFault 0 direction or readingFault 0 p) h))
-      (reading-finite 0 p (orders.second-passed (directionFault 0 direction) (readingFault 0 p) later))
+      ∙ step_found nodes p
+      (axis_of_lem nodes (orders.first-passed (axis_fault nodes) (direction_fault 0 direction or reading_fault 0 p) h))
+      (reading_finite 0 p (orders.second_passed (direction_fault 0 direction) (reading_fault 0 p) later))
       direction
-      (direction-passed 0 direction (orders.first-passed (directionFault 0 direction) (readingFault 0 p) later))
+      (direction_passed 0 direction (orders.first-passed (direction_fault 0 direction) (reading_fault 0 p) later))
 
 -- where `locate_axis` found a location: it is the paper's, and so its last check is the paper's
-module _ (nodes : List Float) (p : Float) (r : Fault) (e : r ≡ axisReadingFault nodes p) (h : r.number ≡ 0) (l : AxisLocation) (q : l ≡ locationFound false nodes p) where
-  pub located : l ≡ axisLocation nodes p
-  located = let g = readable nodes p (orders.passes r (axisReadingFault nodes p) e h) in q ∙ location-found nodes p g.axis g.reading false
+module _ (nodes : List Float) (p : Float) (r : Fault) (e : r ≡ axis_reading_fault nodes p) (h : r.number ≡ 0) (l : AxisLocation) (q : l ≡ location_found false nodes p) where
+  pub located : l ≡ axis_location nodes p
+  located = let g = readable nodes p (orders.passes r (axis_reading_fault nodes p) e h) in q ∙ location_found_lem nodes p g.axis g.reading false
 
-  pub located-fault : (w : Fault) → w ≡ resultFault 0 (locationFraction l) → w ≡ locateFault nodes p
-  unfolding locateFault
-  located-fault w k = orders.or-goes-on r (axisReadingFault nodes p) e w (resultFault 0 (locationFraction (axisLocation nodes p))) h (k ∙ ap (λ (x : AxisLocation). resultFault 0 (locationFraction x)) located)
+  pub located_fault : (w : Fault) → w ≡ result_fault 0 (location_fraction l) → w ≡ locate_fault nodes p
+  unfolding locate_fault
+  located_fault w k = orders.or_goes_on r (axis_reading_fault nodes p) e w (result_fault 0 (location_fraction (axis_location nodes p))) h (k ∙ ap (λ (x : AxisLocation). result_fault 0 (location_fraction x)) located)

@@ -1,17 +1,17 @@
 -- What each of the seven primitives answers, for every input: "The axis rules (utils.rs)", with the checks in front. "Primitives on one axis use 2, 4, 5, 6,
 -- 9 (`locate_step_index`), 10 in that order (4, 5, 6 node by node as above), axis 0, and give clamped answers outside the range, never 11".
 use Rattle.std.specs.Prelude.{not, List, ℕ, ◌-◌, ltb, length, Float}
-use Rattle.answer.specs.Faults.{refusal, noFault, when, ◌or◌, given}
-use Rattle.answer.specs.Answer.{plusZero, fine, ◌then◌}
+use Rattle.answer.specs.Faults.{refusal, no_fault, when, ◌or◌, given}
+use Rattle.answer.specs.Answer.{plus_zero, fine, ◌then◌}
 use Rattle.answer.specs.declared.Fault.{Fault}
 use Rattle.answer.specs.declared.Answer.{Answer}
-use Rattle.checks.specs.Numbers.{countFault, finiteFault, uniformFault, defaultTolerance, lentStepFault, toleranceFault, directionFault, readingFault, resultFault}
-use Rattle.checks.specs.Shapes.{axisFault}
-use Rattle.axis.specs.Cells.{lowerIndex}
-use Rattle.axis.specs.Exact.{exactNode}
-use Rattle.axis.specs.Locations.{axisLocation}
-use Rattle.axis.specs.Steps.{stepIndex}
-use Rattle.axis.specs.Uniform.{uniformIndex}
+use Rattle.checks.specs.Numbers.{count_fault, finite_fault, uniform_fault, default_tolerance, lent_step_fault, tolerance_fault, direction_fault, reading_fault, result_fault}
+use Rattle.checks.specs.Shapes.{axis_fault}
+use Rattle.axis.specs.Cells.{lower_index}
+use Rattle.axis.specs.Exact.{exact_node}
+use Rattle.axis.specs.Locations.{axis_location}
+use Rattle.axis.specs.Steps.{step_index}
+use Rattle.axis.specs.Uniform.{uniform_index}
 use Rattle.rust.specs.declared.MaybeIndex.{MaybeIndex}
 use Rattle.rust.specs.declared.MaybeIndex.TheVariants.{Some, None}
 use Rattle.rust.specs.declared.AxisLocation.{AxisLocation}
@@ -28,75 +28,75 @@ abbrev pub index_of : MaybeIndex → ℕ
 index_of (Some i) = i
 index_of None = 0
 
-abbrev pub locationFraction : AxisLocation → Float
-locationFraction (Exact i) = plusZero
-locationFraction (Between lower frac) = frac
+abbrev pub location_fraction : AxisLocation → Float
+location_fraction (Exact i) = plus_zero
+location_fraction (Between lower frac) = frac
 
-unfoldable pub indexAnswer : Fault → ℕ → IndexAnswer
-indexAnswer f i = record { answer = f then fine; index = given f i 0 }
+unfoldable pub index_answer : Fault → ℕ → IndexAnswer
+index_answer f i = record { answer = f then fine; index = given f i 0 }
 
-unfoldable pub exactAnswer : Fault → MaybeIndex → ExactAnswer
-exactAnswer f i = record { answer = f then fine; index = given f i None }
+unfoldable pub exact_answer : Fault → MaybeIndex → ExactAnswer
+exact_answer f i = record { answer = f then fine; index = given f i None }
 
-unfoldable pub axisAnswer : Fault → AxisLocation → AxisAnswer
-axisAnswer f l = record { answer = f then fine; location = given f l (Exact 0) }
+unfoldable pub axis_answer : Fault → AxisLocation → AxisAnswer
+axis_answer f l = record { answer = f then fine; location = given f l (Exact 0) }
 
 -- ---- `locate_lower_index`: 2, 4, 5, 6, 10
-unfoldable pub axisReadingFault : List Float → Float → Fault
-axisReadingFault nodes p = axisFault nodes or readingFault 0 p
+unfoldable pub axis_reading_fault : List Float → Float → Fault
+axis_reading_fault nodes p = axis_fault nodes or reading_fault 0 p
 
-unfoldable pub locateLowerIndex : List Float → Float → IndexAnswer
-locateLowerIndex nodes p = indexAnswer (axisReadingFault nodes p) (lowerIndex nodes p)
+unfoldable pub locate_lower_index : List Float → Float → IndexAnswer
+locate_lower_index nodes p = index_answer (axis_reading_fault nodes p) (lower_index nodes p)
 
 -- ---- `exact_index`: "also answers 2, place 1, after 6, when the lent lower index is not below the count less 1"
-unfoldable pub lowerFault : List Float → ℕ → Fault
-lowerFault nodes lower = when (not (ltb lower (length nodes - 1))) (refusal 2 0 1)
+unfoldable pub lower_fault : List Float → ℕ → Fault
+lower_fault nodes lower = when (not (ltb lower (length nodes - 1))) (refusal 2 0 1)
 
-unfoldable pub exactFault : List Float → ℕ → Float → Fault
-exactFault nodes lower p = axisFault nodes or lowerFault nodes lower or readingFault 0 p
+unfoldable pub exact_fault : List Float → ℕ → Float → Fault
+exact_fault nodes lower p = axis_fault nodes or lower_fault nodes lower or reading_fault 0 p
 
-unfoldable pub exactIndex : List Float → ℕ → Float → ExactAnswer
-exactIndex nodes lower p = exactAnswer (exactFault nodes lower p) (exactNode nodes lower p)
+unfoldable pub exact_index : List Float → ℕ → Float → ExactAnswer
+exact_index nodes lower p = exact_answer (exact_fault nodes lower p) (exact_node nodes lower p)
 
 -- ---- `locate_axis`: "leaves its fraction unclamped there and answers 12, 0, 0, as its last check, where the fraction is not finite"
-unfoldable pub locateFault : List Float → Float → Fault
-locateFault nodes p = axisReadingFault nodes p or resultFault 0 (locationFraction (axisLocation nodes p))
+unfoldable pub locate_fault : List Float → Float → Fault
+locate_fault nodes p = axis_reading_fault nodes p or result_fault 0 (location_fraction (axis_location nodes p))
 
-unfoldable pub locateAxis : List Float → Float → AxisAnswer
-locateAxis nodes p = axisAnswer (locateFault nodes p) (axisLocation nodes p)
+unfoldable pub locate_axis : List Float → Float → AxisAnswer
+locate_axis nodes p = axis_answer (locate_fault nodes p) (axis_location nodes p)
 
 -- ---- `locate_step_index`: 2, 4, 5, 6, 9, 10
-unfoldable pub directedFault : ℕ → List Float → Float → Fault
-directedFault direction nodes p = axisFault nodes or directionFault 0 direction or readingFault 0 p
+unfoldable pub directed_fault : ℕ → List Float → Float → Fault
+directed_fault direction nodes p = axis_fault nodes or direction_fault 0 direction or reading_fault 0 p
 
-unfoldable pub locateStepIndex : ℕ → List Float → Float → IndexAnswer
-locateStepIndex direction nodes p = indexAnswer (directedFault direction nodes p) (stepIndex direction nodes p)
+unfoldable pub locate_step_index : ℕ → List Float → Float → IndexAnswer
+locate_step_index direction nodes p = index_answer (directed_fault direction nodes p) (step_index direction nodes p)
 
 -- ---- `locate_lower_index_uniform`: "The uniform primitive uses 2, 4 (first node), 8 (step), 10."
-unfoldable pub uniformReadFault : Float → Float → ℕ → Float → Fault
-uniformReadFault first step n p = countFault 0 n or finiteFault 0 0 first or lentStepFault step or readingFault 0 p
+unfoldable pub uniform_read_fault : Float → Float → ℕ → Float → Fault
+uniform_read_fault first step n p = count_fault 0 n or finite_fault 0 0 first or lent_step_fault step or reading_fault 0 p
 
-unfoldable pub locateLowerIndexUniform : Float → Float → ℕ → Float → IndexAnswer
-locateLowerIndexUniform first step n p = indexAnswer (uniformReadFault first step n p) (uniformIndex first step n p)
+unfoldable pub locate_lower_index_uniform : Float → Float → ℕ → Float → IndexAnswer
+locate_lower_index_uniform first step n p = index_answer (uniform_read_fault first step n p) (uniform_index first step n p)
 
 -- ---- `validate_uniform_grid` and `validate_uniform_grid_epsilon`
 -- "The default is step times 2^-42."
-unfoldable pub toleranceOf : List Float → Tolerance → Float
-toleranceOf nodes (Lent tolerance) = tolerance
-toleranceOf nodes Default = defaultTolerance nodes
+unfoldable pub tolerance_of : List Float → Tolerance → Float
+tolerance_of nodes (Lent tolerance) = tolerance
+tolerance_of nodes Default = default_tolerance nodes
 
 -- "The uniform check answers 8, after 6, for a lent tolerance that is not finite or is below 0, axis 0, place 0."
-abbrev pub lentFault : Tolerance → Fault
-lentFault (Lent tolerance) = toleranceFault tolerance
-lentFault Default = noFault
+abbrev pub lent_fault : Tolerance → Fault
+lent_fault (Lent tolerance) = tolerance_fault tolerance
+lent_fault Default = no_fault
 
 -- 2, 4, 5, 6, then 8 of the tolerance, then 8 of the gaps
-unfoldable pub spacingFault : List Float → Tolerance → Fault
-spacingFault nodes tolerance = axisFault nodes or lentFault tolerance or uniformFault 0 nodes (toleranceOf nodes tolerance)
+unfoldable pub spacing_fault : List Float → Tolerance → Fault
+spacing_fault nodes tolerance = axis_fault nodes or lent_fault tolerance or uniform_fault 0 nodes (tolerance_of nodes tolerance)
 
 -- the check by a lent tolerance or the default (the Rust's Option<f64>), and by a lent one alone
-unfoldable pub validateUniformGridEpsilon : List Float → Tolerance → Answer
-validateUniformGridEpsilon nodes tolerance = spacingFault nodes tolerance then fine
+unfoldable pub validate_uniform_grid_epsilon : List Float → Tolerance → Answer
+validate_uniform_grid_epsilon nodes tolerance = spacing_fault nodes tolerance then fine
 
-unfoldable pub validateUniformGrid : List Float → Float → Answer
-validateUniformGrid nodes tolerance = validateUniformGridEpsilon nodes (Lent tolerance)
+unfoldable pub validate_uniform_grid : List Float → Float → Answer
+validate_uniform_grid nodes tolerance = validate_uniform_grid_epsilon nodes (Lent tolerance)

@@ -2,9 +2,9 @@
 ghost use Rattle.std.specs.Prelude.{◌≡◌, not, ◌||◌, ◌≤◌, length};
 ghost use Rattle.std.specs.Float.Ieee.Scale.{finite};
 ghost use Rattle.answer.specs.Faults.{refusal, when, ◌or◌};
-ghost use Rattle.checks.specs.Numbers.{lentStepFault, toleranceFault, readingFault, resultFault};
-ghost use Rattle.utils.specs.Calls.{axisReadingFault, directedFault, lowerFault, exactFault, uniformReadFault};
-ghost use Rattle.utils.specs.Calls.{locationFraction, lentFault, toleranceOf, spacingFault};
+ghost use Rattle.checks.specs.Numbers.{lent_step_fault, tolerance_fault, reading_fault, result_fault};
+ghost use Rattle.utils.specs.Calls.{axis_reading_fault, directed_fault, lower_fault, exact_fault, uniform_read_fault};
+ghost use Rattle.utils.specs.Calls.{location_fraction, lent_fault, tolerance_of, spacing_fault};
 
 use crate::Tolerance;
 use answer::Fault;
@@ -13,7 +13,7 @@ use rust::AxisLocation;
 
 // A fault that was found, else 10.
 fn reading_after(fault: Fault, point: f64) -> Fault
-    ensures { result ≡ (fault or readingFault 0 point) }
+    ensures { result ≡ (fault or reading_fault 0 point) }
 {
     if fault.number != 0 {
         return fault;
@@ -23,14 +23,14 @@ fn reading_after(fault: Fault, point: f64) -> Fault
 
 // 2, 4, 5, 6, then 10.
 pub(crate) fn axis_reading_fault(grid: &[f64], point: f64) -> Fault
-    ensures { result ≡ axisReadingFault grid.now point }
+    ensures { result ≡ axis_reading_fault grid.now point }
 {
     reading_after(nodes::axis_fault(grid), point)
 }
 
 // The fraction of a location, +0.0 on a node.
 fn location_fraction(location: AxisLocation) -> f64
-    ensures { result ≡ locationFraction location }
+    ensures { result ≡ location_fraction location }
 {
     match location {
         AxisLocation::Exact(_) => 0.0,
@@ -40,14 +40,14 @@ fn location_fraction(location: AxisLocation) -> f64
 
 // 12 of a location's fraction: the last check of `locate_axis`.
 pub(crate) fn fraction_fault(location: AxisLocation) -> Fault
-    ensures { result ≡ resultFault 0 (locationFraction location) }
+    ensures { result ≡ result_fault 0 (location_fraction location) }
 {
     numbers::result_fault(0, location_fraction(location))
 }
 
 // 2, 4, 5, 6, then 9, then 10.
 pub(crate) fn directed_fault(direction: u8, grid: &[f64], point: f64) -> Fault
-    ensures { result ≡ directedFault direction grid.now point }
+    ensures { result ≡ directed_fault direction grid.now point }
 {
     let fault = nodes::axis_fault(grid);
     if fault.number != 0 {
@@ -59,7 +59,7 @@ pub(crate) fn directed_fault(direction: u8, grid: &[f64], point: f64) -> Fault
 // 2, place 1: a lent lower index that is not below the count less 1.
 fn lower_fault(grid: &[f64], lower: usize) -> Fault
     requires { 1 ≤ length grid.now }
-    ensures { result ≡ lowerFault grid.now lower }
+    ensures { result ≡ lower_fault grid.now lower }
 {
     if lower < grid.len() - 1 {
         answer::no_fault()
@@ -70,7 +70,7 @@ fn lower_fault(grid: &[f64], lower: usize) -> Fault
 
 // 2, 4, 5, 6, then 2 of the lower index, then 10.
 pub(crate) fn exact_fault(grid: &[f64], lower: usize, point: f64) -> Fault
-    ensures { result ≡ exactFault grid.now lower point }
+    ensures { result ≡ exact_fault grid.now lower point }
 {
     let fault = nodes::axis_fault(grid);
     if fault.number != 0 {
@@ -96,14 +96,14 @@ fn bound_fault(x: f64, out: bool) -> Fault
 
 // 8: a lent step not finite or not above 0.
 fn lent_step_fault(step: f64) -> Fault
-    ensures { result ≡ lentStepFault step }
+    ensures { result ≡ lent_step_fault step }
 {
     bound_fault(step, !(0.0 < step))
 }
 
 // 2, then 4 of the first node, then 8 of the step, then 10.
 pub(crate) fn uniform_read_fault(first: f64, step: f64, n: usize, point: f64) -> Fault
-    ensures { result ≡ uniformReadFault first step n point }
+    ensures { result ≡ uniform_read_fault first step n point }
 {
     let fault = counts::count_fault(0, n);
     if fault.number != 0 {
@@ -118,7 +118,7 @@ pub(crate) fn uniform_read_fault(first: f64, step: f64, n: usize, point: f64) ->
 
 // The tolerance that is lent, or the default one of an axis.
 fn tolerance_of(grid: &[f64], tolerance: Tolerance) -> f64
-    ensures { result ≡ toleranceOf grid.now tolerance }
+    ensures { result ≡ tolerance_of grid.now tolerance }
 {
     match tolerance {
         Tolerance::Lent(lent) => lent,
@@ -128,14 +128,14 @@ fn tolerance_of(grid: &[f64], tolerance: Tolerance) -> f64
 
 // 8: a lent tolerance not finite or below 0.
 fn tolerance_fault(tolerance: f64) -> Fault
-    ensures { result ≡ toleranceFault tolerance }
+    ensures { result ≡ tolerance_fault tolerance }
 {
     bound_fault(tolerance, tolerance < 0.0)
 }
 
 // 8 of a tolerance, if one is lent.
 fn lent_fault(tolerance: Tolerance) -> Fault
-    ensures { result ≡ lentFault tolerance }
+    ensures { result ≡ lent_fault tolerance }
 {
     match tolerance {
         Tolerance::Lent(lent) => tolerance_fault(lent),
@@ -145,7 +145,7 @@ fn lent_fault(tolerance: Tolerance) -> Fault
 
 // 2, 4, 5, 6, then 8 of the tolerance, then 8 of the gaps.
 pub(crate) fn spacing_fault(grid: &[f64], tolerance: Tolerance) -> Fault
-    ensures { result ≡ spacingFault grid.now tolerance }
+    ensures { result ≡ spacing_fault grid.now tolerance }
 {
     let fault = nodes::axis_fault(grid);
     if fault.number != 0 {

@@ -3,9 +3,9 @@
 ghost use Rattle.std.specs.Prelude.{◌≡◌};
 ghost use Rattle.answer.specs.Answer.{fine, refused};
 ghost use Rattle.rust.specs.declared.AxisLocation.TheVariants.{Exact};
-ghost use Rattle.axis.specs.Cells.{lowerIndex};
-ghost use Rattle.utils.specs.Calls.{locateLowerIndex, exactIndex, locateAxis, locateStepIndex};
-ghost use Rattle.utils.specs.Calls.{locateLowerIndexUniform, validateUniformGrid, validateUniformGridEpsilon};
+ghost use Rattle.axis.specs.Cells.{lower_index};
+ghost use Rattle.utils.specs.Calls.{locate_lower_index, exact_index, locate_axis, locate_step_index};
+ghost use Rattle.utils.specs.Calls.{locate_lower_index_uniform, validate_uniform_grid, validate_uniform_grid_epsilon};
 ghost use Rattle.utils.specs.Scaffolding.{ReadableAxis};
 
 use answer::{Answer, Fault};
@@ -76,7 +76,7 @@ fn location_refused(fault: Fault) -> AxisAnswer
 // The lower node of the cell that a reading lies in; of the first or the last cell for a reading outside.
 fn lower_index(grid: &[f64], point: f64) -> usize
     requires { ReadableAxis grid.now point }
-    ensures { result ≡ lowerIndex grid.now point }
+    ensures { result ≡ lower_index grid.now point }
 {
     let n = grid.len();
     if point < grid[0] {
@@ -106,7 +106,7 @@ fn lower_index(grid: &[f64], point: f64) -> usize
 
 // The lower node of a reading's cell.
 pub fn locate_lower_index(grid: &[f64], point: f64) -> IndexAnswer
-    ensures { result ≡ locateLowerIndex grid.now point }
+    ensures { result ≡ locate_lower_index grid.now point }
 {
     let fault = front::axis_reading_fault(grid, point);
     if fault.number != 0 {
@@ -117,7 +117,7 @@ pub fn locate_lower_index(grid: &[f64], point: f64) -> IndexAnswer
 
 // Where a reading lies for Linear: on a node, or at a fraction of a cell.
 pub fn locate_axis(grid: &[f64], point: f64) -> AxisAnswer
-    ensures { result ≡ locateAxis grid.now point }
+    ensures { result ≡ locate_axis grid.now point }
 {
     let fault = front::axis_reading_fault(grid, point);
     if fault.number != 0 {
@@ -134,7 +134,7 @@ pub fn locate_axis(grid: &[f64], point: f64) -> AxisAnswer
 
 // The node that Step takes: at or below a reading by the direction 0, at or above it by 1.
 pub fn locate_step_index(direction: u8, grid: &[f64], point: f64) -> IndexAnswer
-    ensures { result ≡ locateStepIndex direction grid.now point }
+    ensures { result ≡ locate_step_index direction grid.now point }
 {
     let fault = front::directed_fault(direction, grid, point);
     if fault.number != 0 {
@@ -145,7 +145,7 @@ pub fn locate_step_index(direction: u8, grid: &[f64], point: f64) -> IndexAnswer
 
 // The node of a cell that equals a reading, if one does.
 pub fn exact_index(grid: &[f64], lower: usize, point: f64) -> ExactAnswer
-    ensures { result ≡ exactIndex grid.now lower point }
+    ensures { result ≡ exact_index grid.now lower point }
 {
     let fault = front::exact_fault(grid, lower, point);
     if fault.number != 0 {
@@ -162,7 +162,7 @@ pub fn exact_index(grid: &[f64], lower: usize, point: f64) -> ExactAnswer
 
 // The lower node of a reading's cell on a uniform axis, by its first node and its step.
 pub fn locate_lower_index_uniform(first: f64, step: f64, n: usize, point: f64) -> IndexAnswer
-    ensures { result ≡ locateLowerIndexUniform first step n point }
+    ensures { result ≡ locate_lower_index_uniform first step n point }
 {
     let fault = front::uniform_read_fault(first, step, n, point);
     if fault.number != 0 {
@@ -173,14 +173,14 @@ pub fn locate_lower_index_uniform(first: f64, step: f64, n: usize, point: f64) -
 
 // Whether an axis is uniform within a lent tolerance.
 pub fn validate_uniform_grid(grid: &[f64], tolerance: f64) -> Answer
-    ensures { result ≡ validateUniformGrid grid.now tolerance }
+    ensures { result ≡ validate_uniform_grid grid.now tolerance }
 {
     validate_uniform_grid_epsilon(grid, Tolerance::Lent(tolerance))
 }
 
 // Whether an axis is uniform within a lent tolerance or the default one.
 pub fn validate_uniform_grid_epsilon(grid: &[f64], tolerance: Tolerance) -> Answer
-    ensures { result ≡ validateUniformGridEpsilon grid.now tolerance }
+    ensures { result ≡ validate_uniform_grid_epsilon grid.now tolerance }
 {
     let fault = front::spacing_fault(grid, tolerance);
     if fault.number != 0 {

@@ -8,13 +8,13 @@ use Rattle.answer.specs.Faults.{good}
 use Rattle.answer.proofs.Orders as orders
 use Rattle.answer.proofs.Answers.{Quiet, quiet}
 use Rattle.layout.specs.declared.Shape.{Shape}
-use Rattle.writer.specs.Write.{writeFault, writeAnswer}
+use Rattle.writer.specs.Write.{write_fault, write_answer}
 
 module _ (s : Shape) (nodes values : List Float) (room : ℕ) where
-  pub write-quiet : Quiet (writeAnswer s nodes values room).answer
-  unfolding writeAnswer
-  write-quiet = quiet _
+  pub write_quiet : Quiet (write_answer s nodes values room).answer
+  unfolding write_answer
+  write_quiet = quiet _
 
-  pub write-no-length : good (writeFault s nodes values room) ≡ false → (writeAnswer s nodes values room).length ≡ 0
-  unfolding writeAnswer
-  write-no-length h = orders.given-bad (writeFault s nodes values room) _ 0 h
+  pub write_no_length : good (write_fault s nodes values room) ≡ false → (write_answer s nodes values room).length ≡ 0
+  unfolding write_answer
+  write_no_length h = orders.given_bad (write_fault s nodes values room) _ 0 h

@@ -12,330 +12,330 @@ use lib.ListN.{length, take, drop, get_or}
 use lib.Seq.{get_or-take, take_at}
 use lib.Ieee.{Float, binary64}
 use lib.Ieee.Fits.{nan-fits}
-use Rattle.answer.specs.Faults.{noFault, good, ◌or◌, first_of, given, filledInto}
+use Rattle.answer.specs.Faults.{no_fault, good, ◌or◌, first_fault, given, filled_into}
 use Rattle.answer.specs.Answer.{fine, ◌then◌}
 use Rattle.answer.specs.declared.Fault.{Fault}
 use Rattle.answer.specs.declared.Answer.{Answer}
 use Rattle.answer.proofs.Orders as orders
-use Rattle.answer.proofs.Answers.{then-good}
-use Rattle.checks.proofs.counts.Rows.{axes-right, count-fine}
-use Rattle.checks.proofs.lent.Rows.{room-enough, length-same}
-use Rattle.layout.specs.Shape.{countsOf, size, total, no_shape}
+use Rattle.answer.proofs.Answers.{then_good}
+use Rattle.checks.proofs.counts.Rows.{axes_right, count-fine}
+use Rattle.checks.proofs.lent.Rows.{room_enough, length_same}
+use Rattle.layout.specs.Shape.{counts_of, size, total, no_shape}
 use Rattle.layout.specs.Layout.{tabulate}
-use Rattle.checks.specs.Shapes.{shapeFault, frameFault}
-use Rattle.checks.specs.Numbers.{productFault, axesCountFault, lengthFault, roomFault, axesFault, valueFault, valuesFault, fieldFault, shortFault}
+use Rattle.checks.specs.Shapes.{shape_fault, frame_fault}
+use Rattle.checks.specs.Numbers.{product_fault, axes_count_fault, length_fault, room_fault, axes_fault, value_fault, values_fault, field_fault, short_fault}
 use Rattle.layout.specs.declared.Shape.{Shape}
-use Rattle.layout.proofs.Layouts.{get_d_tabulate, tabulate-same}
-use Rattle.checks.proofs.shapes.Frames.{shape-some, shape-four, shape-enough, shape-few, shape_size}
-use Rattle.bytes.specs.Words.{word_at}
-use Rattle.image.specs.Image.{floatsAt, nodesFrom, nodesIn, valuesIn}
-use Rattle.image.specs.Fields.{axesField, countField, offsetField, valuesField, shape_of, areaOf}
-use Rattle.image.specs.Shared.{areaEnd, InTurn}
-use Rattle.image.specs.Load.{areaRow, areasFault, pairsFault, roomsFault, contentsFault, loadFault, loadAnswer, Loadable}
-use Rattle.image.specs.Head.{startFault, countRow, offsetRow, headFault}
-use Rattle.image.proofs.Floats.{nodes-total, values-size}
-use Rattle.image.proofs.Heads.{unused-zero}
-use Rattle.image.proofs.Sharing.{axis-begins, axis-holds, values-begin, values-hold}
-use Rattle.image.proofs.Pairs.{pairs-none, turns-apart}
-use Rattle.image.proofs.Laws.{load-means, loaded-shape}
-use Rattle.image.proofs.Tests.{field-right, short-right, stated-right, area-right, count-used, count-unused}
-use Rattle.writer.specs.Made.{axisAt, imageLength, countIn, image_of}
-use Rattle.writer.specs.Write.{writeFault, writeAnswer, plain}
+use Rattle.layout.proofs.Layouts.{get_d_tabulate, tabulate_same}
+use Rattle.checks.proofs.shapes.Frames.{shape_some, shape_four, shape_enough, shape_few, shape_size}
+use Rattle.little_endian.specs.Words.{word_at}
+use Rattle.image.specs.Image.{floats_at, nodes_from, nodes_in, values_in}
+use Rattle.image.specs.Fields.{axes_field, count_field, offset_field, values_field, shape_of, area_of}
+use Rattle.image.specs.Shared.{area_end, InTurn}
+use Rattle.image.specs.Load.{area_row, areas_fault, pairs_fault, rooms_fault, contents_fault, load_fault, load_answer, Loadable}
+use Rattle.image.specs.Head.{start_fault, count_row, offset_row, head_fault}
+use Rattle.image.proofs.Floats.{nodes_total, values_size}
+use Rattle.image.proofs.Heads.{unused_zero}
+use Rattle.image.proofs.Sharing.{axis_begins, axis_holds, values_begin, values_hold}
+use Rattle.image.proofs.Pairs.{pairs_none, turns_apart}
+use Rattle.image.proofs.Laws.{load_means, loaded_shape}
+use Rattle.image.proofs.Tests.{field_right, short_right, stated_right, area_right, count_used, count_unused}
+use Rattle.writer.specs.Made.{axis_at, image_length, count_in, image_of}
+use Rattle.writer.specs.Write.{write_fault, write_answer, plain}
 use Rattle.writer.specs.Scaffolding.{Framed}
-use Rattle.writer.proofs.Headers.{first-at, next-at, axis-after, at_before, values-from, values-end, values-before, length-small, count-in}
-use Rattle.writer.proofs.Images.{length-image}
-use Rattle.writer.proofs.Laws.{write-means}
-use Rattle.writer.proofs.Writes.{written-frame}
+use Rattle.writer.proofs.Headers.{first-at, next-at, axis_after, at_before, values_from, values_end, values_before, length_small, count_in_lem}
+use Rattle.writer.proofs.Images.{length_image}
+use Rattle.writer.proofs.Laws.{write_means}
+use Rattle.writer.proofs.Writes.{written_frame}
 use Rattle.binary64.proofs.Held.{Held}
-use Rattle.writer.proofs.Back.{floats-held, held-append}
+use Rattle.writer.proofs.Back.{floats_held, held-append}
 use Rattle.writer.proofs.Made as made
 
 -- the image that was written: the output's first bytes, as many as the answer says
 abbrev pub written : Shape → List Float → List Float → List ℕ → List ℕ
 written s nodes values out =
-    take (writeAnswer s nodes values (length out)).length (filledInto (writeFault s nodes values (length out)) (image_of s nodes values) out)
+    take (write_answer s nodes values (length out)).length (filled_into (write_fault s nodes values (length out)) (image_of s nodes values) out)
 
 -- ---- the image of a judged table passes the checks of the header and of the areas
 module _ (s : Shape) (four : length s.counts ≡ 4) (nodes values : List Float) (w : Framed s nodes values) where
   abbrev img : List ℕ
   img = image_of s nodes values
 
-  long : length img ≡ imageLength s
-  long = length-image s nodes values w.nodes-long w.values-long
+  long : length img ≡ image_length s
+  long = length_image s nodes values w.nodes_long w.values_long
 
-  forty : 40 ≤ imageLength s
-  forty = omega (arith, first-at s, at_before s 0, values-before s)
+  forty : 40 ≤ image_length s
+  forty = omega (arith, first-at s, at_before s 0, values_before s)
 
-  axes-is : axesField img ≡ s.axes
-  axes-is = made.axes-back s four nodes values w
+  axes_is : axes_field img ≡ s.axes
+  axes_is = made.axes_back s four nodes values w
 
-  starts : good (startFault img) ≡ true
-  unfolding startFault
+  starts : good (start_fault img) ≡ true
+  unfolding start_fault
   starts =
-      orders.both-passed (shortFault (length img)) _ (orders.passed-no-fault _ (short-right (length img) (omega (arith, long, forty))))
-      (orders.both-passed (fieldFault 0 1 (word_at 1 img 0)) _ (orders.passed-no-fault _ (field-right 0 1 (word_at 1 img 0) (made.heads s four nodes values w).0))
-      (orders.both-passed (axesCountFault (axesField img)) _ (orders.passed-no-fault _ (axes-right (axesField img) (omega (arith, axes-is, shape-some s w.judged)) (omega (arith, axes-is, shape-four s w.judged))))
-      (orders.both-passed (fieldFault 2 0 (word_at 2 img 2)) _ (orders.passed-no-fault _ (field-right 2 0 (word_at 2 img 2) (made.heads s four nodes values w).1.1.0))
-      (orders.passed-no-fault _ (stated-right (word_at 4 img 4) (length img) (stated ∙ sym long) (omega (arith, stated, forty)) (omega (arith, stated, length-small s w.judged)))))))
+      orders.both_passed (short_fault (length img)) _ (orders.passed-no_fault _ (short_right (length img) (omega (arith, long, forty))))
+      (orders.both_passed (field_fault 0 1 (word_at 1 img 0)) _ (orders.passed-no_fault _ (field_right 0 1 (word_at 1 img 0) (made.heads s four nodes values w).0))
+      (orders.both_passed (axes_count_fault (axes_field img)) _ (orders.passed-no_fault _ (axes_right (axes_field img) (omega (arith, axes_is, shape_some s w.judged)) (omega (arith, axes_is, shape_four s w.judged))))
+      (orders.both_passed (field_fault 2 0 (word_at 2 img 2)) _ (orders.passed-no_fault _ (field_right 2 0 (word_at 2 img 2) (made.heads s four nodes values w).1.1.0))
+      (orders.passed-no_fault _ (stated_right (word_at 4 img 4) (length img) (stated ∙ sym long) (omega (arith, stated, forty)) (omega (arith, stated, length_small s w.judged)))))))
     where
-      stated : word_at 4 img 4 ≡ imageLength s
+      stated : word_at 4 img 4 ≡ image_length s
       stated = made.length_back s four nodes values w
 
-  counts : good (first_of (countRow img) 0 4) ≡ true
-  counts = ap good (orders.none-good (countRow img) 0 4 (λ a l m. each a (omega (arith, m)) (ltb a s.axes) (ltb-true a s.axes) (ltb-false a s.axes))) ∙ orders.good-no-fault
+  counts : good (first_fault (count_row img) 0 4) ≡ true
+  counts = ap good (orders.none_good (count_row img) 0 4 (λ a l m. each a (omega (arith, m)) (ltb a s.axes) (ltb-true a s.axes) (ltb-false a s.axes))) ∙ orders.good-no_fault
     where
-      each : (a : ℕ) → a < 4 → (b : Bool) → (b ≡ true → a < s.axes) → (b ≡ false → s.axes ≤ a) → good (countRow img a) ≡ true
+      each : (a : ℕ) → a < 4 → (b : Bool) → (b ≡ true → a < s.axes) → (b ≡ false → s.axes ≤ a) → good (count_row img a) ≡ true
       each a m true t f =
           let l = t refl in
-          let c : countField img a ≡ get_or s.counts a 0 = made.count-back s four nodes values w a m ∙ made.count-some s four nodes values w a ∙ get_or-take s.axes s.counts a 0 l in
-          orders.passed-no-fault _ (count-fine a (countField img a) (omega (arith, c, shape-enough s w.judged a l)) (omega (arith, c, shape-few s w.judged a l)) ∙ count-used img a (omega (arith, axes-is, l)))
+          let c : count_field img a ≡ get_or s.counts a 0 = made.count_back s four nodes values w a m ∙ made.count_some s four nodes values w a ∙ get_or-take s.axes s.counts a 0 l in
+          orders.passed-no_fault _ (count-fine a (count_field img a) (omega (arith, c, shape_enough s w.judged a l)) (omega (arith, c, shape_few s w.judged a l)) ∙ count_used img a (omega (arith, axes_is, l)))
       each a m false t f =
-          orders.passed-no-fault _ (field-right (8 + 2 * a) 0 (countField img a) (made.count-back s four nodes values w a m ∙ made.count_none s four nodes values w a (f refl)) ∙ count-unused img a (omega (arith, axes-is, f refl)))
+          orders.passed-no_fault _ (field_right (8 + 2 * a) 0 (count_field img a) (made.count_back s four nodes values w a m ∙ made.count_none s four nodes values w a (f refl)) ∙ count_unused img a (omega (arith, axes_is, f refl)))
 
-  same : countsOf (shape_of img) ≡ countsOf s
-  same = made.counts-back s four nodes values w
+  same : counts_of (shape_of img) ≡ counts_of s
+  same = made.counts_back s four nodes values w
 
-  product : good (productFault (shape_of img)) ≡ true
-  unfolding productFault
-  product = orders.good-when (ltb 4096 (size (countsOf (shape_of img)))) _ (le-ltb 4096 (size (countsOf (shape_of img))) (omega (arith, ap size same, shape_size s w.judged)))
+  product : good (product_fault (shape_of img)) ≡ true
+  unfolding product_fault
+  product = orders.good-when (ltb 4096 (size (counts_of (shape_of img)))) _ (le-ltb 4096 (size (counts_of (shape_of img))) (omega (arith, ap size same, shape_size s w.judged)))
 
-  offsets : good (first_of (offsetRow img) (axesField img) (4 - axesField img)) ≡ true
-  unfolding offsetRow
-  offsets = ap good (orders.none-good (offsetRow img) (axesField img) (4 - axesField img) each) ∙ orders.good-no-fault
+  offsets : good (first_fault (offset_row img) (axes_field img) (4 - axes_field img)) ≡ true
+  unfolding offset_row
+  offsets = ap good (orders.none_good (offset_row img) (axes_field img) (4 - axes_field img) each) ∙ orders.good-no_fault
     where
-      each : (a : ℕ) → axesField img ≤ a → a < axesField img + (4 - axesField img) → good (offsetRow img a) ≡ true
+      each : (a : ℕ) → axes_field img ≤ a → a < axes_field img + (4 - axes_field img) → good (offset_row img a) ≡ true
       each a l m =
-          let n : a < 4 = omega (arith, axes-is, shape-four s w.judged, m) in
-          orders.passed-no-fault _ (field-right (16 + 4 * a) 0 (offsetField img a) (made.offset-back s four nodes values w a n ∙ made.offset-none s four nodes values w a (omega (arith, axes-is, l))))
+          let n : a < 4 = omega (arith, axes_is, shape_four s w.judged, m) in
+          orders.passed-no_fault _ (field_right (16 + 4 * a) 0 (offset_field img a) (made.offset_back s four nodes values w a n ∙ made.offset_none s four nodes values w a (omega (arith, axes_is, l))))
 
-  pub made-head : good (headFault img) ≡ true
-  unfolding headFault
-  made-head =
-      orders.both-passed (startFault img) _ starts
-      (orders.both-passed (first_of (countRow img) 0 4) _ counts
-      (orders.both-passed (productFault (shape_of img)) _ product
-      (orders.both-passed (first_of (offsetRow img) (axesField img) (4 - axesField img)) _ offsets
-      (orders.passed-no-fault _ (field-right 36 0 (word_at 4 img 36) (made.end_back s four nodes values w))))))
+  pub made_head : good (head_fault img) ≡ true
+  unfolding head_fault
+  made_head =
+      orders.both_passed (start_fault img) _ starts
+      (orders.both_passed (first_fault (count_row img) 0 4) _ counts
+      (orders.both_passed (product_fault (shape_of img)) _ product
+      (orders.both_passed (first_fault (offset_row img) (axes_field img) (4 - axes_field img)) _ offsets
+      (orders.passed-no_fault _ (field_right 36 0 (word_at 4 img 36) (made.end_back s four nodes values w))))))
 
   -- the areas lie one after the other: each begins where the one before it ends
-  area-from : (k : ℕ) → k ≤ s.axes → (areaOf img k).at ≡ axisAt s k
-  area-from k l = go (eq-or-lt_of_le l)
+  area_from : (k : ℕ) → k ≤ s.axes → (area_of img k).at ≡ axis_at s k
+  area_from k l = go (eq-or-lt_of_le l)
     where
-      go : (k ≡ s.axes) ⊎ (k < s.axes) → (areaOf img k).at ≡ axisAt s k
+      go : (k ≡ s.axes) ⊎ (k < s.axes) → (area_of img k).at ≡ axis_at s k
       go (inl e) =
-          values-begin img k (omega (arith, axes-is, e))
-          ∙ made.values-field s four nodes values w
-          ∙ sym (values-from s w.judged)
-          ∙ ap (axisAt s) (sym e)
-      go (inr m) = axis-begins img k (omega (arith, axes-is, m)) ∙ made.used-back s four nodes values w k m
+          values_begin img k (omega (arith, axes_is, e))
+          ∙ made.values_field_lem s four nodes values w
+          ∙ sym (values_from s w.judged)
+          ∙ ap (axis_at s) (sym e)
+      go (inr m) = axis_begins img k (omega (arith, axes_is, m)) ∙ made.used_back s four nodes values w k m
 
-  area-ends : (k : ℕ) → k < s.axes → areaEnd img k ≡ axisAt s (suc k)
-  area-ends k l =
-      let n : (areaOf img k).floats ≡ get_or (countsOf s) k 0 =
-      axis-holds img k (omega (arith, axes-is, l))
-      ∙ made.count-back s four nodes values w k (omega (arith, l, shape-four s w.judged))
-      ∙ made.count-some s four nodes values w k in
-      ap (λ (x : ℕ). (areaOf img k).at + 8 * x) n ∙ next-at s k (get_or (countsOf s) k 0) (areaOf img k).at refl (area-from k (omega arith))
+  area_ends : (k : ℕ) → k < s.axes → area_end img k ≡ axis_at s (suc k)
+  area_ends k l =
+      let n : (area_of img k).floats ≡ get_or (counts_of s) k 0 =
+      axis_holds img k (omega (arith, axes_is, l))
+      ∙ made.count_back s four nodes values w k (omega (arith, l, shape_four s w.judged))
+      ∙ made.count_some s four nodes values w k in
+      ap (λ (x : ℕ). (area_of img k).at + 8 * x) n ∙ next-at s k (get_or (counts_of s) k 0) (area_of img k).at refl (area_from k (omega arith))
 
-  values-area-ends : areaEnd img s.axes ≡ imageLength s
-  values-area-ends =
-      let n : (areaOf img s.axes).floats ≡ size (countsOf s) = values-hold img s.axes (omega (arith, axes-is)) ∙ ap size same in
-      omega (arith, n, area-from s.axes (omega arith), values-from s w.judged, values-end s)
+  values_area_ends : area_end img s.axes ≡ image_length s
+  values_area_ends =
+      let n : (area_of img s.axes).floats ≡ size (counts_of s) = values_hold img s.axes (omega (arith, axes_is)) ∙ ap size same in
+      omega (arith, n, area_from s.axes (omega arith), values_from s w.judged, values_end s)
 
-  pub made-areas : good (areasFault img) ≡ true
-  unfolding areasFault
-  made-areas = ap good (orders.none-good (areaRow img) 0 (axesField img + 1) (λ k l m. each k (omega (arith, axes-is, m)))) ∙ orders.good-no-fault
+  pub made_areas : good (areas_fault img) ≡ true
+  unfolding areas_fault
+  made_areas = ap good (orders.none_good (area_row img) 0 (axes_field img + 1) (λ k l m. each k (omega (arith, axes_is, m)))) ∙ orders.good-no_fault
     where
-      inside : (k : ℕ) → (k ≡ s.axes) ⊎ (k < s.axes) → areaEnd img k ≤ length img
-      inside k (inl e) = omega (arith, ap (areaEnd img) e, values-area-ends, long)
-      inside k (inr l) = omega (arith, area-ends k l, at_before s (suc k), values-before s, long)
+      inside : (k : ℕ) → (k ≡ s.axes) ⊎ (k < s.axes) → area_end img k ≤ length img
+      inside k (inl e) = omega (arith, ap (area_end img) e, values_area_ends, long)
+      inside k (inr l) = omega (arith, area_ends k l, at_before s (suc k), values_before s, long)
 
-      each : (k : ℕ) → k ≤ s.axes → good (areaRow img k) ≡ true
+      each : (k : ℕ) → k ≤ s.axes → good (area_row img k) ≡ true
       each k l =
-          let o = area-from k l in
-          orders.passed-no-fault _ (area-right (length img) k (areaOf img k).at (areaOf img k).floats (omega (arith, o, (axis-after s k).0)) (ap (λ (j : ℕ). j % 8) o ∙ (axis-after s k).1) (inside k (eq-or-lt_of_le l)))
+          let o = area_from k l in
+          orders.passed-no_fault _ (area_right (length img) k (area_of img k).at (area_of img k).floats (omega (arith, o, (axis_after s k).0)) (ap (λ (j : ℕ). j % 8) o ∙ (axis_after s k).1) (inside k (eq-or-lt_of_le l)))
 
-  pub made-turns : InTurn img
-  made-turns = record {
+  pub made_turns : InTurn img
+  made_turns = record {
     turn = λ t. t;
     each = λ i l. (i, (l, refl));
-    after = λ t l. omega (arith, area-ends t (omega (arith, axes-is, l)), area-from (suc t) (omega (arith, axes-is, l)));
+    after = λ t l. omega (arith, area_ends t (omega (arith, axes_is, l)), area_from (suc t) (omega (arith, axes_is, l)));
   }
 
-  pub made-pairs : good (pairsFault img) ≡ true
-  made-pairs = ap good (pairs-none img (turns-apart img made-turns)) ∙ orders.good-no-fault
+  pub made_pairs : good (pairs_fault img) ≡ true
+  made_pairs = ap good (pairs_none img (turns_apart img made_turns)) ∙ orders.good-no_fault
 
 -- ---- writing, then loading
 
 -- an image whose header passes, each area alone and each two of them, answers by its shape, its nodes and its values alone
-judged : (img : List ℕ) (n v : ℕ) → good (headFault img) ≡ true → good (areasFault img) ≡ true → good (pairsFault img) ≡ true
-    → loadFault img n v ≡ (roomsFault (shape_of img) n v or axesFault (countsOf (shape_of img)) (nodesIn img) or valuesFault (valuesIn img))
-unfolding loadFault contentsFault
-judged img n v g k p = orders.or-good (headFault img) _ g ∙ orders.or-good (areasFault img) _ k ∙ orders.or-good (pairsFault img) _ p
+judged : (img : List ℕ) (n v : ℕ) → good (head_fault img) ≡ true → good (areas_fault img) ≡ true → good (pairs_fault img) ≡ true
+    → load_fault img n v ≡ (rooms_fault (shape_of img) n v or axes_fault (counts_of (shape_of img)) (nodes_in img) or values_fault (values_in img))
+unfolding load_fault contents_fault
+judged img n v g k p = orders.or_good (head_fault img) _ g ∙ orders.or_good (areas_fault img) _ k ∙ orders.or_good (pairs_fault img) _ p
 
-stored-fine : (values : List Float) → good (valuesFault values) ≡ true → valuesFault values ≡ noFault
-unfolding valuesFault
-stored-fine values g = orders.none-good (valueFault values) 0 (length values) (λ j l m. orders.all-passed (valueFault values) 0 (length values) g j l m)
+stored-fine : (values : List Float) → good (values_fault values) ≡ true → values_fault values ≡ no_fault
+unfolding values_fault
+stored-fine values g = orders.none_good (value_fault values) 0 (length values) (λ j l m. orders.all_passed (value_fault values) 0 (length values) g j l m)
 
-rooms-passed : (s : Shape) (n v : ℕ) → total (countsOf s) ≤ n → size (countsOf s) ≤ v → good (roomsFault s n v) ≡ true
-unfolding roomsFault
-rooms-passed s n v p q = orders.both-passed _ _ (orders.passed-no-fault _ (room-enough 0 (total (countsOf s)) n p)) (orders.passed-no-fault _ (room-enough 1 (size (countsOf s)) v q))
+rooms_passed : (s : Shape) (n v : ℕ) → total (counts_of s) ≤ n → size (counts_of s) ≤ v → good (rooms_fault s n v) ≡ true
+unfolding rooms_fault
+rooms_passed s n v p q = orders.both_passed _ _ (orders.passed-no_fault _ (room_enough 0 (total (counts_of s)) n p)) (orders.passed-no_fault _ (room_enough 1 (size (counts_of s)) v q))
 
-rooms_fine : (s : Shape) (n v : ℕ) → good (roomsFault s n v) ≡ true → roomsFault s n v ≡ noFault
-unfolding roomsFault roomFault
+rooms_fine : (s : Shape) (n v : ℕ) → good (rooms_fault s n v) ≡ true → rooms_fault s n v ≡ no_fault
+unfolding rooms_fault room_fault
 rooms_fine s n v g =
-    orders.or-good (roomFault 0 (total (countsOf s)) n) (roomFault 1 (size (countsOf s)) v) (orders.first-passed (roomFault 0 (total (countsOf s)) n) _ g)
-    ∙ orders.when_false (ltb v (size (countsOf s))) _ (orders.row-good (ltb v (size (countsOf s))) 14 0 1 (orders.second-passed (roomFault 0 (total (countsOf s)) n) (roomFault 1 (size (countsOf s)) v) g))
+    orders.or_good (room_fault 0 (total (counts_of s)) n) (room_fault 1 (size (counts_of s)) v) (orders.first-passed (room_fault 0 (total (counts_of s)) n) _ g)
+    ∙ orders.when_false (ltb v (size (counts_of s))) _ (orders.row_good (ltb v (size (counts_of s))) 14 0 1 (orders.second_passed (room_fault 0 (total (counts_of s)) n) (room_fault 1 (size (counts_of s)) v) g))
 
-rooms-or : (s : Shape) (n v : ℕ) → (roomsFault s n v or noFault) ≡ roomsFault s n v
-rooms-or s n v = go (good (roomsFault s n v)) refl
+rooms_or : (s : Shape) (n v : ℕ) → (rooms_fault s n v or no_fault) ≡ rooms_fault s n v
+rooms_or s n v = go (good (rooms_fault s n v)) refl
   where
-    go : (b : Bool) → good (roomsFault s n v) ≡ b → (roomsFault s n v or noFault) ≡ roomsFault s n v
-    go true e = orders.or-good (roomsFault s n v) noFault e ∙ sym (rooms_fine s n v e)
-    go false e = orders.or-bad (roomsFault s n v) noFault e
+    go : (b : Bool) → good (rooms_fault s n v) ≡ b → (rooms_fault s n v or no_fault) ≡ rooms_fault s n v
+    go true e = orders.or_good (rooms_fault s n v) no_fault e ∙ sym (rooms_fine s n v e)
+    go false e = orders.or_bad (rooms_fault s n v) no_fault e
 
 -- a table that the writer accepts; its output had room for it
-module _ (s : Shape) (four : length s.counts ≡ 4) (nodes values : List Float) (held : Held nodes) (kept : Held values) (out : List ℕ) (g : good (writeFault s nodes values (length out)) ≡ true) where
+module _ (s : Shape) (four : length s.counts ≡ 4) (nodes values : List Float) (held : Held nodes) (kept : Held values) (out : List ℕ) (g : good (write_fault s nodes values (length out)) ≡ true) where
   w : Framed s nodes values
-  w = written-frame s nodes values (length out) g
+  w = written_frame s nodes values (length out) g
 
   abbrev image : List ℕ
   image = written s nodes values out
 
-  pub image-is : image ≡ image_of s nodes values
-  unfolding writeAnswer filledInto
-  image-is =
-      ap₂ take (orders.given-good (writeFault s nodes values (length out)) (imageLength s) 0 g) (orders.given-good (writeFault s nodes values (length out)) (image_of s nodes values ++ drop (length (image_of s nodes values)) out) out g)
-      ∙ take_at (image_of s nodes values) (drop (length (image_of s nodes values)) out) (imageLength s) (length-image s nodes values w.nodes-long w.values-long)
+  pub image_is : image ≡ image_of s nodes values
+  unfolding write_answer filled_into
+  image_is =
+      ap₂ take (orders.given-good (write_fault s nodes values (length out)) (image_length s) 0 g) (orders.given-good (write_fault s nodes values (length out)) (image_of s nodes values ++ drop (length (image_of s nodes values)) out) out g)
+      ∙ take_at (image_of s nodes values) (drop (length (image_of s nodes values)) out) (image_length s) (length_image s nodes values w.nodes_long w.values_long)
 
-  pub written-shape-back : shape_of image ≡ plain s
-  written-shape-back = ap shape_of image-is ∙ made.shape-back s four nodes values w
+  pub written_shape_back : shape_of image ≡ plain s
+  written_shape_back = ap shape_of image_is ∙ made.shape_back s four nodes values w
 
-  pub written-nodes-back : nodesIn image ≡ nodes
-  written-nodes-back = ap nodesIn image-is ∙ made.nodes-back s four nodes values w held
+  pub written_nodes_back : nodes_in image ≡ nodes
+  written_nodes_back = ap nodes_in image_is ∙ made.nodes_back s four nodes values w held
 
-  pub written-values-back : valuesIn image ≡ values
-  written-values-back = ap valuesIn image-is ∙ made.values-back s four nodes values w kept
+  pub written_values_back : values_in image ≡ values
+  written_values_back = ap values_in image_is ∙ made.values_back s four nodes values w kept
 
-  same-counts : countsOf (plain s) ≡ countsOf s
-  same-counts = count-in s w.judged four
+  same_counts : counts_of (plain s) ≡ counts_of s
+  same_counts = count_in_lem s w.judged four
 
   -- for every room: 15, or nothing is wrong
-  pub written-judged : (n v : ℕ) → loadFault image n v ≡ roomsFault (plain s) n v
-  written-judged n v =
-      ap (λ (l : List ℕ). loadFault l n v) image-is
-      ∙ judged (image_of s nodes values) n v (made-head s four nodes values w) (made-areas s four nodes values w) (made-pairs s four nodes values w)
-      ∙ ap (λ (t : Shape). roomsFault t n v or axesFault (countsOf t) (nodesIn (image_of s nodes values)) or valuesFault (valuesIn (image_of s nodes values))) (made.shape-back s four nodes values w)
-      ∙ ap (λ (t : Fault). roomsFault (plain s) n v or t) contents
+  pub written_judged : (n v : ℕ) → load_fault image n v ≡ rooms_fault (plain s) n v
+  written_judged n v =
+      ap (λ (l : List ℕ). load_fault l n v) image_is
+      ∙ judged (image_of s nodes values) n v (made_head s four nodes values w) (made_areas s four nodes values w) (made_pairs s four nodes values w)
+      ∙ ap (λ (t : Shape). rooms_fault t n v or axes_fault (counts_of t) (nodes_in (image_of s nodes values)) or values_fault (values_in (image_of s nodes values))) (made.shape_back s four nodes values w)
+      ∙ ap (λ (t : Fault). rooms_fault (plain s) n v or t) contents
       ∙ right
     where
-      contents : (axesFault (countsOf (plain s)) (nodesIn (image_of s nodes values)) or valuesFault (valuesIn (image_of s nodes values))) ≡ noFault
+      contents : (axes_fault (counts_of (plain s)) (nodes_in (image_of s nodes values)) or values_fault (values_in (image_of s nodes values))) ≡ no_fault
       contents =
-          ap₂ (λ (xs ys : List Float). axesFault (countsOf (plain s)) xs or valuesFault ys) (made.nodes-back s four nodes values w held) (made.values-back s four nodes values w kept)
-          ∙ ap (λ (cs : List ℕ). axesFault cs nodes or valuesFault values) same-counts
-          ∙ orders.or-good (axesFault (countsOf s) nodes) _ (write-means s nodes values (length out) g).axes
-          ∙ stored-fine values (write-means s nodes values (length out) g).stored
+          ap₂ (λ (xs ys : List Float). axes_fault (counts_of (plain s)) xs or values_fault ys) (made.nodes_back s four nodes values w held) (made.values_back s four nodes values w kept)
+          ∙ ap (λ (cs : List ℕ). axes_fault cs nodes or values_fault values) same_counts
+          ∙ orders.or_good (axes_fault (counts_of s) nodes) _ (write_means s nodes values (length out) g).axes
+          ∙ stored-fine values (write_means s nodes values (length out) g).stored
 
-      right : (roomsFault (plain s) n v or noFault) ≡ roomsFault (plain s) n v
-      right = rooms-or (plain s) n v
+      right : (rooms_fault (plain s) n v or no_fault) ≡ rooms_fault (plain s) n v
+      right = rooms_or (plain s) n v
 
   -- "Writing and loading returns the table", whatever the two outputs hold beyond
   module _ (ns vs : List Float) (ln : length nodes ≤ length ns) (lv : length values ≤ length vs) where
-    nothing : loadFault image (length ns) (length vs) ≡ noFault
+    nothing : load_fault image (length ns) (length vs) ≡ no_fault
     nothing =
-        written-judged (length ns) (length vs)
+        written_judged (length ns) (length vs)
         ∙ rooms_fine (plain s) (length ns) (length vs)
-        (rooms-passed (plain s) (length ns) (length vs) (omega (arith, ap total same-counts, w.nodes-long, ln)) (omega (arith, ap size same-counts, w.values-long, lv)))
+        (rooms_passed (plain s) (length ns) (length vs) (omega (arith, ap total same_counts, w.nodes_long, ln)) (omega (arith, ap size same_counts, w.values_long, lv)))
 
-    passes : good (loadFault image (length ns) (length vs)) ≡ true
-    passes = ap good nothing ∙ orders.good-no-fault
+    passes : good (load_fault image (length ns) (length vs)) ≡ true
+    passes = ap good nothing ∙ orders.good-no_fault
 
-    pub answer_back : loadAnswer image (length ns) (length vs) ≡ record { answer = fine; shape = plain s }
-    unfolding loadAnswer
+    pub answer_back : load_answer image (length ns) (length vs) ≡ record { answer = fine; shape = plain s }
+    unfolding load_answer
     answer_back =
-        ap₂ (λ (a : Answer) (t : Shape). record { answer = a; shape = t }) (then-good (loadFault image (length ns) (length vs)) fine passes)
-        (orders.given-good (loadFault image (length ns) (length vs)) (shape_of image) no_shape passes ∙ written-shape-back)
+        ap₂ (λ (a : Answer) (t : Shape). record { answer = a; shape = t }) (then_good (load_fault image (length ns) (length vs)) fine passes)
+        (orders.given-good (load_fault image (length ns) (length vs)) (shape_of image) no_shape passes ∙ written_shape_back)
 
-    filled : (xs ys zs : List Float) → xs ≡ ys → filledInto (loadFault image (length ns) (length vs)) xs zs ≡ ys ++ drop (length ys) zs
-    unfolding filledInto
-    filled xs ys zs e = orders.given-good (loadFault image (length ns) (length vs)) (xs ++ drop (length xs) zs) zs passes ∙ ap (λ (l : List Float). l ++ drop (length l) zs) e
+    filled : (xs ys zs : List Float) → xs ≡ ys → filled_into (load_fault image (length ns) (length vs)) xs zs ≡ ys ++ drop (length ys) zs
+    unfolding filled_into
+    filled xs ys zs e = orders.given-good (load_fault image (length ns) (length vs)) (xs ++ drop (length xs) zs) zs passes ∙ ap (λ (l : List Float). l ++ drop (length l) zs) e
 
-    pub nodes-returned : filledInto (loadFault image (length ns) (length vs)) (nodesIn image) ns ≡ nodes ++ drop (length nodes) ns
-    nodes-returned = filled (nodesIn image) nodes ns written-nodes-back
+    pub nodes_returned : filled_into (load_fault image (length ns) (length vs)) (nodes_in image) ns ≡ nodes ++ drop (length nodes) ns
+    nodes_returned = filled (nodes_in image) nodes ns written_nodes_back
 
-    pub values-returned : filledInto (loadFault image (length ns) (length vs)) (valuesIn image) vs ≡ values ++ drop (length values) vs
-    values-returned = filled (valuesIn image) values vs written-values-back
+    pub values_returned : filled_into (load_fault image (length ns) (length vs)) (values_in image) vs ≡ values ++ drop (length values) vs
+    values_returned = filled (values_in image) values vs written_values_back
 
 -- ---- loading, then writing
-module _ (img : List ℕ) (n v : ℕ) (g : good (loadFault img n v) ≡ true) where
+module _ (img : List ℕ) (n v : ℕ) (g : good (load_fault img n v) ≡ true) where
   l : Loadable img n v
-  l = load-means img n v g
+  l = load_means img n v g
 
-  s-good : good (shapeFault (shape_of img)) ≡ true
-  s-good = loaded-shape img n v g
+  s_good : good (shape_fault (shape_of img)) ≡ true
+  s_good = loaded_shape img n v g
 
   four : length (shape_of img).counts ≡ 4
   unfolding shape_of
   four = refl
 
-  pub loaded-held : Held (nodesIn img)
-  unfolding nodesIn nodesFrom
-  loaded-held = from 0 (axesField img)
+  pub loaded_held : Held (nodes_in img)
+  unfolding nodes_in nodes_from
+  loaded_held = from 0 (axes_field img)
     where
-      from : (a k : ℕ) → Held (nodesFrom img a k)
+      from : (a k : ℕ) → Held (nodes_from img a k)
       from a zero i = nan-fits binary64
-      from a (suc k) i = held-append (floatsAt img (offsetField img a) (countField img a)) (nodesFrom img (suc a) k) (floats-held img (offsetField img a) (countField img a)) (from (suc a) k) i
+      from a (suc k) i = held-append (floats_at img (offset_field img a) (count_field img a)) (nodes_from img (suc a) k) (floats_held img (offset_field img a) (count_field img a)) (from (suc a) k) i
 
-  pub loaded-kept : Held (valuesIn img)
-  unfolding valuesIn
-  loaded-kept = floats-held img (valuesField img) (size (countsOf (shape_of img)))
+  pub loaded_kept : Held (values_in img)
+  unfolding values_in
+  loaded_kept = floats_held img (values_field img) (size (counts_of (shape_of img)))
 
   -- an image's unused counts are zero, so its shape is as an image has it
-  pub loaded-plain : plain (shape_of img) ≡ shape_of img
+  pub loaded_plain : plain (shape_of img) ≡ shape_of img
   unfolding plain shape_of
-  loaded-plain = ap (λ (cs : List ℕ). record { axes = axesField img; counts = cs }) (tabulate-same 4 (countIn (shape_of img)) (countField img) (λ a m. each a m (ltb a (axesField img)) (ltb-true a (axesField img)) (ltb-false a (axesField img))))
+  loaded_plain = ap (λ (cs : List ℕ). record { axes = axes_field img; counts = cs }) (tabulate_same 4 (count_in (shape_of img)) (count_field img) (λ a m. each a m (ltb a (axes_field img)) (ltb-true a (axes_field img)) (ltb-false a (axes_field img))))
     where
-      each : (a : ℕ) → a < 4 → (b : Bool) → (b ≡ true → a < axesField img) → (b ≡ false → axesField img ≤ a) → countIn (shape_of img) a ≡ countField img a
-      each a m true t f = made.count-some-of (shape_of img) a ∙ get_or-take (axesField img) (tabulate 4 (countField img)) a 0 (t refl) ∙ get_d_tabulate 4 a (countField img) 0 m
-      each a m false t f = made.count-none-of (shape_of img) a (f refl) ∙ sym (unused-zero img l.head a m (f refl))
+      each : (a : ℕ) → a < 4 → (b : Bool) → (b ≡ true → a < axes_field img) → (b ≡ false → axes_field img ≤ a) → count_in (shape_of img) a ≡ count_field img a
+      each a m true t f = made.count_some_of (shape_of img) a ∙ get_or-take (axes_field img) (tabulate 4 (count_field img)) a 0 (t refl) ∙ get_d_tabulate 4 a (count_field img) 0 m
+      each a m false t f = made.count_none_of (shape_of img) a (f refl) ∙ sym (unused_zero img l.head a m (f refl))
 
   -- what was loaded passes 1, 2, 3
-  pub loaded-frame : good (frameFault (shape_of img) (length (nodesIn img)) (length (valuesIn img))) ≡ true
-  unfolding frameFault
-  loaded-frame =
-      orders.both-passed (shapeFault (shape_of img)) _ s-good
-      (orders.both-passed (lengthFault 0 (total (countsOf (shape_of img))) (length (nodesIn img))) _ (orders.passed-no-fault _ (length-same 0 (total (countsOf (shape_of img))) (length (nodesIn img)) (nodes-total img s-good)))
-      (orders.passed-no-fault _ (length-same 1 (size (countsOf (shape_of img))) (length (valuesIn img)) (values-size img))))
+  pub loaded_frame : good (frame_fault (shape_of img) (length (nodes_in img)) (length (values_in img))) ≡ true
+  unfolding frame_fault
+  loaded_frame =
+      orders.both_passed (shape_fault (shape_of img)) _ s_good
+      (orders.both_passed (length_fault 0 (total (counts_of (shape_of img))) (length (nodes_in img))) _ (orders.passed-no_fault _ (length_same 0 (total (counts_of (shape_of img))) (length (nodes_in img)) (nodes_total img s_good)))
+      (orders.passed-no_fault _ (length_same 1 (size (counts_of (shape_of img))) (length (values_in img)) (values_size img))))
 
-  module _ (out : List ℕ) (room : imageLength (shape_of img) ≤ length out) where
-    pub loaded-writes : good (writeFault (shape_of img) (nodesIn img) (valuesIn img) (length out)) ≡ true
-    unfolding writeFault
-    loaded-writes =
-        orders.both-passed (frameFault (shape_of img) (length (nodesIn img)) (length (valuesIn img))) _ loaded-frame
-        (orders.both-passed (axesFault (countsOf (shape_of img)) (nodesIn img)) _ l.axes
-        (orders.both-passed (valuesFault (valuesIn img)) _ l.stored (orders.passed-no-fault _ (room-enough 2 (imageLength (shape_of img)) (length out) room))))
+  module _ (out : List ℕ) (room : image_length (shape_of img) ≤ length out) where
+    pub loaded_writes : good (write_fault (shape_of img) (nodes_in img) (values_in img) (length out)) ≡ true
+    unfolding write_fault
+    loaded_writes =
+        orders.both_passed (frame_fault (shape_of img) (length (nodes_in img)) (length (values_in img))) _ loaded_frame
+        (orders.both_passed (axes_fault (counts_of (shape_of img)) (nodes_in img)) _ l.axes
+        (orders.both_passed (values_fault (values_in img)) _ l.stored (orders.passed-no_fault _ (room_enough 2 (image_length (shape_of img)) (length out) room))))
 
     abbrev again : List ℕ
-    again = written (shape_of img) (nodesIn img) (valuesIn img) out
+    again = written (shape_of img) (nodes_in img) (values_in img) out
 
     -- "loading and writing gives an image that loads the same": the same answer and shape for every room, the same nodes and values
-    pub again-nodes : nodesIn again ≡ nodesIn img
-    again-nodes = written-nodes-back (shape_of img) four (nodesIn img) (valuesIn img) loaded-held loaded-kept out loaded-writes
+    pub again_nodes : nodes_in again ≡ nodes_in img
+    again_nodes = written_nodes_back (shape_of img) four (nodes_in img) (values_in img) loaded_held loaded_kept out loaded_writes
 
-    pub again-values : valuesIn again ≡ valuesIn img
-    again-values = written-values-back (shape_of img) four (nodesIn img) (valuesIn img) loaded-held loaded-kept out loaded-writes
+    pub again_values : values_in again ≡ values_in img
+    again_values = written_values_back (shape_of img) four (nodes_in img) (values_in img) loaded_held loaded_kept out loaded_writes
 
-    pub again-fault : (n' v' : ℕ) → loadFault again n' v' ≡ loadFault img n' v'
-    again-fault n' v' =
-        written-judged (shape_of img) four (nodesIn img) (valuesIn img) loaded-held loaded-kept out loaded-writes n' v'
-        ∙ ap (λ (t : Shape). roomsFault t n' v') loaded-plain
-        ∙ sym (judged img n' v' l.head l.areas l.pairs ∙ ap (λ (t : Fault). roomsFault (shape_of img) n' v' or t) contents ∙ rooms-or (shape_of img) n' v')
+    pub again_fault : (n' v' : ℕ) → load_fault again n' v' ≡ load_fault img n' v'
+    again_fault n' v' =
+        written_judged (shape_of img) four (nodes_in img) (values_in img) loaded_held loaded_kept out loaded_writes n' v'
+        ∙ ap (λ (t : Shape). rooms_fault t n' v') loaded_plain
+        ∙ sym (judged img n' v' l.head l.areas l.pairs ∙ ap (λ (t : Fault). rooms_fault (shape_of img) n' v' or t) contents ∙ rooms_or (shape_of img) n' v')
       where
-        contents : (axesFault (countsOf (shape_of img)) (nodesIn img) or valuesFault (valuesIn img)) ≡ noFault
-        contents = orders.or-good (axesFault (countsOf (shape_of img)) (nodesIn img)) _ l.axes ∙ stored-fine (valuesIn img) l.stored
+        contents : (axes_fault (counts_of (shape_of img)) (nodes_in img) or values_fault (values_in img)) ≡ no_fault
+        contents = orders.or_good (axes_fault (counts_of (shape_of img)) (nodes_in img)) _ l.axes ∙ stored-fine (values_in img) l.stored
 
-    pub again-answer : (n' v' : ℕ) → loadAnswer again n' v' ≡ loadAnswer img n' v'
-    unfolding loadAnswer
-    again-answer n' v' =
-        ap₂ (λ (a : Fault) (t : Shape). record { answer = a then fine; shape = given a t no_shape }) (again-fault n' v')
-        (written-shape-back (shape_of img) four (nodesIn img) (valuesIn img) loaded-held loaded-kept out loaded-writes ∙ loaded-plain)
+    pub again_answer : (n' v' : ℕ) → load_answer again n' v' ≡ load_answer img n' v'
+    unfolding load_answer
+    again_answer n' v' =
+        ap₂ (λ (a : Fault) (t : Shape). record { answer = a then fine; shape = given a t no_shape }) (again_fault n' v')
+        (written_shape_back (shape_of img) four (nodes_in img) (values_in img) loaded_held loaded_kept out loaded_writes ∙ loaded_plain)

@@ -4,26 +4,26 @@ use Rattle.std.specs.Prelude.{◌≡◌, true, List, [], ◌∷◌, ℕ, ◌+◌
 use Rattle.answer.specs.Answer.{refused}
 use Rattle.answer.specs.Faults.{good}
 use Rattle.answer.specs.declared.Fault.{Fault}
-use Rattle.layout.specs.Shape.{countsOf, size, total}
+use Rattle.layout.specs.Shape.{counts_of, size, total}
 use Rattle.layout.specs.declared.Shape.{Shape}
-use Rattle.checks.specs.Shapes.{shapeFault}
-use Rattle.writer.specs.Made.{imageLength, headerFields}
+use Rattle.checks.specs.Shapes.{shape_fault}
+use Rattle.writer.specs.Made.{image_length, header_fields}
 use Rattle.writer.specs.declared.WriteAnswer.{WriteAnswer}
 
 -- the answer of a fault, with no length
-unfoldable pub refusedWrite : Fault → WriteAnswer
-refusedWrite fault = record { answer = refused fault; length = 0 }
+unfoldable pub refused_write : Fault → WriteAnswer
+refused_write fault = record { answer = refused fault; length = 0 }
 
 -- a table that passes 1, 2 and 3
 pub record Framed (s : Shape) (nodes values : List Float) : Type 0 where
-  pub judged : good (shapeFault s) ≡ true
-  pub nodes-long : length nodes ≡ total (countsOf s)
-  pub values-long : length values ≡ size (countsOf s)
+  pub judged : good (shape_fault s) ≡ true
+  pub nodes_long : length nodes ≡ total (counts_of s)
+  pub values_long : length values ≡ size (counts_of s)
 
 -- and room for its image
 pub record Roomy (s : Shape) (nodes values : List Float) (room : ℕ) : Type 0 where
   pub framed : Framed s nodes values
-  pub room-enough : imageLength s ≤ room
+  pub room_enough : image_length s ≤ room
 
 -- ---- the header's fields as the code has them: a list of widths and a list of the numbers that go there, instead of pairs
 
@@ -49,20 +49,20 @@ pub record Fitting (widths fields : List ℕ) (room : ℕ) : Type 0 where
 
 -- an axis that a header has place for, of a judged shape
 pub record HeaderAxis (s : Shape) (axis : ℕ) : Type 0 where
-  pub judged : good (shapeFault s) ≡ true
+  pub judged : good (shape_fault s) ≡ true
   pub four : axis < 4
 
 -- its count, 0 where there is no such axis
 pub record Count (s : Shape) (axis r : ℕ) : Type 0 where
-  pub is : r ≡ get_or (countsOf s) axis 0
+  pub is : r ≡ get_or (counts_of s) axis 0
   pub few : r ≤ 64
 
 -- all fourteen fields
 pub record Header (s : Shape) (fields : List ℕ) : Type 0 where
   pub long : length fields ≡ 14
-  pub told : pairs widths fields ≡ headerFields s
+  pub told : pairs widths fields ≡ header_fields s
 
 -- a judged shape, and room for its header
 pub record HeaderRoom (s : Shape) (room : ℕ) : Type 0 where
-  pub judged : good (shapeFault s) ≡ true
+  pub judged : good (shape_fault s) ≡ true
   pub enough : 40 ≤ room

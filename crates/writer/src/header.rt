@@ -2,8 +2,8 @@
 ghost use Rattle.std.specs.Prelude.{◌≡◌, true, cond, ltb, length};
 ghost use Rattle.std.proofs.lemmas.List.Edits.{sets};
 ghost use Rattle.answer.specs.Faults.{good};
-ghost use Rattle.checks.specs.Shapes.{shapeFault};
-ghost use Rattle.writer.specs.Made.{fieldBytes, headerFields};
+ghost use Rattle.checks.specs.Shapes.{shape_fault};
+ghost use Rattle.writer.specs.Made.{field_bytes, header_fields};
 ghost use Rattle.writer.specs.Scaffolding.{pairs, Fitting, HeaderAxis, Count, Header, HeaderRoom};
 
 use crate::put;
@@ -16,7 +16,7 @@ const FIRST: u64 = image::HEADER as u64;
 // Numbers of these widths, one after the other.
 fn put_fields(out: &mut [u8], widths: &[usize], fields: &[u64])
     requires { Fitting widths.now fields.now (length out.old) }
-    ensures { out.new ≡ sets out.old 0 (fieldBytes (pairs widths.now fields.now)) }
+    ensures { out.new ≡ sets out.old 0 (field_bytes (pairs widths.now fields.now)) }
 {
     let mut at: usize = 0;
     let mut k: usize = 0;
@@ -51,7 +51,7 @@ fn offset_in(shape: Shape, axis: usize, at: u64) -> u64
 
 // The fourteen fields.
 fn header_fields(shape: Shape) -> [u64; 14]
-    requires { good (shapeFault shape) ≡ true }
+    requires { good (shape_fault shape) ≡ true }
     ensures { Header shape result }
 {
     let count0 = count_in(shape, 0);
@@ -78,7 +78,7 @@ fn header_fields(shape: Shape) -> [u64; 14]
 // Puts the header into the front of an output.
 pub(crate) fn put_header(shape: Shape, out: &mut [u8])
     requires { HeaderRoom shape (length out.old) }
-    ensures { out.new ≡ sets out.old 0 (fieldBytes (headerFields shape)) }
+    ensures { out.new ≡ sets out.old 0 (field_bytes (header_fields shape)) }
 {
     let widths = [1usize, 1, 2, 4, 2, 2, 2, 2, 4, 4, 4, 4, 4, 4];
     let fields = header_fields(shape);

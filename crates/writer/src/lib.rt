@@ -2,10 +2,10 @@
 ghost use Rattle.std.specs.Prelude.{◌≡◌, true, length};
 ghost use Rattle.std.proofs.lemmas.List.Edits.{sets};
 ghost use Rattle.answer.specs.Faults.{good};
-ghost use Rattle.checks.specs.Shapes.{shapeFault};
-ghost use Rattle.writer.specs.Made.{imageLength, image_of};
-ghost use Rattle.writer.specs.Write.{writeFault, Written};
-ghost use Rattle.writer.specs.Scaffolding.{refusedWrite, Roomy};
+ghost use Rattle.checks.specs.Shapes.{shape_fault};
+ghost use Rattle.writer.specs.Made.{image_length, image_of};
+ghost use Rattle.writer.specs.Write.{write_fault, Written};
+ghost use Rattle.writer.specs.Scaffolding.{refused_write, Roomy};
 
 // the header of a shape
 pub(crate) mod header;
@@ -27,8 +27,8 @@ pub struct WriteAnswer {
 
 // How many bytes the image of a judged shape has.
 fn image_length(shape: Shape) -> usize
-    requires { good (shapeFault shape) ≡ true }
-    ensures { result ≡ imageLength shape }
+    requires { good (shape_fault shape) ≡ true }
+    ensures { result ≡ image_length shape }
 {
     let held = shapes::sizes(shape);
     image::HEADER + 8 * held.nodes + 8 * held.values
@@ -36,7 +36,7 @@ fn image_length(shape: Shape) -> usize
 
 // Every check, before anything is written.
 fn write_fault(shape: Shape, nodes: &[f64], values: &[f64], room: usize) -> Fault
-    ensures { result ≡ writeFault shape nodes.now values.now room }
+    ensures { result ≡ write_fault shape nodes.now values.now room }
 {
     let fault = shapes::frame_fault(shape, nodes.len(), values.len());
     if fault.number != 0 {
@@ -61,7 +61,7 @@ fn put_image(shape: Shape, nodes: &[f64], values: &[f64], img: &mut [u8])
 
 // The answer of a write that is refused.
 fn refused(fault: Fault) -> WriteAnswer
-    ensures { result ≡ refusedWrite fault }
+    ensures { result ≡ refused_write fault }
 {
     WriteAnswer {
         answer: answer::refuse(fault),

@@ -1,8 +1,8 @@
 // Numbers and floats put into an output as little-endian bytes.
 ghost use Rattle.std.specs.Prelude.{◌≡◌, ◌+◌, ◌*◌, ◌≤◌, length};
 ghost use Rattle.std.proofs.lemmas.List.Edits.{sets};
-ghost use Rattle.bytes.specs.Words.{to_bytes};
-ghost use Rattle.writer.specs.Made.{floatBytes};
+ghost use Rattle.little_endian.specs.Words.{to_bytes};
+ghost use Rattle.writer.specs.Made.{float_bytes};
 
 // The n lowest bytes of a number, the lowest first.
 pub(crate) fn put_word(out: &mut [u8], at: usize, n: usize, x: u64)
@@ -21,7 +21,7 @@ pub(crate) fn put_word(out: &mut [u8], at: usize, n: usize, x: u64)
 // The bits of floats, eight bytes each.
 pub(crate) fn put_floats(floats: &[f64], out: &mut [u8], at: usize)
     requires { at + 8 * length floats.now ≤ length out.old }
-    ensures { out.new ≡ sets out.old at (floatBytes floats.now) }
+    ensures { out.new ≡ sets out.old at (float_bytes floats.now) }
 {
     let mut i: usize = 0;
     while i < floats.len() {

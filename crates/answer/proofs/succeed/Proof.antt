@@ -7,5 +7,5 @@ returns : tie.Need-returns
 unfolding answered
 returns c = refl
 
-pub succeed-spec : {M : Type 1} → statement M
-succeed-spec = tie.close (tie.spec returns)
+pub succeed_spec : {M : Type 1} → statement M
+succeed_spec = tie.close (tie.spec returns)

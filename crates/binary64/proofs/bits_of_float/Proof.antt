@@ -28,5 +28,5 @@ returns-2 : tie.Need-returns-2
 unfolding to_bits
 returns-2 c = ap (to_bits binary64) (sym (only_nan c.before.args.x c.if1.false))
 
-pub bits-of-float-spec : {M : Type 1} → statement M
-bits-of-float-spec = tie.close (tie.spec float-to-bits-result (λ c. search rules) returns-2)
+pub bits_of_float_spec : {M : Type 1} → statement M
+bits_of_float_spec = tie.close (tie.spec float-to-bits-result (λ c. search rules) returns-2)

@@ -8,21 +8,21 @@ use borrow.Author.Rules.{rules}
 use Rattle.binary64.proofs.float_of_bits.Statement.{statement}
 use Rattle.binary64.proofs.float_of_bits.Tie as tie
 
-is-nan : (x : Float) → is_nan x ≡ true → x ≡ nan
+is_nan_lem : (x : Float) → is_nan x ≡ true → x ≡ nan
 unfolding is_nan
-is-nan nan e = refl
-is-nan (inf s) e = absurd (subst T (sym e) tt)
-is-nan (fin s m d) e = absurd (subst T (sym e) tt)
+is_nan_lem nan e = refl
+is_nan_lem (inf s) e = absurd (subst T (sym e) tt)
+is_nan_lem (fin s m d) e = absurd (subst T (sym e) tt)
 
-zero-over-zero : div binary64 (of_bits binary64 0) (of_bits binary64 0) ≡ nan
+zero_over_zero : div binary64 (of_bits binary64 0) (of_bits binary64 0) ≡ nan
 unfolding div of_bits
-zero-over-zero = refl
+zero_over_zero = refl
 
 float-from-bits-result : tie.Need-float-from-bits-result
 float-from-bits-result c = subst (λ (b : Bool). T (not b)) (sym (nan_bits_above binary64 c.before.args.bits ∙ le-ltb _ _ c.if1.false)) tt
 
 returns : tie.Need-returns
-returns c = zero-over-zero ∙ sym (is-nan (of_bits binary64 c.before.args.bits) (sym (nan_bits_is binary64 c.before.args.bits) ∙ nan_bits_above binary64 c.before.args.bits ∙ lt-ltb _ _ c.if1.true))
+returns c = zero_over_zero ∙ sym (is_nan_lem (of_bits binary64 c.before.args.bits) (sym (nan_bits_is binary64 c.before.args.bits) ∙ nan_bits_above binary64 c.before.args.bits ∙ lt-ltb _ _ c.if1.true))
 
-pub float-of-bits-spec : {M : Type 1} → statement M
-float-of-bits-spec = tie.close (tie.spec float-from-bits-result returns (λ c. search rules))
+pub float_of_bits_spec : {M : Type 1} → statement M
+float_of_bits_spec = tie.close (tie.spec float-from-bits-result returns (λ c. search rules))

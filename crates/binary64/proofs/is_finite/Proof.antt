@@ -5,24 +5,24 @@ use mathlib.Core.Bool.{true, false}
 use lib.Ieee.{Float, nan, inf, fin, binary64, sub, eq, of_bits}
 use lib.Ieee.Scale.{finite}
 use Rattle.binary64.proofs.Order.{eq_refl}
-use Rattle.binary64.proofs.Difference.{Zero, sub-level}
+use Rattle.binary64.proofs.Difference.{Zero, sub_level}
 use Rattle.binary64.proofs.is_finite.Statement.{statement}
 use Rattle.binary64.proofs.is_finite.Tie as tie
 
-zero-equal : (z : Float) → Zero z → eq z (of_bits binary64 0) ≡ true
+zero_equal : (z : Float) → Zero z → eq z (of_bits binary64 0) ≡ true
 unfolding eq of_bits
-zero-equal z (inl p) = rw p
-zero-equal z (inr p) = rw p
+zero_equal z (inl p) = rw p
+zero_equal z (inr p) = rw p
 
 is_finite : (x : Float) → eq (sub binary64 x x) (of_bits binary64 0) ≡ finite x
 unfolding eq sub of_bits
 is_finite nan = refl
 is_finite (inf true) = refl
 is_finite (inf false) = refl
-is_finite (fin s m e) = zero-equal (sub binary64 (fin s m e) (fin s m e)) (sub-level (fin s m e) (fin s m e) refl refl (eq_refl (fin s m e) refl))
+is_finite (fin s m e) = zero_equal (sub binary64 (fin s m e) (fin s m e)) (sub_level (fin s m e) (fin s m e) refl refl (eq_refl (fin s m e) refl))
 
 returns : tie.Need-returns
 returns c = is_finite c.args.x
 
-pub is-finite-spec : {M : Type 1} → statement M
-is-finite-spec = tie.close (tie.spec returns)
+pub is_finite_spec : {M : Type 1} → statement M
+is_finite_spec = tie.close (tie.spec returns)

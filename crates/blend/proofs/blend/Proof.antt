@@ -8,5 +8,5 @@ returns : tie.Need-returns
 unfolding blended of_bits
 returns c = refl
 
-pub blend-spec : {M : Type 1} → statement M
-blend-spec = tie.close (tie.spec returns)
+pub blend_spec : {M : Type 1} → statement M
+blend_spec = tie.close (tie.spec returns)

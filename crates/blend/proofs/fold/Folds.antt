@@ -12,34 +12,34 @@ use Rattle.blend.specs.Blend.{blended}
 use Rattle.rust.specs.Scaffolding.{diffs, passed, butterfly}
 use Rattle.rust.specs.declared.AxisLocation.{AxisLocation}
 use Rattle.rust.specs.declared.AxisLocation.TheVariants.{Exact, Between}
-use Rattle.rust.proofs.Passes.{power-suc, over-at, over-here, front}
-use Rattle.blend.specs.Scaffolding.{passedOver, merged, half_of, grown}
+use Rattle.rust.proofs.Passes.{power_suc, over_at, over_here, front}
+use Rattle.blend.specs.Scaffolding.{passed_over, merged, half_of, grown}
 
 -- one more value of a pass in place
-abbrev pub blendAt : Float → ℕ → List Float → ℕ → Float
-blendAt f half vals i = blended (get_or vals i nan) (get_or vals (i + half) nan) f
+abbrev pub blend_at : Float → ℕ → List Float → ℕ → Float
+blend_at f half vals i = blended (get_or vals i nan) (get_or vals (i + half) nan) f
 
-pub pass_step : (f : Float) (half i : ℕ) (vals v : List Float) (b : Float) → i < length vals → v ≡ tabulate i (blendAt f half vals) ++ drop i vals
+pub pass_step : (f : Float) (half i : ℕ) (vals v : List Float) (b : Float) → i < length vals → v ≡ tabulate i (blend_at f half vals) ++ drop i vals
     → b ≡ blended (get_or v i nan) (get_or v (i + half) nan) f
-    → set v i b ≡ tabulate (i + 1) (blendAt f half vals) ++ drop (i + 1) vals
+    → set v i b ≡ tabulate (i + 1) (blend_at f half vals) ++ drop (i + 1) vals
 pass_step f half i vals v b l e q =
-    let low : get_or v i nan ≡ get_or vals i nan = ap (λ (x : List Float). get_or x i nan) e ∙ over-here i (blendAt f half vals) vals in
-    let high : get_or v (i + half) nan ≡ get_or vals (i + half) nan = ap (λ (x : List Float). get_or x (i + half) nan) e ∙ over-at i half (blendAt f half vals) vals in
+    let low : get_or v i nan ≡ get_or vals i nan = ap (λ (x : List Float). get_or x i nan) e ∙ over_here i (blend_at f half vals) vals in
+    let high : get_or v (i + half) nan ≡ get_or vals (i + half) nan = ap (λ (x : List Float). get_or x (i + half) nan) e ∙ over_at i half (blend_at f half vals) vals in
     ap₂ (λ (x : List Float) (y : Float). set x i y) e (q ∙ ap₂ (λ (x y : Float). blended x y f) low high)
-    ∙ tabulate-step i (blendAt f half vals) vals l
+    ∙ tabulate-step i (blend_at f half vals) vals l
 
-pub pass-done : (f : Float) (half i : ℕ) (vals v : List Float) → i ≡ half → v ≡ tabulate i (blendAt f half vals) ++ drop i vals → v ≡ passedOver f half vals
+pub pass_done : (f : Float) (half i : ℕ) (vals v : List Float) → i ≡ half → v ≡ tabulate i (blend_at f half vals) ++ drop i vals → v ≡ passed_over f half vals
 unfolding passed blended
-pass-done f half i vals v e q = q ∙ ap (λ (k : ℕ). tabulate k (blendAt f half vals) ++ drop k vals) e
+pass_done f half i vals v e q = q ∙ ap (λ (k : ℕ). tabulate k (blend_at f half vals) ++ drop k vals) e
 
 -- ---- how many corners are in use
-pub half-power : (p : AxisLocation) (ps : List AxisLocation) (h : ℕ) → h ≡ 2 ^ length (diffs (p ∷ ps)) → half_of p h ≡ 2 ^ length (diffs ps)
-half-power (Exact node) ps h e = e
-half-power (Between l f) ps h e = let d : h ≡ 2 ^ length (diffs ps) + 2 ^ length (diffs ps) = e ∙ power-suc (length (diffs ps)) in omega (arith, d)
+pub half_power : (p : AxisLocation) (ps : List AxisLocation) (h : ℕ) → h ≡ 2 ^ length (diffs (p ∷ ps)) → half_of p h ≡ 2 ^ length (diffs ps)
+half_power (Exact node) ps h e = e
+half_power (Between l f) ps h e = let d : h ≡ 2 ^ length (diffs ps) + 2 ^ length (diffs ps) = e ∙ power_suc (length (diffs ps)) in omega (arith, d)
 
-pub grown-power : (p : AxisLocation) (ps : List AxisLocation) (h : ℕ) → h ≡ 2 ^ length (diffs ps) → grown p h ≡ 2 ^ length (diffs (p ∷ ps))
-grown-power (Exact node) ps h e = e
-grown-power (Between l f) ps h e = ap₂ (λ (x y : ℕ). x + y) e e ∙ sym (power-suc (length (diffs ps)))
+pub grown_power : (p : AxisLocation) (ps : List AxisLocation) (h : ℕ) → h ≡ 2 ^ length (diffs ps) → grown p h ≡ 2 ^ length (diffs (p ∷ ps))
+grown_power (Exact node) ps h e = e
+grown_power (Between l f) ps h e = ap₂ (λ (x y : ℕ). x + y) e e ∙ sym (power_suc (length (diffs ps)))
 
 -- ---- the loop: the corners in use, blended on the axes that are left, give r
 pub record Folding (ps : List AxisLocation) (r : Float) (v : List Float) (h : ℕ) : Type 0 where
@@ -50,15 +50,15 @@ pub fold_step : (p : AxisLocation) (ps : List AxisLocation) (r : Float) (v w : L
 unfolding butterfly passed blended
 fold_step (Exact node) ps r v w h m z a b = record { counted = a ∙ z.counted; same = ap (butterfly (diffs ps)) b ∙ z.same }
 fold_step (Between l f) ps r v w h m z a b =
-    let e : m ≡ 2 ^ length (diffs ps) = a ∙ half-power (Between l f) ps h z.counted in
-    let long : 2 ^ length (diffs ps) ≤ length (passed f m v) = omega (arith, length-tabulate m (blendAt f m v), e) in
+    let e : m ≡ 2 ^ length (diffs ps) = a ∙ half_power (Between l f) ps h z.counted in
+    let long : 2 ^ length (diffs ps) ≤ length (passed f m v) = omega (arith, length-tabulate m (blend_at f m v), e) in
     record {
       counted = e;
       same = ap (butterfly (diffs ps)) b ∙ front (diffs ps) (passed f m v) (drop m v) long ∙ ap (λ (k : ℕ). butterfly (diffs ps) (passed f k v)) e ∙ z.same;
     }
 
-pub fold-fits : (p : AxisLocation) (ps : List AxisLocation) (h m : ℕ) → h ≡ 2 ^ length (diffs (p ∷ ps)) → h ≤ 16 → m ≡ half_of p h → grown p m ≤ 16
-fold-fits p ps h m e l a = omega (arith, grown-power p ps m (a ∙ half-power p ps h e), e, l)
+pub fold_fits : (p : AxisLocation) (ps : List AxisLocation) (h m : ℕ) → h ≡ 2 ^ length (diffs (p ∷ ps)) → h ≤ 16 → m ≡ half_of p h → grown p m ≤ 16
+fold_fits p ps h m e l a = omega (arith, grown_power p ps m (a ∙ half_power p ps h e), e, l)
 
 pub fold_at : (ls : List AxisLocation) (n d : ℕ) {r : Float} {v : List Float} {h : ℕ} → d < n → n ≤ length ls → Folding (drop d (take n ls)) r v h
     → Folding (get_or ls d (Exact 0) ∷ drop (d + 1) (take n ls)) r v h

@@ -5,27 +5,27 @@ use Prim.Native.Nat.{ℕ, min}
 use native.Mathlib.Omega.{arith}
 use lib.ListN.{length, get_or}
 use lib.Ieee.{Float, nan}
-use Rattle.answer.specs.Faults.{first_of}
+use Rattle.answer.specs.Faults.{first_fault}
 use Rattle.answer.specs.declared.Fault.{Fault}
-use Rattle.answer.proofs.Orders.{first-same}
+use Rattle.answer.proofs.Orders.{first_same}
 use Rattle.layout.specs.Layout.{tabulate}
 use Rattle.layout.proofs.Layouts.{length-tabulate, get_d_tabulate}
 use Rattle.blend.specs.Blend.{blended}
 use Rattle.blend.specs.Scaffolding.{blends}
-use Rattle.checks.specs.Numbers.{resultsFault, resultFault}
+use Rattle.checks.specs.Numbers.{results_fault, result_fault}
 
 abbrev pub run_at : Float → List Float → List Float → ℕ → Float
 run_at f low high i = blended (get_or low i nan) (get_or high i nan) f
 
-abbrev pub runFault : Float → List Float → List Float → ℕ → Fault
-runFault f low high i = resultFault i (run_at f low high i)
+abbrev pub run_fault : Float → List Float → List Float → ℕ → Fault
+run_fault f low high i = result_fault i (run_at f low high i)
 
 -- 12 of the blends is 12 of the first n places, as the code goes
-pub results-blends : (f : Float) (low high : List Float) (n : ℕ) → n ≡ min (length low) (length high)
-    → first_of (runFault f low high) 0 n ≡ resultsFault (blends f low high)
-unfolding resultsFault blends
-results-blends f low high n e =
-    ap (first_of (runFault f low high) 0) e
+pub results_blends : (f : Float) (low high : List Float) (n : ℕ) → n ≡ min (length low) (length high)
+    → first_fault (run_fault f low high) 0 n ≡ results_fault (blends f low high)
+unfolding results_fault blends
+results_blends f low high n e =
+    ap (first_fault (run_fault f low high) 0) e
     ∙ sym
-    (ap (first_of (λ i. resultFault i (get_or (tabulate (min (length low) (length high)) (run_at f low high)) i nan)) 0) (length-tabulate (min (length low) (length high)) (run_at f low high))
-    ∙ first-same _ _ 0 (min (length low) (length high)) (λ j a b. ap (resultFault j) (get_d_tabulate (min (length low) (length high)) j (run_at f low high) nan (omega arith))))
+    (ap (first_fault (λ i. result_fault i (get_or (tabulate (min (length low) (length high)) (run_at f low high)) i nan)) 0) (length-tabulate (min (length low) (length high)) (run_at f low high))
+    ∙ first_same _ _ 0 (min (length low) (length high)) (λ j a b. ap (result_fault j) (get_d_tabulate (min (length low) (length high)) j (run_at f low high) nan (omega arith))))

@@ -4,10 +4,10 @@ use mathlib.Core.Bool.{Bool, true, false, not, ◌&&◌}
 use Prim.Native.Nat.{ℕ, ◌≤◌}
 use borrow.Author.Tests.{le-leb, leb-true}
 use lib.Dec.{leb}
-use Rattle.answer.specs.Faults.{noFault, good}
+use Rattle.answer.specs.Faults.{no_fault, good}
 use Rattle.answer.proofs.Orders as orders
-use Rattle.answer.proofs.Tests.{and_left, and_right, not-false}
-use Rattle.checks.specs.Numbers.{axesCountFault, countFault}
+use Rattle.answer.proofs.Tests.{and_left, and_right, not_false}
+use Rattle.checks.specs.Numbers.{axes_count_fault, count_fault}
 
 -- ---- a number outside a range
 module _ (from to x : ℕ) where
@@ -17,41 +17,41 @@ module _ (from to x : ℕ) where
   between : from ≤ x → x ≤ to → outside ≡ false
   between h k = ap not (ap₂ ◌&&◌ (le-leb from x h) (le-leb x to k))
 
-  inside-low : outside ≡ false → from ≤ x
-  inside-low h = leb-true from x (and_left (leb from x) (leb x to) (not-false (leb from x && leb x to) h))
+  inside_low : outside ≡ false → from ≤ x
+  inside_low h = leb-true from x (and_left (leb from x) (leb x to) (not_false (leb from x && leb x to) h))
 
-  inside-high : outside ≡ false → x ≤ to
-  inside-high h = leb-true x to (and_right (leb from x) (leb x to) (not-false (leb from x && leb x to) h))
+  inside_high : outside ≡ false → x ≤ to
+  inside_high h = leb-true x to (and_right (leb from x) (leb x to) (not_false (leb from x && leb x to) h))
 
 -- ---- 1
 module _ (axes : ℕ) where
-  pub axes-right : 1 ≤ axes → axes ≤ 4 → noFault ≡ axesCountFault axes
-  unfolding axesCountFault
-  axes-right h k = orders.row-passed (outside 1 4 axes) 0 0 0 (between 1 4 axes h k)
+  pub axes_right : 1 ≤ axes → axes ≤ 4 → no_fault ≡ axes_count_fault axes
+  unfolding axes_count_fault
+  axes_right h k = orders.row_passed (outside 1 4 axes) 0 0 0 (between 1 4 axes h k)
 
-  module _ (h : good (axesCountFault axes) ≡ true) where
+  module _ (h : good (axes_count_fault axes) ≡ true) where
     counted : outside 1 4 axes ≡ false
-    unfolding axesCountFault
-    counted = orders.row-good (outside 1 4 axes) 0 0 0 h
+    unfolding axes_count_fault
+    counted = orders.row_good (outside 1 4 axes) 0 0 0 h
 
-    pub axes-some : 1 ≤ axes
-    axes-some = inside-low 1 4 axes counted
+    pub axes_some : 1 ≤ axes
+    axes_some = inside_low 1 4 axes counted
 
-    pub axes-four : axes ≤ 4
-    axes-four = inside-high 1 4 axes counted
+    pub axes_four : axes ≤ 4
+    axes_four = inside_high 1 4 axes counted
 
 -- ---- 2
 module _ (axis count : ℕ) where
-  pub count-fine : 2 ≤ count → count ≤ 64 → noFault ≡ countFault axis count
-  unfolding countFault
-  count-fine h k = orders.row-passed (outside 2 64 count) 1 axis 0 (between 2 64 count h k)
+  pub count-fine : 2 ≤ count → count ≤ 64 → no_fault ≡ count_fault axis count
+  unfolding count_fault
+  count-fine h k = orders.row_passed (outside 2 64 count) 1 axis 0 (between 2 64 count h k)
 
-  fits : good (countFault axis count) ≡ true → outside 2 64 count ≡ false
-  unfolding countFault
-  fits h = orders.row-good (outside 2 64 count) 1 axis 0 h
+  fits : good (count_fault axis count) ≡ true → outside 2 64 count ≡ false
+  unfolding count_fault
+  fits h = orders.row_good (outside 2 64 count) 1 axis 0 h
 
-  pub count-enough : good (countFault axis count) ≡ true → 2 ≤ count
-  count-enough h = inside-low 2 64 count (fits h)
+  pub count_enough : good (count_fault axis count) ≡ true → 2 ≤ count
+  count_enough h = inside_low 2 64 count (fits h)
 
-  pub count-few : good (countFault axis count) ≡ true → count ≤ 64
-  count-few h = inside-high 2 64 count (fits h)
+  pub count_few : good (count_fault axis count) ≡ true → count ≤ 64
+  count_few h = inside_high 2 64 count (fits h)

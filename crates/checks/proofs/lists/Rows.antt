@@ -9,9 +9,9 @@ use lib.Ieee.{Float, nan}
 use lib.Ieee.Scale.{finite}
 use Rattle.answer.specs.Faults.{good}
 use Rattle.answer.proofs.Orders as orders
-use Rattle.checks.specs.Numbers.{readingFault, readingsFault}
-use Rattle.checks.proofs.numbers.Rows.{reading-finite}
+use Rattle.checks.specs.Numbers.{reading_fault, readings_fault}
+use Rattle.checks.proofs.numbers.Rows.{reading_finite}
 
-pub readings-finite : (readings : List Float) → good (readingsFault readings) ≡ true → (a : ℕ) → a < length readings → finite (get_or readings a nan) ≡ true
-unfolding readingsFault
-readings-finite readings h a l = reading-finite a (get_or readings a nan) (orders.all-passed (λ b. readingFault b (get_or readings b nan)) 0 (length readings) h a (omega arith) (omega arith))
+pub readings_finite : (readings : List Float) → good (readings_fault readings) ≡ true → (a : ℕ) → a < length readings → finite (get_or readings a nan) ≡ true
+unfolding readings_fault
+readings_finite readings h a l = reading_finite a (get_or readings a nan) (orders.all_passed (λ b. reading_fault b (get_or readings b nan)) 0 (length readings) h a (omega arith) (omega arith))

@@ -5,23 +5,23 @@ use Prim.Native.Nat.{ℕ, ◌+◌, ◌-◌, ◌≤◌, ◌<◌, min}
 use native.Mathlib.Omega.{arith}
 use lib.ListN.{length, take, drop, get_or}
 use lib.Seq.{length-take-le}
-use Rattle.answer.specs.Faults.{noFault, first_of}
+use Rattle.answer.specs.Faults.{no_fault, first_fault}
 use Rattle.answer.specs.declared.Fault.{Fault}
 use Rattle.answer.proofs.Loops as loops
 use Rattle.layout.specs.Scaffolding.{Four}
-use Rattle.layout.specs.Layout.{axesOf}
-use Rattle.layout.proofs.Totals.{counts-least}
-use Rattle.layout.proofs.Walks.{Walk, walk-axis, walk-on}
+use Rattle.layout.specs.Layout.{axes_of}
+use Rattle.layout.proofs.Totals.{counts_least}
+use Rattle.layout.proofs.Walks.{Walk, walk_axis, walk_on}
 
 -- the row of axis k
 abbrev pub row_at : {A : Type 0} → (ℕ → List A → Fault) → List ℕ → List A → ℕ → Fault
-row_at row counts nodes k = row k (get_or (axesOf counts nodes) k [])
+row_at row counts nodes k = row k (get_or (axes_of counts nodes) k [])
 
 -- what is left of n axes, where axis a is next and starts at `at`
 pub record Left {A : Type 0} (row : ℕ → List A → Fault) (counts : List ℕ) (nodes : List A) (n at a : ℕ) : Type 0 where
   pub inside : at ≤ length nodes
   pub walk : Walk (take n counts) nodes a at
-  pub rows : loops.Left (row_at row (take n counts) nodes) (first_of (row_at row (take n counts) nodes) 0 n) 0 n a
+  pub rows : loops.Left (row_at row (take n counts) nodes) (first_fault (row_at row (take n counts) nodes) 0 n) 0 n a
 
 -- m axes are lent, and the first four of them are gone over, in the counts as they were read
 module _ {A : Type 0} (row : ℕ → List A → Fault) (own counts : List ℕ) (nodes : List A) (m n : ℕ) (w : Four own counts) (least : n ≡ min m 4) where
@@ -32,25 +32,25 @@ module _ {A : Type 0} (row : ℕ → List A → Fault) (own counts : List ℕ) (
   begin = record { inside = omega arith; walk = refl; rows = loops.begin (row_at row (take n counts) nodes) 0 n n (omega arith) }
 
   -- all rows, over the lent counts
-  all : first_of (row_at row (take n counts) nodes) 0 n ≡ first_of (row_at row (take m own) nodes) 0 (length (take m own))
+  all : first_fault (row_at row (take n counts) nodes) 0 n ≡ first_fault (row_at row (take m own) nodes) 0 (length (take m own))
   all =
-      ap (first_of (row_at row (take n counts) nodes) 0) (sym (length-take-le n counts within))
-      ∙ ap (λ (cs : List ℕ). first_of (row_at row cs nodes) 0 (length cs)) (counts-least counts n m w.four least ∙ ap (take m) w.same)
+      ap (first_fault (row_at row (take n counts) nodes) 0) (sym (length-take-le n counts within))
+      ∙ ap (λ (cs : List ℕ). first_fault (row_at row cs nodes) 0 (length cs)) (counts_least counts n m w.four least ∙ ap (take m) w.same)
 
   module _ (at a : ℕ) (l : Left row counts nodes n at a) where
-    pub done : n ≤ a → (r : Fault) → r ≡ noFault → r ≡ first_of (row_at row (take m own) nodes) 0 (length (take m own))
-    done h r e = loops.done (row_at row (take n counts) nodes) (first_of (row_at row (take n counts) nodes) 0 n) 0 n a l.rows h r e ∙ all
+    pub done : n ≤ a → (r : Fault) → r ≡ no_fault → r ≡ first_fault (row_at row (take m own) nodes) 0 (length (take m own))
+    done h r e = loops.done (row_at row (take n counts) nodes) (first_fault (row_at row (take n counts) nodes) 0 n) 0 n a l.rows h r e ∙ all
 
     module _ (here : a < n) (end : ℕ) (q : end ≡ at + min (get_or counts a 0) (length nodes - at)) (r : Fault) (e : r ≡ row a (take (end - at) (drop at nodes))) where
       judged : r ≡ row_at row (take n counts) nodes a
-      judged = e ∙ ap (row a) (walk-axis counts n nodes a at end within here l.walk q)
+      judged = e ∙ ap (row a) (walk_axis counts n nodes a at end within here l.walk q)
 
-      pub stop : (r.number ≡ 0 → ⊥) → r ≡ first_of (row_at row (take m own) nodes) 0 (length (take m own))
-      stop h = loops.stop (row_at row (take n counts) nodes) (first_of (row_at row (take n counts) nodes) 0 n) 0 n a l.rows here r judged h ∙ all
+      pub stop : (r.number ≡ 0 → ⊥) → r ≡ first_fault (row_at row (take m own) nodes) 0 (length (take m own))
+      stop h = loops.stop (row_at row (take n counts) nodes) (first_fault (row_at row (take n counts) nodes) 0 n) 0 n a l.rows here r judged h ∙ all
 
       pub again : r.number ≡ 0 → Left row counts nodes n end (a + 1)
       again h = record {
         inside = let i : at ≤ length nodes = l.inside in omega (arith, q);
-        walk = walk-on counts n nodes a at end within here l.walk q;
-        rows = loops.again (row_at row (take n counts) nodes) (first_of (row_at row (take n counts) nodes) 0 n) 0 n a l.rows here r judged h;
+        walk = walk_on counts n nodes a at end within here l.walk q;
+        rows = loops.again (row_at row (take n counts) nodes) (first_fault (row_at row (take n counts) nodes) 0 n) 0 n a l.rows here r judged h;
       }

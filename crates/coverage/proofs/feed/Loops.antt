@@ -12,21 +12,21 @@ use lib.Seq.{length-take-le}
 use Rattle.answer.proofs.Orders.{clash}
 use Rattle.layout.specs.declared.Shape.{Shape}
 use Rattle.image.specs.Fields.{shape_of}
-use Rattle.image.specs.Load.{loadFault}
+use Rattle.image.specs.Load.{load_fault}
 use Rattle.answer.specs.Faults.{good}
-use Rattle.checks.specs.Numbers.{mostRecords}
+use Rattle.checks.specs.Numbers.{most_records}
 use Rattle.tally.specs.declared.Tally.{Tally}
-use Rattle.tally.specs.Counts.{noneRead}
-use Rattle.ninterp.specs.Records.{recordSize}
-use Rattle.ninterp.proofs.CoverageBlocks.{block-records, block-left}
-use Rattle.ninterp.proofs.CountEnds.{counted_start, counted-block}
+use Rattle.tally.specs.Counts.{none_read}
+use Rattle.ninterp.specs.Records.{record_size}
+use Rattle.ninterp.proofs.CoverageBlocks.{block_records, block_left}
+use Rattle.ninterp.proofs.CountEnds.{counted_start, counted_block}
 use Rattle.ninterp.proofs.Afters.{Counted}
-use Rattle.program.specs.Coverage.{coverageReport, lastReport, reportBy, coverageOf}
+use Rattle.program.specs.Coverage.{coverage_report, last_report, report_by, coverage_of}
 use Rattle.program.specs.Whole.{TableOf}
-use Rattle.program.proofs.front.Loads.{table-shape, four-axes}
-use Rattle.program.proofs.run.Laws.{run-loaded}
-use Rattle.program.proofs.turns.Turning.{turnsLeft, fewer}
-use Rattle.program.proofs.coverage.Reports.{report-last}
+use Rattle.program.proofs.front.Loads.{table_shape, four_axes}
+use Rattle.program.proofs.run.Laws.{run_loaded}
+use Rattle.program.proofs.turns.Turning.{turns_left, fewer}
+use Rattle.program.proofs.coverage.Reports.{report_last}
 use Rattle.coverage.specs.Whole.{Whole, Reported}
 use Rattle.coverage.specs.Scaffolding.{Room, Stepped}
 use Rattle.coverage.specs.declared.feed.Next.{Next}
@@ -39,18 +39,18 @@ pub record Feeding (s : Shape) (nodes values : List Float) (buf : List ℕ) (t :
   pub bytes : List ℕ
   pub all_read : length bytes ≡ read
   pub counted : Counted s nodes values bytes t (take held buf)
-  pub last : (length (take held buf) < recordSize s) ⊎ (mostRecords ≤ t.records)
+  pub last : (length (take held buf) < record_size s) ⊎ (most_records ≤ t.records)
   pub filled : read ≤ asked
-  pub ends : go ≡ false → (read < asked) ⊎ (recordSize s ≤ held)
-  pub few : asked + 32768 * turnsLeft (mostRecords - t.records) go ≤ 32768 * 1000001
+  pub ends : go ≡ false → (read < asked) ⊎ (record_size s ≤ held)
+  pub few : asked + 32768 * turns_left (most_records - t.records) go ≤ 32768 * 1000001
 
 -- a record has room
-pub feed-room : {img : List ℕ} {s : Shape} {nodes values : List Float} {buf : List ℕ} {t : Tally} {held asked read : ℕ} {go : Bool}
+pub feed_room : {img : List ℕ} {s : Shape} {nodes values : List Float} {buf : List ℕ} {t : Tally} {held asked read : ℕ} {go : Bool}
     → TableOf img s nodes values → Feeding s nodes values buf t held asked read go → Room s (1 + 8 * s.axes) held buf
-feed-room t g = record { sized = refl; holds = g.holds; whole = omega (arith, four-axes t, g.long) }
+feed_room t g = record { sized = refl; holds = g.holds; whole = omega (arith, four_axes t, g.long) }
 
-pub feed-start : (s : Shape) (nodes values : List Float) (buf : List ℕ) (t : Tally) → t ≡ noneRead → length buf ≡ 32768 → Feeding s nodes values buf t 0 0 0 true
-feed-start s nodes values buf t e l = record {
+pub feed_start : (s : Shape) (nodes values : List Float) (buf : List ℕ) (t : Tally) → t ≡ none_read → length buf ≡ 32768 → Feeding s nodes values buf t 0 0 0 true
+feed_start s nodes values buf t e l = record {
   long = l;
   holds = omega arith;
   bytes = [];
@@ -65,60 +65,60 @@ feed-start s nodes values buf t e l = record {
 module _ {s : Shape} {nodes values : List Float} {held : ℕ} {t : Tally} {buf after : List ℕ} {n : Next} (p : Stepped s nodes values held t buf after n)
     {asked read : ℕ} {go : Bool} (g : Feeding s nodes values buf t held asked read go) (e : go ≡ true) where
   next : Counted s nodes values (g.bytes ++ p.block) n.tally (take n.held after)
-  next = rw (p.counted, p.left) (counted-block s nodes values g.counted p.block)
+  next = rw (p.counted, p.left) (counted_block s nodes values g.counted p.block)
 
-  pub turn-fewer : turnsLeft (mostRecords - n.tally.records) n.go < turnsLeft (mostRecords - t.records) go
-  turn-fewer =
-      fewer (mostRecords - t.records) (mostRecords - n.tally.records) go n.go e
-      (omega (arith, ap (λ (u : Tally). u.records) p.counted, block-records t s nodes values (take held buf ++ p.block)))
+  pub turn_fewer : turns_left (most_records - n.tally.records) n.go < turns_left (most_records - t.records) go
+  turn_fewer =
+      fewer (most_records - t.records) (most_records - n.tally.records) go n.go e
+      (omega (arith, ap (λ (u : Tally). u.records) p.counted, block_records t s nodes values (take held buf ++ p.block)))
       (λ h. omega (arith, p.goes h, next.within))
 
-  pub feed-step : length after ≡ length buf → Feeding s nodes values after n.tally n.held (asked + n.asked) (read + n.read) n.go
-  feed-step l = record {
+  pub feed_step : length after ≡ length buf → Feeding s nodes values after n.tally n.held (asked + n.asked) (read + n.read) n.go
+  feed_step l = record {
     long = l ∙ g.long;
     holds = p.holds;
     bytes = g.bytes ++ p.block;
     all_read = omega (arith, length-append g.bytes p.block, g.all_read, p.all_read);
     counted = next;
-    last = rw (p.counted, p.left) (block-left t s nodes values (take held buf ++ p.block));
+    last = rw (p.counted, p.left) (block_left t s nodes values (take held buf ++ p.block));
     filled = omega (arith, g.filled, p.filled);
     ends = λ h. ⊎_elim (λ k. inl (omega (arith, k, g.filled))) inr (p.stops h);
-    few = omega (arith, turn-fewer, g.few, g.long, p.room);
+    few = omega (arith, turn_fewer, g.few, g.long, p.room);
   }
 
 -- ---- after the last turn
 module _ {img : List ℕ} {s : Shape} {nodes values : List Float} (t : TableOf img s nodes values) {buf : List ℕ} {u : Tally} {held asked read : ℕ} {go : Bool}
     (g : Feeding s nodes values buf u held asked read go) where
   -- what is put is the report of the bytes that were read
-  all-counted : lastReport u s nodes values (take held buf) ≡ coverageOf (img ++ g.bytes)
-  all-counted =
-      report-last s nodes values (table-shape t) g.counted g.last
-      ∙ ap (λ (x : Shape). coverageReport x nodes values g.bytes) t.shape_is
-      ∙ ap₂ (λ (ns vs : List Float). coverageReport (shape_of img) ns vs g.bytes) t.nodes-are t.values-are
-      ∙ sym (run-loaded img g.bytes t.loads reportBy)
+  all_counted : last_report u s nodes values (take held buf) ≡ coverage_of (img ++ g.bytes)
+  all_counted =
+      report_last s nodes values (table_shape t) g.counted g.last
+      ∙ ap (λ (x : Shape). coverage_report x nodes values g.bytes) t.shape_is
+      ∙ ap₂ (λ (ns vs : List Float). coverage_report (shape_of img) ns vs g.bytes) t.nodes_are t.values_are
+      ∙ sym (run_loaded img g.bytes t.loads report_by)
 
-  pub feed-report : Reported img read (lastReport u s nodes values (take held buf))
-  feed-report = record { records = g.bytes; all_read = g.all_read; right = all-counted }
+  pub feed_report : Reported img read (last_report u s nodes values (take held buf))
+  feed_report = record { records = g.bytes; all_read = g.all_read; right = all_counted }
 
   -- it ends where the input does, or a byte after the last record that may be counted
-  feed-ends : go ≡ false → (read < asked) ⊎ (mostRecords * recordSize (shape_of img) + 1 ≤ read)
-  feed-ends h = ⊎_elim inl (λ k. inr (enough k)) (g.ends h)
+  feed_ends : go ≡ false → (read < asked) ⊎ (most_records * record_size (shape_of img) + 1 ≤ read)
+  feed_ends h = ⊎_elim inl (λ k. inr (enough k)) (g.ends h)
     where
-      same : recordSize s ≡ recordSize (shape_of img)
-      same = ap recordSize t.shape_is
+      same : record_size s ≡ record_size (shape_of img)
+      same = ap record_size t.shape_is
 
-      enough : recordSize s ≤ held → mostRecords * recordSize (shape_of img) + 1 ≤ read
+      enough : record_size s ≤ held → most_records * record_size (shape_of img) + 1 ≤ read
       enough k =
           let n : length (take held buf) ≡ held = length-take-le held buf g.holds in
-          let l : mostRecords ≤ u.records = ⊎_elim (λ m. absurd (omega (arith, m, n, k))) (λ m. m) g.last in
-          omega (arith, n, k, g.counted.spent, g.all_read, mul-le-mul_right (recordSize s) l, same)
+          let l : most_records ≤ u.records = ⊎_elim (λ m. absurd (omega (arith, m, n, k))) (λ m. m) g.last in
+          omega (arith, n, k, g.counted.spent, g.all_read, mul-le-mul_right (record_size s) l, same)
 
-  pub feed-whole : go ≡ false → (printed : ℕ) (ok : Bool) → printed ≡ length (lastReport u s nodes values (take held buf))
+  pub feed_whole : go ≡ false → (printed : ℕ) (ok : Bool) → printed ≡ length (last_report u s nodes values (take held buf))
       → Whole img (record { asked = asked; read = read; printed = printed; ok = ok })
-  feed-whole h printed ok e = record {
+  feed_whole h printed ok e = record {
     records = g.bytes;
     all_read = g.all_read;
-    all-printed = λ _. e ∙ ap length all-counted;
-    refused-ends = λ z. clash (good (loadFault img 256 4096)) t.loads z;
-    input-ends = λ _ _. feed-ends h;
+    all_printed = λ _. e ∙ ap length all_counted;
+    refused_ends = λ z. clash (good (load_fault img 256 4096)) t.loads z;
+    input_ends = λ _ _. feed_ends h;
   }

@@ -11,18 +11,18 @@ use lib.Dec.{eqb, ltb}
 use lib.Ieee.{Float}
 use lib.ListN.{length, take, drop}
 use lib.Seq.{length-take-le}
-use Rattle.answer.proofs.Tests.{and_left, and_right, by-eq}
+use Rattle.answer.proofs.Tests.{and_left, and_right, by_eq}
 use Rattle.layout.specs.declared.Shape.{Shape}
 use Rattle.lines.specs.Scaffolding.{Filled}
-use Rattle.lines.proofs.Feeds.{filled-count}
+use Rattle.lines.proofs.Feeds.{filled_count}
 use Rattle.tally.specs.declared.Tally.{Tally}
-use Rattle.ninterp.specs.Records.{recordSize}
-use Rattle.ninterp.specs.Counting.{blockCount, blockTally}
+use Rattle.ninterp.specs.Records.{record_size}
+use Rattle.ninterp.specs.Counting.{block_count, block_tally}
 use Rattle.ninterp.specs.declared.records.count.BlockTally.{BlockTally}
-use Rattle.ninterp.proofs.CoverageBlocks.{block-used, block-records}
-use Rattle.ninterp.proofs.CountEnds.{used-is}
+use Rattle.ninterp.proofs.CoverageBlocks.{block_used, block_records}
+use Rattle.ninterp.proofs.CountEnds.{used_is}
 use Rattle.program.specs.Scaffolding.{shifted}
-use Rattle.program.proofs.turns.Turning.{left-moved}
+use Rattle.program.proofs.turns.Turning.{left_moved}
 use Rattle.coverage.specs.Scaffolding.{Room, Stepped}
 
 -- b is the buffer before the block was read and c after it
@@ -30,35 +30,35 @@ pub record Done (s : Shape) (nodes values : List Float) (size held have : ℕ) (
   pub room : Room s size held b
   pub filled : Filled held b c have
   pub kept : length c ≡ length b
-  pub counted : done ≡ blockTally t s nodes values (take have c)
+  pub counted : done ≡ block_tally t s nodes values (take have c)
 
 module _ {s : Shape} {nodes values : List Float} {size held have : ℕ} {t : Tally} {done : BlockTally} {b c : List ℕ}
     (k : Done s nodes values size held have t done b c) where
-  pub step-used : done.used ≤ have
-  step-used =
+  pub step_used : done.used ≤ have
+  step_used =
       omega (
         arith,
         ap (λ (d : BlockTally). d.used) k.counted,
-        block-used t s nodes values (take have c),
+        block_used t s nodes values (take have c),
         length-take-le have c k.filled.within,
       )
 
   grown : held ≤ have
-  grown = omega (arith, filled-count k.room.holds k.filled)
+  grown = omega (arith, filled_count k.room.holds k.filled)
 
   -- where some bytes are used, some records were counted
   more : 1 ≤ done.used → t.records < done.tally.records
-  more h = omega (arith, ap (λ (d : BlockTally). d.tally.records) k.counted, block-records t s nodes values (take have c), some)
+  more h = omega (arith, ap (λ (d : BlockTally). d.tally.records) k.counted, block_records t s nodes values (take have c), some)
     where
-      some : blockCount t s (take have c) ≡ 0 → ⊥
+      some : block_count t s (take have c) ≡ 0 → ⊥
       some z =
-          let none : blockCount t s (take have c) * recordSize s ≡ 0 = ap (λ (n : ℕ). n * recordSize s) z ∙ zero-mul (recordSize s) in
-          omega (arith, h, none, ap (λ (d : BlockTally). d.used) k.counted, used-is s nodes values t (take have c))
+          let none : block_count t s (take have c) * record_size s ≡ 0 = ap (λ (n : ℕ). n * record_size s) z ∙ zero-mul (record_size s) in
+          omega (arith, h, none, ap (λ (d : BlockTally). d.used) k.counted, used_is s nodes values t (take have c))
 
   -- f is the buffer after what is left was moved to its front
   module _ (f : List ℕ) (m : f ≡ shifted c done.used (have - done.used)) (wide : length f ≡ length c) where
-    whole : done ≡ blockTally t s nodes values (take held b ++ k.filled.block)
-    whole = k.counted ∙ ap (blockTally t s nodes values) k.filled.bytes
+    whole : done ≡ block_tally t s nodes values (take held b ++ k.filled.block)
+    whole = k.counted ∙ ap (block_tally t s nodes values) k.filled.bytes
 
     goes : eqb have (length f) && ltb (have - done.used) size ≡ true → t.records < done.tally.records
     goes h =
@@ -66,10 +66,10 @@ module _ {s : Shape} {nodes values : List Float} {size held have : ℕ} {t : Tal
         let short : have - done.used < size = ltb-true (have - done.used) size (and_right (eqb have (length f)) (ltb (have - done.used) size) h) in
         more (omega (arith, k.room.whole, k.room.sized, k.kept, wide))
 
-    stops : eqb have (length f) && ltb (have - done.used) size ≡ false → (have - held < length b - held) ⊎ (recordSize s ≤ have - done.used)
-    stops h = by-eq have (length f) full (λ n. inl (omega (arith, n, k.filled.within, k.kept, wide, grown)))
+    stops : eqb have (length f) && ltb (have - done.used) size ≡ false → (have - held < length b - held) ⊎ (record_size s ≤ have - done.used)
+    stops h = by_eq have (length f) full (λ n. inl (omega (arith, n, k.filled.within, k.kept, wide, grown)))
       where
-        full : have ≡ length f → (have - held < length b - held) ⊎ (recordSize s ≤ have - done.used)
+        full : have ≡ length f → (have - held < length b - held) ⊎ (record_size s ≤ have - done.used)
         full e =
             let left : ltb (have - done.used) size ≡ false = sym (ap (λ (x : Bool). x && ltb (have - done.used) size) (eq-eqb have (length f) e)) ∙ h in
             inr (omega (arith, ltb-false (have - done.used) size left, k.room.sized))
@@ -81,10 +81,10 @@ module _ {s : Shape} {nodes values : List Float} {size held have : ℕ} {t : Tal
       block = k.filled.block;
       room = omega (arith, k.room.holds);
       filled = omega (arith, k.filled.within, k.kept);
-      all_read = omega (arith, filled-count k.room.holds k.filled);
+      all_read = omega (arith, filled_count k.room.holds k.filled);
       counted = ap (λ (d : BlockTally). d.tally) whole;
       left =
-          left-moved have done.used c f k.filled.within step-used m
+          left_moved have done.used c f k.filled.within step_used m
           ∙ ap₂ (λ (d : BlockTally) (xs : List ℕ). drop d.used xs) whole k.filled.bytes;
       holds = omega (arith, k.filled.within, wide);
       goes = λ h. goes (sym g ∙ h);

@@ -5,5 +5,5 @@ use Rattle.layout.proofs.no_shape.Tie as tie
 returns : tie.Need-returns
 returns c = refl
 
-pub no-shape-spec : {M : Type 1} → statement M
-no-shape-spec = tie.close (tie.spec returns)
+pub no_shape_spec : {M : Type 1} → statement M
+no_shape_spec = tie.close (tie.spec returns)

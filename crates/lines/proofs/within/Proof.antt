@@ -20,5 +20,5 @@ returns c = there c.before.args.at c.before.args.n c.before.args.len c.if1.true
 returns-2 : tie.Need-returns-2
 returns-2 c = let a = c.before.args in lt-leb a.at a.len c.if1.false ∙ sym (lt-leb (a.at + a.n) a.len (omega (arith, c.if1.false)))
 
-pub within-spec : {M : Type 1} → statement M
-within-spec = tie.close (tie.spec returns returns-2)
+pub within_spec : {M : Type 1} → statement M
+within_spec = tie.close (tie.spec returns returns-2)

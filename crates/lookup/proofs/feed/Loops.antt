@@ -12,11 +12,11 @@ use lib.Ieee.{Float}
 use Rattle.answer.proofs.Orders.{clash}
 use Rattle.layout.specs.declared.Shape.{Shape}
 use Rattle.lines.specs.Stream.{Rule, lines_of}
-use Rattle.program.specs.Run.{ruleOf}
-use Rattle.checks.specs.Numbers.{mostRecords}
+use Rattle.program.specs.Run.{rule_of}
+use Rattle.checks.specs.Numbers.{most_records}
 use Rattle.program.specs.Whole.{TableOf}
-use Rattle.program.proofs.front.Loads.{four-axes}
-use Rattle.program.proofs.turns.Turning.{turnsLeft, fewer}
+use Rattle.program.proofs.front.Loads.{four_axes}
+use Rattle.program.proofs.turns.Turning.{turns_left, fewer}
 use Rattle.lookup.specs.declared.feed.Next.{Next}
 use Rattle.lookup.specs.Scaffolding.{Room, Last, Stepped}
 
@@ -31,8 +31,8 @@ pub record Reached (p : Rule) (limit left : ℕ) (rest : List ℕ) (read printed
   pub spent : (limit - left) * p.size + length rest ≡ read
   pub right : (more : List ℕ) → lines_of p limit (bytes ++ more) ≡ text ++ lines_of p left (rest ++ more)
 
-pub reached-start : (p : Rule) (limit : ℕ) → Reached p limit limit [] 0 0
-reached-start p limit = record {
+pub reached_start : (p : Rule) (limit : ℕ) → Reached p limit limit [] 0 0
+reached_start p limit = record {
   bytes = [];
   text = [];
   counted = refl;
@@ -45,10 +45,10 @@ reached-start p limit = record {
     none : (limit - limit) * p.size ≡ 0
     none = ap (λ (n : ℕ). n * p.size) (omega arith) ∙ zero-mul p.size
 
-pub reached-step : {p : Rule} {limit held left read printed : ℕ} {b c : List ℕ} {n : Next} → held ≤ length b
+pub reached_step : {p : Rule} {limit held left read printed : ℕ} {b c : List ℕ} {n : Next} → held ≤ length b
     → Reached p limit left (take held b) read printed → Stepped p held left b c n
     → Reached p limit n.left (take n.held c) (read + n.read) (printed + n.printed)
-reached-step {p} {limit} {held} {left} {read} {printed} {b} {c} {n} h g s = record {
+reached_step {p} {limit} {held} {left} {read} {printed} {b} {c} {n} h g s = record {
   bytes = g.bytes ++ s.block;
   text = g.text ++ s.text;
   counted = omega (arith, length-append g.bytes s.block, g.counted, s.counted);
@@ -71,25 +71,25 @@ pub record Feeding (p : Rule) (buf out : List ℕ) (held left asked read printed
   pub long : length buf ≡ 32768
   pub wide : length out ≡ 81920
   pub holds : held ≤ length buf
-  pub reached : Reached p mostRecords left (take held buf) read printed
+  pub reached : Reached p most_records left (take held buf) read printed
   pub filled : read ≤ asked
   pub last : go ≡ false → ok ≡ true → (left ≡ 0) ⊎ ((read < asked) × (held < p.size))
-  pub few : asked + 32768 * turnsLeft left go ≤ 32768 * 1000001
-  pub short : printed + 81920 * turnsLeft left go ≤ 81920 * 1000001
+  pub few : asked + 32768 * turns_left left go ≤ 32768 * 1000001
+  pub short : printed + 81920 * turns_left left go ≤ 81920 * 1000001
 
 -- a record and a line have room
-pub feed-room : {img : List ℕ} {shape : Shape} {nodes values : List Float} {buf out : List ℕ} {held left asked read printed : ℕ} {go ok : Bool}
-    → TableOf img shape nodes values → Feeding (ruleOf img) buf out held left asked read printed go ok → Room (ruleOf img) (1 + 8 * shape.axes) held buf out
-feed-room {img} t g =
+pub feed_room : {img : List ℕ} {shape : Shape} {nodes values : List Float} {buf out : List ℕ} {held left asked read printed : ℕ} {go ok : Bool}
+    → TableOf img shape nodes values → Feeding (rule_of img) buf out held left asked read printed go ok → Room (rule_of img) (1 + 8 * shape.axes) held buf out
+feed_room {img} t g =
     let same = ap (λ (s : Shape). 1 + 8 * s.axes) t.shape_is in
-    record { sized = same; holds = g.holds; whole = omega (arith, same, four-axes t, g.long); spaced = omega (arith, g.wide) }
+    record { sized = same; holds = g.holds; whole = omega (arith, same, four_axes t, g.long); spaced = omega (arith, g.wide) }
 
-pub feed-start : (p : Rule) (buf out : List ℕ) → length buf ≡ 32768 → length out ≡ 81920 → Feeding p buf out 0 mostRecords 0 0 0 true true
-feed-start p buf out l w = record {
+pub feed_start : (p : Rule) (buf out : List ℕ) → length buf ≡ 32768 → length out ≡ 81920 → Feeding p buf out 0 most_records 0 0 0 true true
+feed_start p buf out l w = record {
   long = l;
   wide = w;
   holds = omega arith;
-  reached = reached-start p mostRecords;
+  reached = reached_start p most_records;
   filled = omega arith;
   last = λ h. clash true refl h;
   few = omega arith;
@@ -97,31 +97,31 @@ feed-start p buf out l w = record {
 }
 
 module _ {p : Rule} {held left : ℕ} {buf after : List ℕ} {n : Next} (s : Stepped p held left buf after n) where
-  pub turn-fewer : {go : Bool} → go ≡ true → turnsLeft n.left n.go < turnsLeft left go
-  turn-fewer {go} e = fewer left n.left go n.go e s.within s.goes
+  pub turn_fewer : {go : Bool} → go ≡ true → turns_left n.left n.go < turns_left left go
+  turn_fewer {go} e = fewer left n.left go n.go e s.within s.goes
 
-  pub feed-step : {out late : List ℕ} {asked read printed : ℕ} {go ok : Bool} → Feeding p buf out held left asked read printed go ok → go ≡ true
+  pub feed_step : {out late : List ℕ} {asked read printed : ℕ} {go ok : Bool} → Feeding p buf out held left asked read printed go ok → go ≡ true
       → length after ≡ length buf → length late ≡ length out → n.printed ≤ length out
       → Feeding p after late n.held n.left (asked + n.asked) (read + n.read) (printed + n.printed) n.go n.ok
-  feed-step g e l w c = record {
+  feed_step g e l w c = record {
     long = l ∙ g.long;
     wide = w ∙ g.wide;
     holds = s.holds;
-    reached = reached-step g.holds g.reached s;
+    reached = reached_step g.holds g.reached s;
     filled = omega (arith, g.filled, s.filled);
     last = λ h o. ⊎_elim inl (λ t. inr (omega (arith, t.0, g.filled), t.1)) (s.stops h o);
-    few = omega (arith, turn-fewer e, g.few, g.long, s.room);
-    short = omega (arith, turn-fewer e, g.short, g.wide, c);
+    few = omega (arith, turn_fewer e, g.few, g.long, s.room);
+    short = omega (arith, turn_fewer e, g.short, g.wide, c);
   }
 
 -- after the last turn
 module _ {p : Rule} {buf out : List ℕ} {held left asked read printed : ℕ} {go ok : Bool} (g : Feeding p buf out held left asked read printed go ok)
     (stops : go ≡ false) (fine : ok ≡ true) where
-  pub feed-last : Last p left (take held buf)
-  feed-last = ⊎_elim inl (λ t. inr (omega (arith, t.1, length-take-le held buf g.holds))) (g.last stops fine)
+  pub feed_last : Last p left (take held buf)
+  feed_last = ⊎_elim inl (λ t. inr (omega (arith, t.1, length-take-le held buf g.holds))) (g.last stops fine)
 
-  pub feed-ends : (read < asked) ⊎ (mostRecords * p.size ≤ read)
-  feed-ends = ⊎_elim (λ z. inr (omega (arith, g.reached.spent, all z))) (λ t. inl t.0) (g.last stops fine)
+  pub feed_ends : (read < asked) ⊎ (most_records * p.size ≤ read)
+  feed_ends = ⊎_elim (λ z. inr (omega (arith, g.reached.spent, all z))) (λ t. inl t.0) (g.last stops fine)
     where
-      all : left ≡ 0 → (mostRecords - left) * p.size ≡ mostRecords * p.size
-      all z = ap (λ (k : ℕ). (mostRecords - k) * p.size) z
+      all : left ≡ 0 → (most_records - left) * p.size ≡ most_records * p.size
+      all z = ap (λ (k : ℕ). (most_records - k) * p.size) z

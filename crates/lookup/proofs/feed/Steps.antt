@@ -13,15 +13,15 @@ use lib.Seq.{length-take-le, take_all}
 use Rattle.answer.specs.Faults.{refusal}
 use Rattle.answer.specs.Answer.{refused}
 use Rattle.lines.specs.Line.{line_of, longest}
-use Rattle.lines.specs.Stream.{Rule, linesFirst, lines_of, Block}
+use Rattle.lines.specs.Stream.{Rule, lines_first, lines_of, Block}
 use Rattle.lines.specs.Scaffolding.{Turned, Filled}
 use Rattle.lines.proofs.Blocks.{Answered, answered, lines_none}
-use Rattle.lines.proofs.Feeds.{filled-count}
-use Rattle.lines.proofs.Puts.{wrote-take}
+use Rattle.lines.proofs.Feeds.{filled_count}
+use Rattle.lines.proofs.Puts.{wrote_take}
 use Rattle.lines.proofs.Runs.{cut_off}
-use Rattle.program.specs.Input.{goesOn, endInto, endSize}
+use Rattle.program.specs.Input.{goes_on, end_into, end_size}
 use Rattle.program.specs.Scaffolding.{shifted}
-use Rattle.program.proofs.input.Ends.{goes-on-means, stops-means, no-record-left, end-told}
+use Rattle.program.proofs.input.Ends.{goes_on_means, stops_means, no_record_left, end_told}
 use Rattle.program.proofs.turns.Turning.{turning}
 use Rattle.lookup.specs.Scaffolding.{Room, Last, Stepped}
 
@@ -37,29 +37,29 @@ module _ {p : Rule} {size held left have count written : ℕ} {b c d e : List �
   done : Answered p left (take have c) d e count written
   done = answered k.block k.spaced
 
-  pub step-there : have ≤ length c
-  step-there = k.filled.within
+  pub step_there : have ≤ length c
+  step_there = k.filled.within
 
   there : length (take have c) ≡ have
-  there = length-take-le have c step-there
+  there = length-take-le have c step_there
 
   same : count * size ≡ count * p.size
   same = ap (λ (n : ℕ). count * n) k.room.sized
 
   pub step-grown : held ≤ have
-  step-grown = omega (arith, filled-count k.room.holds k.filled)
+  step-grown = omega (arith, filled_count k.room.holds k.filled)
 
   pub step_count : count ≤ left
   step_count = done.within
 
-  pub step-used : count * size ≤ have
-  step-used = omega (arith, done.whole, there, same)
+  pub step_used : count * size ≤ have
+  step_used = omega (arith, done.whole, there, same)
 
   pub step_room : written ≤ length e
   step_room = omega (arith, done.room, k.spaced)
 
-  pub step-text : take written e ≡ linesFirst p count (take have c)
-  step-text = wrote-take done.lines
+  pub step_text_lem : take written e ≡ lines_first p count (take have c)
+  step_text_lem = wrote_take done.lines
 
   -- some record was answered, where records may still come and the buffer was filled or holds a whole one still
   some : (left - count ≡ 0 → ⊥) → (have ≡ length c) ⊎ (size ≤ have - count * size) → count ≡ 0 → ⊥
@@ -69,7 +69,7 @@ module _ {p : Rule} {size held left have count written : ℕ} {b c d e : List �
       none = ap (λ (n : ℕ). n * p.size) z ∙ zero-mul p.size
 
       empty : written ≡ 0
-      empty = k.block.long ∙ ap (λ (n : ℕ). length (linesFirst p n (take have c))) z ∙ ap length (lines_none p (take have c))
+      empty = k.block.long ∙ ap (λ (n : ℕ). length (lines_first p n (take have c))) z ∙ ap length (lines_none p (take have c))
 
       by : (left ≤ count) ⊎ ((length (take have c) < count * p.size + p.size) ⊎ (length d < written + p.longest))
           → (have ≡ length c) ⊎ (size ≤ have - count * size) → ⊥
@@ -87,7 +87,7 @@ module _ {p : Rule} {size held left have count written : ℕ} {b c d e : List �
     whole = leb size (have - count * size)
 
     turn : Turned p left (take have c) (take written e) (left - count) (take (have - count * size) f)
-    turn = subst (λ (n : ℕ). Turned p left (take have c) (take written e) (left - count) (take (have - n) f)) (sym same) (turning have c step-there k.block k.spaced moved)
+    turn = subst (λ (n : ℕ). Turned p left (take have c) (take written e) (left - count) (take (have - n) f)) (sym same) (turning have c step_there k.block k.spaced moved)
       where
         moved : f ≡ shifted c (count * p.size) (have - count * p.size)
         moved = m ∙ ap (λ (n : ℕ). shifted c n (have - n)) same
@@ -95,44 +95,44 @@ module _ {p : Rule} {size held left have count written : ℕ} {b c d e : List �
     spent : (left - (left - count)) * p.size ≡ count * size
     spent = ap (λ (n : ℕ). n * p.size) (omega (arith, step_count)) ∙ sym same
 
-    goes : (ok : Bool) → goesOn ok full (left - count) whole ≡ true → left - count < left
+    goes : (ok : Bool) → goes_on ok full (left - count) whole ≡ true → left - count < left
     goes ok h =
-        let q = goes-on-means full (left - count) whole ok h in
+        let q = goes_on_means full (left - count) whole ok h in
         let n : count ≡ 0 → ⊥ = some q.0 (⊎_elim (λ x. inl (eqb-true have (length f) x ∙ wide)) (λ x. inr (leb-true size (have - count * size) x)) q.1) in
         omega (arith, n, step_count)
 
-    stops : goesOn true full (left - count) whole ≡ false → (left - count ≡ 0) ⊎ ((have - held < length b - held) × (have - count * size < p.size))
-    stops h = ⊎_elim inl (λ q. inr (short (eqb-false have (length f) q.0), omega (arith, leb-false size (have - count * size) q.1, k.room.sized))) (stops-means full (left - count) whole h)
+    stops : goes_on true full (left - count) whole ≡ false → (left - count ≡ 0) ⊎ ((have - held < length b - held) × (have - count * size < p.size))
+    stops h = ⊎_elim inl (λ q. inr (short (eqb-false have (length f) q.0), omega (arith, leb-false size (have - count * size) q.1, k.room.sized))) (stops_means full (left - count) whole h)
       where
         short : (have ≡ length f → ⊥) → have - held < length b - held
-        short n = omega (arith, n, wide, k.kept, step-there, step-grown)
+        short n = omega (arith, n, wide, k.kept, step_there, step-grown)
 
-    pub stepped : (printed : ℕ) (go ok : Bool) → printed ≡ length (linesFirst p count (take have c))
-        → go ≡ goesOn ok (eqb have (length f)) (left - count) (leb size (have - count * size))
+    pub stepped : (printed : ℕ) (go ok : Bool) → printed ≡ length (lines_first p count (take have c))
+        → go ≡ goes_on ok (eqb have (length f)) (left - count) (leb size (have - count * size))
         → Stepped p held left b f
         (record { held = have - count * size; left = left - count; asked = length b - held; read = have - held; printed = printed; go = go; ok = ok })
     stepped printed go ok w g = record {
       block = k.filled.block;
       text = take written e;
       room = omega (arith, k.room.holds);
-      filled = omega (arith, step-there, k.kept);
-      counted = omega (arith, filled-count k.room.holds k.filled);
-      told = ap length step-text ∙ sym w;
+      filled = omega (arith, step_there, k.kept);
+      counted = omega (arith, filled_count k.room.holds k.filled);
+      told = ap length step_text_lem ∙ sym w;
       turned = rw (← k.filled.bytes) turn;
-      spent = omega (arith, spent, step-used, step-grown);
-      holds = omega (arith, step-there, wide);
+      spent = omega (arith, spent, step_used, step-grown);
+      holds = omega (arith, step_there, wide);
       within = omega arith;
       goes = λ h. goes ok (sym g ∙ h);
-      stops = λ h o. stops (sym (ap (λ (x : Bool). goesOn x full (left - count) whole) o) ∙ sym g ∙ h);
+      stops = λ h o. stops (sym (ap (λ (x : Bool). goes_on x full (left - count) whole) o) ∙ sym g ∙ h);
     }
 
 -- what is put at the input's end is what is printed of the rest
-pub end-put : (p : Rule) → p.cut ≡ line_of (refused (refusal 3 0 2)) → (left : ℕ) (rest out : List ℕ) → longest ≤ length out → Last p left rest
-    → (r : ℕ) (after : List ℕ) → r ≡ endSize (length rest) left out → after ≡ endInto (length rest) left out
+pub end_put : (p : Rule) → p.cut ≡ line_of (refused (refusal 3 0 2)) → (left : ℕ) (rest out : List ℕ) → longest ≤ length out → Last p left rest
+    → (r : ℕ) (after : List ℕ) → r ≡ end_size (length rest) left out → after ≡ end_into (length rest) left out
     → (take r after ≡ lines_of p left rest) × (r ≤ length after)
-end-put p cut left rest out room (inl z) r after e f =
-    let none : r ≡ 0 = e ∙ sym (no-record-left (length rest) left out z).0 in
+end_put p cut left rest out room (inl z) r after e f =
+    let none : r ≡ 0 = e ∙ sym (no_record_left (length rest) left out z).0 in
     (ap (λ (n : ℕ). take n after) none ∙ cut_off p left rest z, omega (arith, none))
-end-put p cut left rest out room (inr s) r after e f =
-    let t = end-told p cut (length rest) left rest out (omega arith) room s r after e f in
+end_put p cut left rest out room (inr s) r after e f =
+    let t = end_told p cut (length rest) left rest out (omega arith) room s r after e f in
     (t.0 ∙ ap (lines_of p left) (take_all (length rest) rest (omega arith)), t.1)

@@ -3,7 +3,7 @@ ghost use Rattle.std.specs.Prelude.{◌≡◌, ◌+◌, ◌≤◌, length};
 ghost use Rattle.lines.specs.Line.{line_of, longest};
 ghost use Rattle.lines.specs.Scaffolding.{Wrote};
 ghost use Rattle.lines.specs.Stream.{Block};
-ghost use Rattle.ninterp.specs.Records.{recordSize, recordAnswer, recordRule};
+ghost use Rattle.ninterp.specs.Records.{record_size, record_answer, record_rule};
 ghost use Rattle.ninterp.specs.Scaffolding.{Known};
 
 use crate::records;
@@ -30,9 +30,9 @@ fn put_answer(
     to: usize,
 ) -> usize
     requires known { Known shape nodes.now values.now table uniform }
-    requires rec_len { (length rec.now ≡ recordSize shape) × (to + longest ≤ length out.old) }
+    requires rec_len { (length rec.now ≡ record_size shape) × (to + longest ≤ length out.old) }
     ensures wrote { Wrote out.old to
-        (line_of (recordAnswer shape nodes.now values.now rec.now)) out.new result }
+        (line_of (record_answer shape nodes.now values.now rec.now)) out.new result }
     ensures upper_bound { result ≤ to + longest }
 {
     let a = records::whole_answer(shape, nodes, values, table, uniform, rec);
@@ -52,8 +52,8 @@ fn answer_records(
     out: &mut [u8],
 ) -> Done
     requires known { Known shape nodes.now values.now table uniform }
-    requires size_value { size ≡ recordSize shape }
-    ensures { Block (recordRule shape nodes.now values.now) most records.now
+    requires size_value { size ≡ record_size shape }
+    ensures { Block (record_rule shape nodes.now values.now) most records.now
         out.old out.new result.count result.written }
 {
     let mut count: usize = 0;
@@ -84,7 +84,7 @@ pub fn answer_block(
     most: usize,
     out: &mut [u8],
 ) -> Done
-    ensures { Block (recordRule shape nodes.now values.now) most records.now
+    ensures { Block (record_rule shape nodes.now values.now) most records.now
         out.old out.new result.count result.written }
 {
     if !records::is_whole(shape, records.len()) {

@@ -1,11 +1,11 @@
 // Records counted in a tally: one record, a block of them, for which the table is judged once, and what is left at the input's end.
 ghost use Rattle.std.specs.Prelude.{◌≡◌, cond, ltb, length};
 ghost use Rattle.layout.specs.Layout.{tabulate};
-ghost use Rattle.tally.specs.Tally.{countedOf};
+ghost use Rattle.tally.specs.Tally.{counted_of};
 ghost use Rattle.tally.specs.Scaffolding.{tally_of};
-ghost use Rattle.ninterp.specs.Records.{recordSize, recordAnswer};
-ghost use Rattle.ninterp.specs.Coverage.{recordCell};
-ghost use Rattle.ninterp.specs.Counting.{outcomeOf, countedRecord, blockTally, countedRest};
+ghost use Rattle.ninterp.specs.Records.{record_size, record_answer};
+ghost use Rattle.ninterp.specs.Coverage.{record_cell};
+ghost use Rattle.ninterp.specs.Counting.{outcome_of, counted_record, block_tally, counted_rest};
 ghost use Rattle.ninterp.specs.Scaffolding.{FlatTable, Known};
 
 use crate::records;
@@ -26,7 +26,7 @@ pub struct BlockTally {
 // stored and waited for.
 fn cells_of(shape: Shape, nodes: &[f64], rec: &[u8]) -> [usize; 4]
     requires { FlatTable shape nodes.now }
-    ensures { result ≡ tabulate 4 (λ a. cond (ltb a shape.axes) (recordCell shape nodes.now a rec.now) 0) }
+    ensures { result ≡ tabulate 4 (λ a. cond (ltb a shape.axes) (record_cell shape nodes.now a rec.now) 0) }
 {
     let axes = shape.axes;
     let counts = shape.counts;
@@ -36,7 +36,7 @@ fn cells_of(shape: Shape, nodes: &[f64], rec: &[u8]) -> [usize; 4]
     while a < axes {
         let count = counts[a];
         let end = at + count;
-        let reading = bytes::float(rec, 1 + 8 * a);
+        let reading = little_endian::float(rec, 1 + 8 * a);
         let cell = cells::lower_index(&nodes[at..end], reading);
         found[a] = cell;
         at = end;
@@ -47,8 +47,8 @@ fn cells_of(shape: Shape, nodes: &[f64], rec: &[u8]) -> [usize; 4]
 
 // What became of a record that is answered so.
 fn outcome(number: u32, shape: Shape, nodes: &[f64], values: &[f64], rec: &[u8]) -> Outcome
-    requires { number ≡ (recordAnswer shape nodes.now values.now rec.now).number }
-    ensures { result ≡ outcomeOf shape nodes.now values.now rec.now }
+    requires { number ≡ (record_answer shape nodes.now values.now rec.now).number }
+    ensures { result ≡ outcome_of shape nodes.now values.now rec.now }
 {
     if number != 0 {
         return Outcome {
@@ -73,7 +73,7 @@ pub fn counted_record(
     values: &[f64],
     rec: &[u8],
 ) -> TallyAnswer
-    ensures { result ≡ countedRecord t shape nodes.now values.now rec.now }
+    ensures { result ≡ counted_record t shape nodes.now values.now rec.now }
 {
     let a = records::record_answer(shape, nodes, values, rec);
     let o = outcome(a.number, shape, nodes, values, rec);
@@ -95,10 +95,10 @@ fn count_next(
     read: u32,
 ) -> u32
     requires known { Known shape nodes.now values.now table uniform }
-    requires rec_len { length rec.now ≡ recordSize shape }
+    requires rec_len { length rec.now ≡ record_size shape }
     ensures { tally_of result cells.new numbers.new
-        ≡ (countedOf (tally_of read cells.old numbers.old)
-        (outcomeOf shape nodes.now values.now rec.now)).tally }
+        ≡ (counted_of (tally_of read cells.old numbers.old)
+        (outcome_of shape nodes.now values.now rec.now)).tally }
 {
     let a = records::whole_answer(shape, nodes, values, table, uniform, rec);
     let o = outcome(a.number, shape, nodes, values, rec);
@@ -116,8 +116,8 @@ fn count_records(
     size: usize,
     records: &[u8],
 ) -> BlockTally
-    requires { Known shape nodes.now values.now table uniform × (size ≡ recordSize shape) }
-    ensures { result ≡ blockTally t shape nodes.now values.now records.now }
+    requires { Known shape nodes.now values.now table uniform × (size ≡ record_size shape) }
+    ensures { result ≡ block_tally t shape nodes.now values.now records.now }
 {
     let mut cells = t.cells;
     let mut numbers = t.numbers;
@@ -154,7 +154,7 @@ pub fn count_block(
     values: &[f64],
     records: &[u8],
 ) -> BlockTally
-    ensures { result ≡ blockTally t shape nodes.now values.now records.now }
+    ensures { result ≡ block_tally t shape nodes.now values.now records.now }
 {
     if !records::is_whole(shape, records.len()) {
         return BlockTally { tally: t, used: 0 };
@@ -183,7 +183,7 @@ pub fn counted_rest(
     values: &[f64],
     rest: &[u8],
 ) -> TallyAnswer
-    ensures { result ≡ countedRest t shape nodes.now values.now rest.now }
+    ensures { result ≡ counted_rest t shape nodes.now values.now rest.now }
 {
     if rest.len() == 0 {
         let answer = answer::pass();

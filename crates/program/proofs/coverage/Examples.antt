@@ -3,41 +3,41 @@ use mathlib.Core.Path.{◌≡◌, refl, ◌∙◌}
 use mathlib.Core.List.{List, [], ◌∷◌, ◌++◌}
 use Prim.Native.Nat.{ℕ}
 use lib.Ieee.{of_bits, lt, le, eq, add, sub, mul, div}
-use Rattle.answer.specs.Faults.{refusal, noFault, good, when, ◌or◌, first_of, given}
+use Rattle.answer.specs.Faults.{refusal, no_fault, good, when, ◌or◌, first_fault, given}
 use Rattle.answer.specs.Answer.{refused, answered, ◌then◌}
 use Rattle.checks.specs.Nodes.{gap}
-use Rattle.checks.specs.Numbers.{riseFault, nodeFault, nodesFault, axesCountFault, countFault, lengthFault, finiteFault, readingFault, resultFault, productFault, axesFault, rangesFault, valueFault, valuesFault, readingsFault, rangeFault}
+use Rattle.checks.specs.Numbers.{rise_fault, node_fault, nodes_fault, axes_count_fault, count_fault, length_fault, finite_fault, reading_fault, result_fault, product_fault, axes_fault, ranges_fault, value_fault, values_fault, readings_fault, range_fault}
 use Rattle.layout.specs.Shape.{size, total}
-use Rattle.layout.specs.Layout.{axesOf, strides, placeBy, table}
-use Rattle.checks.specs.Shapes.{shapeFault, frameFault}
-use Rattle.bytes.specs.Words.{of_bytes, word_at, float_at}
-use Rattle.orders.specs.Orders.{lookupFault}
+use Rattle.layout.specs.Layout.{axes_of, strides, place_by, table}
+use Rattle.checks.specs.Shapes.{shape_fault, frame_fault}
+use Rattle.little_endian.specs.Words.{of_bytes, word_at, float_at}
+use Rattle.orders.specs.Orders.{lookup_fault}
 use Rattle.blend.specs.Blend.{blended, computed}
 use Rattle.image.proofs.Examples.{img}
-use Rattle.image.specs.Image.{floatsAt, nodesFrom, nodesIn, valuesIn}
-use Rattle.image.specs.Fields.{axesField, countField, offsetField, valuesField, shape_of}
-use Rattle.lines.specs.Digit.{glyphOf, digits, places, decimal}
-use Rattle.lines.specs.Report.{cellLine, numberLine, joined, reportOf}
-use Rattle.axis.specs.Cells.{lowerIndex}
+use Rattle.image.specs.Image.{floats_at, nodes_from, nodes_in, values_in}
+use Rattle.image.specs.Fields.{axes_field, count_field, offset_field, values_field, shape_of}
+use Rattle.lines.specs.Digit.{glyph_of, digits, places, decimal}
+use Rattle.lines.specs.Report.{cell_line, number_line, joined, report_of}
+use Rattle.axis.specs.Cells.{lower_index}
 use Rattle.axis.specs.Cells as cells
-use Rattle.axis.specs.Locations.{fraction, axisLocation}
-use Rattle.axis.specs.Exact.{exactNode}
-use Rattle.axis.specs.Picks.{nearestIndex}
-use Rattle.tally.specs.Counts.{howMany}
-use Rattle.ninterp.specs.Tables.{indices, picked, nearestAnswer}
-use Rattle.ninterp.specs.Linears.{locations, interpolated, linearAnswer}
-use Rattle.ninterp.specs.Records.{kindAnswer, recordReadings, recordFault, recordAnswer}
-use Rattle.ninterp.specs.Coverage.{recordsIn, recordCell, fellIn, refusedBy, cellTotal, numberTotal, goesPast}
-use Rattle.program.specs.Coverage.{coverageReport, reportBy, coverageOf}
-use Rattle.program.proofs.run.Laws.{run-loaded}
+use Rattle.axis.specs.Locations.{fraction, axis_location}
+use Rattle.axis.specs.Exact.{exact_node}
+use Rattle.axis.specs.Picks.{nearest_index}
+use Rattle.tally.specs.Counts.{how_many}
+use Rattle.ninterp.specs.Tables.{indices, picked, nearest_answer}
+use Rattle.ninterp.specs.Linears.{locations, interpolated, linear_answer}
+use Rattle.ninterp.specs.Records.{kind_answer, record_readings, record_fault, record_answer}
+use Rattle.ninterp.specs.Coverage.{records_in, record_cell, fell_in, refused_by, cell_total, number_total, goes_past}
+use Rattle.program.specs.Coverage.{coverage_report, report_by, coverage_of}
+use Rattle.program.proofs.run.Laws.{run_loaded}
 use Rattle.program.proofs.run.Examples.{three, loads}
 
 abbrev printed : List ℕ
 printed = 99 ∷ 101 ∷ 108 ∷ 108 ∷ 32 ∷ 48 ∷ 32 ∷ 48 ∷ 32 ∷ 50 ∷ 10 ∷ 110 ∷ 111 ∷ 32 ∷ 49 ∷ 49 ∷ 32 ∷ 49 ∷ 10 ∷ []
 
-three-report : reportBy img three ≡ printed
-unfolding coverageReport reportOf joined cellLine numberLine glyphOf digits places decimal recordsIn recordCell fellIn refusedBy cellTotal numberTotal goesPast howMany lowerIndex cells.howMany recordFault recordAnswer recordReadings kindAnswer linearAnswer nearestAnswer locations interpolated nearestIndex indices picked exactNode fraction axisLocation axesCountFault productFault axesField countField offsetField valuesField shape_of floatsAt nodesFrom nodesIn valuesIn blended computed lookupFault of_bytes word_at float_at shapeFault lengthFault frameFault axesFault valueFault valuesFault readingsFault rangeFault rangesFault size total axesOf strides placeBy table gap countFault finiteFault riseFault nodeFault nodesFault readingFault resultFault refusal refused ◌then◌ answered noFault good when ◌or◌ first_of given of_bits lt le eq add sub mul div
-three-report = refl
+three_report : report_by img three ≡ printed
+unfolding coverage_report report_of joined cell_line number_line glyph_of digits places decimal records_in record_cell fell_in refused_by cell_total number_total goes_past how_many lower_index cells.how_many record_fault record_answer record_readings kind_answer linear_answer nearest_answer locations interpolated nearest_index indices picked exact_node fraction axis_location axes_count_fault product_fault axes_field count_field offset_field values_field shape_of floats_at nodes_from nodes_in values_in blended computed lookup_fault of_bytes word_at float_at shape_fault length_fault frame_fault axes_fault value_fault values_fault readings_fault range_fault ranges_fault size total axes_of strides place_by table gap count_fault finite_fault rise_fault node_fault nodes_fault reading_fault result_fault refusal refused ◌then◌ answered no_fault good when ◌or◌ first_fault given of_bits lt le eq add sub mul div
+three_report = refl
 
-pub example-coverage : coverageOf (img ++ three) ≡ printed
-example-coverage = run-loaded img three loads reportBy ∙ three-report
+pub example_coverage : coverage_of (img ++ three) ≡ printed
+example_coverage = run_loaded img three loads report_by ∙ three_report

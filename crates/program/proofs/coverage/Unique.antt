@@ -2,27 +2,27 @@
 use mathlib.Core.Path.{◌≡◌}
 use mathlib.Core.List.{List}
 use Prim.Native.Nat.{ℕ}
-use Rattle.answer.proofs.Outcome.{one-outcome}
+use Rattle.answer.proofs.Outcome.{one_outcome}
 use Rattle.program.specs.declared.run.RunAnswer.{RunAnswer}
 use Rattle.program.proofs.coverage.put.Reads as put
 use Rattle.program.proofs.coverage.finish.Reads as finish
 use Rattle.program.proofs.coverage.run.Reads as run
 
-pub put-unique : (κs : _) (a : _) (r s : ℕ) (x y : _) → put.Post κs a r x → put.Post κs a s y → r ≡ s
-put-unique κs a r s x y p q = one-outcome r s _ p.0.0 q.0.0
+pub put_unique : (κs : _) (a : _) (r s : ℕ) (x y : _) → put.Post κs a r x → put.Post κs a s y → r ≡ s
+put_unique κs a r s x y p q = one_outcome r s _ p.0.0 q.0.0
 
-pub put-output : (κs : _) (a : _) (r s : ℕ) (x y : _) → put.Post κs a r x → put.Post κs a s y → ◌≡◌ {A = List ℕ} x.1.1.1.0.now y.1.1.1.0.now
-put-output κs a r s x y p q = one-outcome x.1.1.1.0.now y.1.1.1.0.now _ p.0.1 q.0.1
+pub put_output : (κs : _) (a : _) (r s : ℕ) (x y : _) → put.Post κs a r x → put.Post κs a s y → ◌≡◌ {A = List ℕ} x.1.1.1.0.now y.1.1.1.0.now
+put_output κs a r s x y p q = one_outcome x.1.1.1.0.now y.1.1.1.0.now _ p.0.1 q.0.1
 
-pub finish-unique : (κs : _) (a : _) (r s : ℕ) (x y : _) → finish.Post κs a r x → finish.Post κs a s y → r ≡ s
-finish-unique κs a r s x y p q = one-outcome r s _ p.0.0 q.0.0
+pub finish_unique : (κs : _) (a : _) (r s : ℕ) (x y : _) → finish.Post κs a r x → finish.Post κs a s y → r ≡ s
+finish_unique κs a r s x y p q = one_outcome r s _ p.0.0 q.0.0
 
-pub finish-output : (κs : _) (a : _) (r s : ℕ) (x y : _) → finish.Post κs a r x → finish.Post κs a s y
+pub finish_output : (κs : _) (a : _) (r s : ℕ) (x y : _) → finish.Post κs a r x → finish.Post κs a s y
     → ◌≡◌ {A = List ℕ} x.1.1.1.1.1.0.now y.1.1.1.1.1.0.now
-finish-output κs a r s x y p q = one-outcome x.1.1.1.1.1.0.now y.1.1.1.1.1.0.now _ p.0.1 q.0.1
+finish_output κs a r s x y p q = one_outcome x.1.1.1.1.1.0.now y.1.1.1.1.1.0.now _ p.0.1 q.0.1
 
-pub run-unique : (κs : _) (a : _) (r s : RunAnswer) (x y : _) → run.Post κs a r x → run.Post κs a s y → r ≡ s
-run-unique κs a r s x y p q = one-outcome r s _ p.answer q.answer
+pub run_unique : (κs : _) (a : _) (r s : RunAnswer) (x y : _) → run.Post κs a r x → run.Post κs a s y → r ≡ s
+run_unique κs a r s x y p q = one_outcome r s _ p.answer q.answer
 
-pub run-output : (κs : _) (a : _) (r s : RunAnswer) (x y : _) → run.Post κs a r x → run.Post κs a s y → ◌≡◌ {A = List ℕ} x.1.0.now y.1.0.now
-run-output κs a r s x y p q = one-outcome x.1.0.now y.1.0.now _ p.text_out q.text_out
+pub run_output : (κs : _) (a : _) (r s : RunAnswer) (x y : _) → run.Post κs a r x → run.Post κs a s y → ◌≡◌ {A = List ℕ} x.1.0.now y.1.0.now
+run_output κs a r s x y p q = one_outcome x.1.0.now y.1.0.now _ p.text_out q.text_out

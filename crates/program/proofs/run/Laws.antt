@@ -9,39 +9,39 @@ use lib.Seq.{take_at, drop_at}
 use Rattle.answer.specs.Faults.{good}
 use Rattle.answer.specs.Answer.{refused}
 use Rattle.lines.specs.Line.{line_of}
-use Rattle.bytes.specs.Words.{word_at}
-use Rattle.image.specs.Load.{loadFault}
-use Rattle.image.specs.Head.{headFault}
-use Rattle.image.proofs.Heads.{stated-length}
-use Rattle.image.proofs.Laws.{load-means}
-use Rattle.program.specs.Input.{imageSize, imageIn}
-use Rattle.program.proofs.input.Ends.{head-enough, size-stated}
+use Rattle.little_endian.specs.Words.{word_at}
+use Rattle.image.specs.Load.{load_fault}
+use Rattle.image.specs.Head.{head_fault}
+use Rattle.image.proofs.Heads.{stated_length}
+use Rattle.image.proofs.Laws.{load_means}
+use Rattle.program.specs.Input.{image_size, image_in}
+use Rattle.program.proofs.input.Ends.{head_enough, size_stated}
 use Rattle.program.specs.Run.{run_by}
 
 -- an image that loads is as long as it states, so what follows it is records
-module _ (img more : List ℕ) (g : good (loadFault img 256 4096) ≡ true) where
-  head : good (headFault img) ≡ true
-  head = (load-means img 256 4096 g).head
+module _ (img more : List ℕ) (g : good (load_fault img 256 4096) ≡ true) where
+  head : good (head_fault img) ≡ true
+  head = (load_means img 256 4096 g).head
 
   stated : (word_at 4 img 4 ≡ length img) × ((40 ≤ word_at 4 img 4) × (word_at 4 img 4 ≤ 36864))
-  stated = stated-length img head
+  stated = stated_length img head
 
-  size : imageSize (img ++ more) ≡ length img
-  size = head-enough img more (omega (arith, stated)) ∙ sym (size-stated img (word_at 4 img 4) refl stated.1.0 stated.1.1) ∙ stated.0
+  size : image_size (img ++ more) ≡ length img
+  size = head_enough img more (omega (arith, stated)) ∙ sym (size_stated img (word_at 4 img 4) refl stated.1.0 stated.1.1) ∙ stated.0
 
-  image : imageIn (img ++ more) ≡ img
+  image : image_in (img ++ more) ≡ img
   image = ap (λ (n : ℕ). take n (img ++ more)) size ∙ take_at img more (length img) refl
 
-  pub run-loaded : (text : List ℕ → List ℕ → List ℕ) → run_by text (img ++ more) ≡ text img more
+  pub run_loaded : (text : List ℕ → List ℕ → List ℕ) → run_by text (img ++ more) ≡ text img more
   unfolding run_by
-  run-loaded text =
-      ap₂ (λ (i r : List ℕ). cond (good (loadFault i 256 4096)) (text i r) (line_of (refused (loadFault i 256 4096))))
+  run_loaded text =
+      ap₂ (λ (i r : List ℕ). cond (good (load_fault i 256 4096)) (text i r) (line_of (refused (load_fault i 256 4096))))
       image (ap (λ (n : ℕ). drop n (img ++ more)) size ∙ drop_at img more (length img) refl)
-      ∙ ap (λ (b : Bool). cond b (text img more) (line_of (refused (loadFault img 256 4096)))) g
+      ∙ ap (λ (b : Bool). cond b (text img more) (line_of (refused (load_fault img 256 4096)))) g
 
 -- what was read of an image that is refused is one line, whatever follows it
-pub run-refused : (text : List ℕ → List ℕ → List ℕ) (input : List ℕ) → good (loadFault (imageIn input) 256 4096) ≡ false
-    → run_by text input ≡ line_of (refused (loadFault (imageIn input) 256 4096))
+pub run_refused : (text : List ℕ → List ℕ → List ℕ) (input : List ℕ) → good (load_fault (image_in input) 256 4096) ≡ false
+    → run_by text input ≡ line_of (refused (load_fault (image_in input) 256 4096))
 unfolding run_by
-run-refused text input h =
-    ap (λ (b : Bool). cond b (text (imageIn input) (drop (imageSize input) input)) (line_of (refused (loadFault (imageIn input) 256 4096)))) h
+run_refused text input h =
+    ap (λ (b : Bool). cond b (text (image_in input) (drop (image_size input) input)) (line_of (refused (load_fault (image_in input) 256 4096)))) h

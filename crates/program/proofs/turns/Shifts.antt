@@ -20,11 +20,11 @@ pub record Shifting (a : List ℕ) (from n i : ℕ) (b : List ℕ) : Type 0 wher
   pub front : take i b ≡ take i (drop from a)
   pub back : drop i b ≡ drop i a
 
-pub shift-start : (a : List ℕ) (from n : ℕ) → from + n ≤ length a → Shifting a from n 0 a
-shift-start a from n h = record { within = omega arith; room = h; kept = refl; front = refl; back = refl }
+pub shift_start : (a : List ℕ) (from n : ℕ) → from + n ≤ length a → Shifting a from n 0 a
+shift_start a from n h = record { within = omega arith; room = h; kept = refl; front = refl; back = refl }
 
-pub shift-step : {a : List ℕ} {from n i : ℕ} {b : List ℕ} → Shifting a from n i b → i < n → Shifting a from n (i + 1) (set b i (get_or b (from + i) 0))
-shift-step {a} {from} {n} {i} {b} s l =
+pub shift_step : {a : List ℕ} {from n i : ℕ} {b : List ℕ} → Shifting a from n i b → i < n → Shifting a from n (i + 1) (set b i (get_or b (from + i) 0))
+shift_step {a} {from} {n} {i} {b} s l =
     let x = get_or b (from + i) 0 in
     let q : get_or b (from + i) 0 ≡ get_or (drop from a) i 0 =
     ap (λ (k : ℕ). get_or b k 0) (add_comm from i)
@@ -49,12 +49,12 @@ module _ (a : List ℕ) (from n : ℕ) where
   unfolding shifted room_for
   there h = ap (λ (t : Bool). cond t (take n (drop from a) ++ drop n a) a) (le-leb (from + n) (length a) h)
 
-  pub shift-left : length a < from + n → a ≡ shifted a from n
+  pub shift_left : length a < from + n → a ≡ shifted a from n
   unfolding shifted room_for
-  shift-left h = ap (λ (t : Bool). cond t (take n (drop from a) ++ drop n a) a) (sym (lt-leb (from + n) (length a) h))
+  shift_left h = ap (λ (t : Bool). cond t (take n (drop from a) ++ drop n a) a) (sym (lt-leb (from + n) (length a) h))
 
-  pub shift-end : (i : ℕ) (b : List ℕ) → Shifting a from n i b → n ≤ i → b ≡ shifted a from n
-  shift-end i b s l =
+  pub shift_end : (i : ℕ) (b : List ℕ) → Shifting a from n i b → n ≤ i → b ≡ shifted a from n
+  shift_end i b s l =
       let e : i ≡ n = omega (arith, s.within) in
       sym (take-append-drop n b)
       ∙ ap₂ (λ (x y : List ℕ). x ++ y) (ap (λ (k : ℕ). take k b) (sym e) ∙ s.front ∙ ap (λ (k : ℕ). take k (drop from a)) e) (ap (λ (k : ℕ). drop k b) (sym e) ∙ s.back ∙ ap (λ (k : ℕ). drop k a) e)
@@ -64,5 +64,5 @@ module _ (a : List ℕ) (from n : ℕ) where
   moved_length : from + n ≤ length a → length (take n (drop from a)) ≡ n
   moved_length h = simp (length-take, length-drop) (omega arith)
 
-  pub shifted-front : from + n ≤ length a → take n (shifted a from n) ≡ take n (drop from a)
-  shifted-front h = ap (take n) (there h) ∙ take_at (take n (drop from a)) (drop n a) n (moved_length h)
+  pub shifted_front : from + n ≤ length a → take n (shifted a from n) ≡ take n (drop from a)
+  shifted_front h = ap (take n) (there h) ∙ take_at (take n (drop from a)) (drop n a) n (moved_length h)

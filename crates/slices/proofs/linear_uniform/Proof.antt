@@ -4,10 +4,10 @@ use mathlib.Core.Bool.{true}
 use mathlib.Core.Path.{◌≡◌}
 use Rattle.answer.specs.Faults.{good}
 use Rattle.answer.proofs.Orders.{passes}
-use Rattle.orders.specs.Orders.{linearUniformFront}
-use Rattle.slices.specs.LinearSlices.{linearUniformSliceFault, linearUniformSlice, linearUniformSliced}
+use Rattle.orders.specs.Orders.{linear_uniform_front}
+use Rattle.slices.specs.LinearSlices.{linear_uniform_slice_fault, linear_uniform_slice, linear_uniform_sliced}
 use Rattle.slices.specs.Scaffolding.{Ready}
-use Rattle.slices.proofs.Sliced.{linear-ready, linear-first, uniform-linear, or_kept, or-filled, on-axis, answer-refused, sliced}
+use Rattle.slices.proofs.Sliced.{linear_ready, linear-first, uniform_linear, or_kept, or_filled, on-axis, answer_refused, sliced}
 use borrow.Author.Rules.{rules}
 use Rattle.slices.proofs.linear_uniform.Statement.{statement}
 use Rattle.slices.proofs.linear_uniform.Tie as tie
@@ -15,21 +15,21 @@ use Rattle.slices.proofs.linear_uniform.Tie as tie
 abbrev start : tie.Else1 → tie.Start
 start e = e.before.before.before.before.before.before
 
-passed : (e : tie.Else1) → good (linearUniformFront (start e).args.shape (start e).args.nodes.now (start e).args.values.now (start e).args.axis) ≡ true
+passed : (e : tie.Else1) → good (linear_uniform_front (start e).args.shape (start e).args.nodes.now (start e).args.values.now (start e).args.axis) ≡ true
 passed e = passes _ _ e.before.before.linear-uniform-front.ensures e.if1.false
 
 first : (e : tie.Else1) → (start e).args.axis ≡ 0
-first e = linear-first _ _ _ _ (uniform-linear _ _ _ _ (passed e))
+first e = linear-first _ _ _ _ (uniform_linear _ _ _ _ (passed e))
 
 -- what is known where the front was passed
 known : (e : tie.Else1) → Ready (start e).args.shape (start e).args.nodes.now (start e).args.values.now 0
-known e = linear-ready _ _ _ _ (uniform-linear _ _ _ _ (passed e))
+known e = linear_ready _ _ _ _ (uniform_linear _ _ _ _ (passed e))
 
 returns : tie.Need-returns
-unfolding linearUniformSlice linearUniformSliced linearUniformSliceFault
+unfolding linear_uniform_slice linear_uniform_sliced linear_uniform_slice_fault
 returns c =
     let t = c.before in
-    sliced _ _ _ (or_kept _ _ t.before.before.linear-uniform-front.ensures _ _ _ t.if1.true) _ (answer-refused _ _ _ t.if1.true _ c.refused-slice.ensures)
+    sliced _ _ _ (or_kept _ _ t.before.before.linear-uniform-front.ensures _ _ _ t.if1.true) _ (answer_refused _ _ _ t.if1.true _ c.refused-slice.ensures)
 
 linear-judged-requires : tie.Need-linear-judged-requires
 linear-judged-requires c κs = known c.before
@@ -38,14 +38,14 @@ slice-answer-requires : tie.Need-slice-answer-requires
 slice-answer-requires c κs = let j = known c.before.before.before.before in (omega (arith, j.many), j.four)
 
 returns-2 : tie.Need-returns-2
-unfolding linearUniformSlice linearUniformSliced linearUniformSliceFault
+unfolding linear_uniform_slice linear_uniform_sliced linear_uniform_slice_fault
 returns-2 c =
     let z = c.before.before.before in
     let e = z.before.before in
-    sliced _ _ _ (or-filled _ _ e.before.before.linear-uniform-front.ensures _ _ _ e.if1.false (on-axis _ _ _ _ _ _ _ (first e) z.linear-judged.ensures)) _ c.slice-answer.ensures
+    sliced _ _ _ (or_filled _ _ e.before.before.linear-uniform-front.ensures _ _ _ e.if1.false (on-axis _ _ _ _ _ _ _ (first e) z.linear-judged.ensures)) _ c.slice-answer.ensures
 
-pub linear-uniform-spec : {M : Type 1} → statement M
-linear-uniform-spec =
+pub linear_uniform_spec : {M : Type 1} → statement M
+linear_uniform_spec =
     tie.close
     (tie.spec
     (λ c κs. search rules)

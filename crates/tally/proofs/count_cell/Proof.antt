@@ -9,8 +9,8 @@ returns c = cell_in _ _ _ _ c.before.before.if1.true c.more.ensures
 returns-2 : tie.Need-returns-2
 returns-2 c = cell_out _ _ _ c.if1.false
 
-pub count-cell-spec : {M : Type 1} → statement M
-count-cell-spec =
+pub count_cell_spec : {M : Type 1} → statement M
+count_cell_spec =
     tie.close
     (tie.spec
     (λ c. search rules)

@@ -2,18 +2,18 @@ use borrow.Author.Rules.{rules}
 use Rattle.test_damaged.proofs.main.Statement.{statement}
 use Rattle.test_damaged.proofs.main.Tie as tie
 
-abbrev invariant-loop : tie.invariant-loop
-invariant-loop space₀ nodes₀ values₀ written₀ go₀ turns₀ space nodes values written go turns = Unit {0}
+abbrev invariant_loop : tie.invariant_loop
+invariant_loop space₀ nodes₀ values₀ written₀ go₀ turns₀ space nodes values written go turns = Unit {0}
 
-abbrev decreases-loop : tie.decreases-loop
-decreases-loop space₀ nodes₀ values₀ written₀ go₀ turns₀ space nodes values written go turns = turns
+abbrev decreases_loop : tie.decreases_loop
+decreases_loop space₀ nodes₀ values₀ written₀ go₀ turns₀ space nodes values written go turns = turns
 
 pub main_spec : {M : Type 1} → statement M
 main_spec =
     tie.close
     (tie.spec
-    invariant-loop
-    decreases-loop
+    invariant_loop
+    decreases_loop
     (λ c. search rules)
     (λ c. search rules)
     (λ c. search rules)

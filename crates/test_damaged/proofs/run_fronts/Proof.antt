@@ -16,8 +16,8 @@ slice-aggregate-run-3 c = sym (length-take-le _ _ (search rules))
 slice-aggregate-run-4 : tie.Need-slice-aggregate-run-4
 slice-aggregate-run-4 c = sym (length-take-le _ _ (search rules))
 
-pub run-fronts-spec : {M : Type 1} → statement M
-run-fronts-spec =
+pub run_fronts_spec : {M : Type 1} → statement M
+run_fronts_spec =
     tie.close
     (tie.spec
     (λ c κs. search rules)

@@ -13,8 +13,8 @@ slice-aggregate-write-again-2 c = sym (length-take-le _ _ (search rules))
 slice-aggregate-load-entry : tie.Need-slice-aggregate-load-entry
 slice-aggregate-load-entry c = sym (length-take-le _ _ (search rules))
 
-pub write-back-spec : {M : Type 1} → statement M
-write-back-spec =
+pub write_back_spec : {M : Type 1} → statement M
+write_back_spec =
     tie.close
     (tie.spec
     (λ c. search rules)

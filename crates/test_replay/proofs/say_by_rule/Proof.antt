@@ -7,8 +7,8 @@ use Rattle.test_replay.proofs.say_by_rule.Tie as tie
 slice-aggregate-directions : tie.Need-slice-aggregate-directions
 slice-aggregate-directions c = sym (length-take-le _ _ (search rules))
 
-pub say-by-rule-spec : {M : Type 1} → statement M
-say-by-rule-spec =
+pub say_by_rule_spec : {M : Type 1} → statement M
+say_by_rule_spec =
     tie.close
     (tie.spec
     (λ c κs. search rules)

@@ -7,8 +7,8 @@ use Rattle.test_runs.proofs.print_run.Tie as tie
 slice-aggregate-write-all : tie.Need-slice-aggregate-write-all
 slice-aggregate-write-all c = sym (length-take-le _ _ (search rules))
 
-pub print-run-spec : {M : Type 1} → statement M
-print-run-spec =
+pub print_run_spec : {M : Type 1} → statement M
+print_run_spec =
     tie.close
     (tie.spec
     (λ c κs. search rules)

@@ -7,8 +7,8 @@ use Rattle.test_runs.proofs.take_front.Tie as tie
 slice-aggregate-take-input : tie.Need-slice-aggregate-take-input
 slice-aggregate-take-input c = sym (length-take-le _ _ (search rules))
 
-pub take-front-spec : {M : Type 1} → statement M
-take-front-spec =
+pub take_front_spec : {M : Type 1} → statement M
+take_front_spec =
     tie.close
     (tie.spec
     (λ c κs. search rules)

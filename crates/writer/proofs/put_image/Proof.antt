@@ -1,4 +1,4 @@
-use Rattle.writer.specs.Made.{imageLength, valuesAt}
+use Rattle.writer.specs.Made.{image_length, values_at}
 use Rattle.writer.proofs.Images.{parts-put}
 use Prim.Native.Nat.{◌+◌, ◌-◌, ◌*◌, ◌≤◌}
 use native.Mathlib.Omega.{arith}
@@ -11,8 +11,8 @@ abbrev start : tie.After-put-header → tie.Start
 start h = h.before.before.before.before.before
 
 room : (s : tie.Start) → 40 + 8 * length s.args.nodes.now + 8 * length s.args.values.now ≤ length s.args.img.now
-unfolding imageLength valuesAt
-room s = omega (arith, s.requires.framed.nodes-long, s.requires.framed.values-long, s.requires.room-enough)
+unfolding image_length values_at
+room s = omega (arith, s.requires.framed.nodes_long, s.requires.framed.values_long, s.requires.room_enough)
 
 put-header-requires : tie.Need-put-header-requires
 put-header-requires c κs = let s = c.before.before.before.before in record { judged = s.requires.framed.judged; enough = omega (arith, room s) }
@@ -33,8 +33,8 @@ returns c =
     let h = f.before.before.before.before in
     parts-put _ _ _ _ _ _ _ h.put-header.ensures f.put-floats.ensures v.put-floats2.ensures
 
-pub put-image-spec : {M : Type 1} → statement M
-put-image-spec =
+pub put_image_spec : {M : Type 1} → statement M
+put_image_spec =
     tie.close
     (tie.spec
     put-header-requires

@@ -1,20 +1,20 @@
-use Rattle.axis.specs.Cells.{howMany, countBelow}
-use Rattle.axis.proofs.cells.Cells.{count-step, count-end}
+use Rattle.axis.specs.Cells.{how_many, count_below}
+use Rattle.axis.proofs.cells.Cells.{count-step, count_end}
 use lib.Ieee.{lt}
 use Rattle.std.proofs.Common.{◌≡◌, ◌+◌, ◌-◌, ◌≤◌, length, drop, arith, rules}
 use Rattle.axis.proofs.cells.count_below.Statement.{statement}
 use Rattle.axis.proofs.cells.count_below.Tie as tie
 
-abbrev invariant-loop : tie.invariant-loop
-invariant-loop grid point count₀ i₀ count i = (i ≤ length grid) × ((count ≤ i) × (count + howMany (λ x. lt x point) (drop i grid) ≡ countBelow grid point))
+abbrev invariant_loop : tie.invariant_loop
+invariant_loop grid point count₀ i₀ count i = (i ≤ length grid) × ((count ≤ i) × (count + how_many (λ x. lt x point) (drop i grid) ≡ count_below grid point))
 
-abbrev decreases-loop : tie.decreases-loop
-decreases-loop grid point count₀ i₀ count i = length grid - i
+abbrev decreases_loop : tie.decreases_loop
+decreases_loop grid point count₀ i₀ count i = length grid - i
 
-loop-holds : tie.Need-loop-init invariant-loop decreases-loop
+loop-holds : tie.Need-loop-init invariant_loop decreases_loop
 loop-holds c = (omega arith, (omega arith, omega arith))
 
-loop-again : tie.Need-loop-preserved invariant-loop decreases-loop
+loop-again : tie.Need-loop-preserved invariant_loop decreases_loop
 loop-again c =
     let i = c.before.before in
     let l = i.before in
@@ -26,15 +26,15 @@ loop-again c =
       ),
     )
 
-returns : tie.Need-returns invariant-loop decreases-loop
-returns c = let l = c.before in count-end _ _ l.loop.i l.loop.count c.loop-test.false l.loop.invariant.1.1
+returns : tie.Need-returns invariant_loop decreases_loop
+returns c = let l = c.before in count_end _ _ l.loop.i l.loop.count c.loop-test.false l.loop.invariant.1.1
 
-pub count-below-spec : {M : Type 1} → statement M
-count-below-spec =
+pub count_below_spec : {M : Type 1} → statement M
+count_below_spec =
     tie.close
     (tie.spec
-    invariant-loop
-    decreases-loop
+    invariant_loop
+    decreases_loop
     loop-holds
     (λ c. search rules)
     (λ c. search rules)

@@ -1,6 +1,6 @@
 use Rattle.checks.specs.Nodes.{gap}
 use Rattle.axis.specs.Locations.{fraction}
-use Rattle.axis.proofs.Exacts.{location-exact, location-between}
+use Rattle.axis.proofs.Exacts.{location_exact, location_between}
 use Rattle.std.proofs.Common.{rules}
 use Rattle.axis.proofs.locate.axis_location.Statement.{statement}
 use Rattle.axis.proofs.locate.axis_location.Tie as tie
@@ -8,17 +8,17 @@ use Rattle.axis.proofs.locate.axis_location.Tie as tie
 returns : tie.Need-returns
 returns c =
     let m = c.before.before.before in
-    location-exact _ _ _ m.before.cell-index.ensures.0 _ m.exact-node.ensures _ c.before.node.given.1
+    location_exact _ _ _ m.before.cell-index.ensures.0 _ m.exact-node.ensures _ c.before.node.given.1
 
 returns-2 : tie.Need-returns-2
 unfolding fraction gap
 returns-2 c =
     let t = c.before.before.before in
     let m = t.before.before in
-    location-between _ _ _ m.before.cell-index.ensures.0 _ m.exact-node.ensures t.enum_told.given.1
+    location_between _ _ _ m.before.cell-index.ensures.0 _ m.exact-node.ensures t.enum_told.given.1
 
-pub axis-location-spec : {M : Type 1} → statement M
-axis-location-spec =
+pub axis_location_spec : {M : Type 1} → statement M
+axis_location_spec =
     tie.close
     (tie.spec
     (λ c κs. search rules)

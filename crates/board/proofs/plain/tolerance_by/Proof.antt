@@ -4,20 +4,20 @@ use borrow.Author.Tests.{eq-eqb, ne_eqb}
 use lib.Ieee.{Float}
 use Rattle.utils.specs.declared.Tolerance.{Tolerance}
 use Rattle.utils.specs.declared.Tolerance.TheVariants.{Lent, Default}
-use Rattle.board.specs.Plain.{toleranceBy}
+use Rattle.board.specs.Plain.{tolerance_by}
 use Rattle.board.proofs.plain.tolerance_by.Statement.{statement}
 use Rattle.board.proofs.plain.tolerance_by.Tie as tie
 
-abbrev default-or : Float → Bool → Tolerance
-default-or tolerance t = cond t Default (Lent tolerance)
+abbrev default_or : Float → Bool → Tolerance
+default_or tolerance t = cond t Default (Lent tolerance)
 
 returns : tie.Need-returns
-unfolding toleranceBy
-returns c = sym (ap (default-or c.before.args.tolerance) (eq-eqb c.before.args.lent 0 c.if1.true))
+unfolding tolerance_by
+returns c = sym (ap (default_or c.before.args.tolerance) (eq-eqb c.before.args.lent 0 c.if1.true))
 
 returns-2 : tie.Need-returns-2
-unfolding toleranceBy
-returns-2 c = sym (ap (default-or c.before.args.tolerance) (ne_eqb c.before.args.lent 0 c.if1.false))
+unfolding tolerance_by
+returns-2 c = sym (ap (default_or c.before.args.tolerance) (ne_eqb c.before.args.lent 0 c.if1.false))
 
-pub tolerance-by-spec : {M : Type 1} → statement M
-tolerance-by-spec = tie.close (tie.spec returns returns-2)
+pub tolerance_by_spec : {M : Type 1} → statement M
+tolerance_by_spec = tie.close (tie.spec returns returns-2)

@@ -45,7 +45,7 @@ use denote.Exit.{yes}
 use Rattle.layout.specs.declared.Shape.{Shape}
 use Rattle.tally.specs.declared.Tally.{Tally}
 use Rattle.tally.specs.declared.TallyAnswer.{TallyAnswer}
-use Rattle.ninterp.specs.Counting.{countedRecord}
+use Rattle.ninterp.specs.Counting.{counted_record}
 use Rattle.answer.specs.contracts.Answer as An
 use Rattle.answer.proofs.Answer.TheLaws as An'
 use Rattle.layout.specs.contracts.Shape as S
@@ -68,8 +68,8 @@ abbrev stayed : Stays (f.ended).signature.params (f.ended).kept
 stayed = (stay_ref (0 ∷ []) tt (plain (λ _. T.the_row)), (stay_none (λ _. S.the_row) yes, (stay_none_slice (1 ∷ []) tt (plain (λ _. f64)) yes, (stay_none_slice (2 ∷ []) tt (plain (λ _. f64)) yes, (stay_none_slice (3 ∷ []) tt (plain (λ _. u8)) yes, tt)))))
 
 -- the machine values of each struct
-abbrev valT : Tally → Val
-valT = LL.val T.the_type T'.the_laws
+abbrev val_t : Tally → Val
+val_t = LL.val T.the_type T'.the_laws
 
 abbrev val_s : Shape → Val
 val_s = LL.val S.the_type S'.the_laws
@@ -84,11 +84,11 @@ slices κs = ShrSlice (named 1) κs.0 f64 ∷ ShrSlice (named 2) κs.1.0 f64 ∷
 abbrev Lent : Type 0
 Lent = Bor (List Float) × (Bor (List Float) × (Bor (List ℕ) × Unit {0}))
 
-abbrev lent-vals : Lent → List Val × (List Val × (List Val × Unit {0}))
-lent-vals s = (shr_slice_vals s.0, (shr_slice_vals s.1.0, (shr_slice_vals s.1.1.0, tt)))
+abbrev lent_vals : Lent → List Val × (List Val × (List Val × Unit {0}))
+lent_vals s = (shr_slice_vals s.0, (shr_slice_vals s.1.0, (shr_slice_vals s.1.1.0, tt)))
 
 abbrev counted : Tally → Shape → Lent → TallyAnswer
-counted h p s = countedRecord h p s.0.now s.1.0.now s.1.1.0.now
+counted h p s = counted_record h p s.0.now s.1.0.now s.1.1.0.now
 
 module _ {M : Type 1} {𝓤 : Ura M} (𝓛 : Logic 𝓤) (at_mem : Memory → SProp 𝓤) (run : Routine → Fun 𝓤) where
   -- the contract that the proof cites, and of its `ensured` the clause alone
@@ -105,10 +105,10 @@ module _ {M : Type 1} {𝓤 : Ura M} (𝓛 : Logic 𝓤) (at_mem : Memory → SP
   x = (record { ref_ptr = (b, o); ghost_name = γ; now = h }, (p, s))
 
   abbrev at : List Val × (List Val × (List Val × (List Val × (List Val × Unit {0}))))
-  at = (vptr b o ∷ [], (val_s p ∷ [], lent-vals s))
+  at = (vptr b o ∷ [], (val_s p ∷ [], lent_vals s))
 
   abbrev passed : List Val
-  passed = vptr b o ∷ val_s p ∷ only (lent-vals s).0 ∷ only (lent-vals s).1.0 ∷ only (lent-vals s).1.1.0 ∷ []
+  passed = vptr b o ∷ val_s p ∷ only (lent_vals s).0 ∷ only (lent_vals s).1.0 ∷ only (lent_vals s).1.1.0 ∷ []
 
   abbrev Post : Val → SProp 𝓤
   Post = (walk_of 𝓛 f.ended stayed (f.clauses 𝓛 at_mem run)).post (((κ, κs), (q, qs), tt, x, at), tt)
@@ -118,10 +118,10 @@ module _ {M : Type 1} {𝓤 : Ura M} (𝓛 : Logic 𝓤) (at_mem : Memory → SP
   Tokens = alive 𝓛 step.signature κs qs
 
   abbrev Own : Fml
-  Own = owns (slices κs) s (lent-vals s)
+  Own = owns (slices κs) s (lent_vals s)
 
-  own-twice : ent 𝓤 (sem 𝓛 Own) (sep 𝓤 (sem 𝓛 Own) (sem 𝓛 Own))
-  own-twice = twices 𝓛 (slices κs) (shr_slice_copy 𝓛 (named 1) κs.0 f64, (shr_slice_copy 𝓛 (named 2) κs.1.0 f64, (shr_slice_copy 𝓛 (named 3) κs.1.1.0 u8, tt))) s (lent-vals s)
+  own_twice : ent 𝓤 (sem 𝓛 Own) (sep 𝓤 (sem 𝓛 Own) (sem 𝓛 Own))
+  own_twice = twices 𝓛 (slices κs) (shr_slice_copy 𝓛 (named 1) κs.0 f64, (shr_slice_copy 𝓛 (named 2) κs.1.0 f64, (shr_slice_copy 𝓛 (named 3) κs.1.1.0 u8, tt))) s (lent_vals s)
 
   exits : (r : TallyAnswer) → Is An.the_row r.answer (val_a r.answer ∷ []) → r ≡ counted h p s
       → ent 𝓤 (⋆ 𝓛 (‵ (fobs γ ((T.the_row).coded.code r.tally)) ∷ ‵ (fbor κ (Body (mem T.the_row) b o γ)) ∷ ‵ (flft κ q) ∷ raw Tokens ∷ ‵ Own ∷ [])) (Post (val_a r.answer))
@@ -134,14 +134,14 @@ module _ {M : Type 1} {𝓤 : Ura M} (𝓛 : Logic 𝓤) (at_mem : Memory → SP
       owned ! An.the_row (Is An.the_row) (LL.makes An.the_type An'.the_plain 𝓛) r.answer _ ga $ move ! (1 ∷ 0 ∷ []) $ done !
 
   abbrev to_step : (Step 𝓛 at_mem run).Ghost
-  to_step = ((κs, qs, tt, (h, (p, s)), (valT h ∷ [], (val_s p ∷ [], lent-vals s))), tt)
+  to_step = ((κs, qs, tt, (h, (p, s)), (val_t h ∷ [], (val_s p ∷ [], lent_vals s))), tt)
 
-  goes_in : Is T.the_row h (valT h ∷ []) → ent 𝓤 (sep 𝓤 Tokens (sem 𝓛 Own)) ((Step 𝓛 at_mem run).pre to_step)
+  goes_in : Is T.the_row h (val_t h ∷ []) → ent 𝓤 (sep 𝓤 Tokens (sem 𝓛 Own)) ((Step 𝓛 at_mem run).pre to_step)
   goes_in gh = qed 𝓛 (raw Tokens ∷ ‵ Own ∷ []) ∵ move ! (1 ∷ []) $ owned ! S.the_row (Is S.the_row) (LL.makes S.the_type S'.the_plain 𝓛) p _ gp $ join ! $
       owned ! T.the_row (Is T.the_row) (LL.makes T.the_type T'.the_plain 𝓛) h _ gh $ join ! $ move ! (1 ∷ []) $ join ! $ frame ! $ done !
 
   module _ (C : Calls 𝓤 H) (Λ : Loops 𝓤 H) (fm : FmC 𝓤 H 𝓛.laws C) (known : Triple 𝓤 (C #step) (Step 𝓛 at_mem run)) where
-    walk : Are (slices κs) (Ises (slices κs)) s (lent-vals s) → ent 𝓤 (on_entry 𝓛 f.signature (κ, κs) (q, qs) x at) (WpFn 𝓤 H C Λ code.function passed Post)
+    walk : Are (slices κs) (Ises (slices κs)) s (lent_vals s) → ent 𝓤 (on_entry 𝓛 f.signature (κ, κs) (q, qs) x at) (WpFn 𝓤 H C Λ code.function passed Post)
     walk gs =
         qed 𝓛 ((‵ (flft κ q) ⊛ raw Tokens) ∷ ‵ (owns (MutRef (named 0) κ T.the_row ∷ S.the_row ∷ slices κs) x at) ∷ []) ∵ enter ! C Λ code.function passed _ $
         alloc1 ! (λ l₀. alloc1 ! (λ l₁. alloc1 ! (λ l₂. alloc1 ! (λ l₃. alloc1 ! (λ l₄. alloc1 ! (λ l₅. alloc1 ! (λ l₆. alloc1 ! (λ l₇. alloc0 ! $ params1 ! $
@@ -150,9 +150,9 @@ module _ {M : Type 1} {𝓤 : Ura M} (𝓛 : Logic 𝓤) (at_mem : Memory → SP
         pass1 ! (init ! 6 refl ((shr_slice_Lawful 𝓛 (named 2) κs.1.0 f64).typed s.1.0 _ gs.1.0).0) $
         pass1 ! (init ! 4 refl ((shr_slice_Lawful 𝓛 (named 3) κs.1.1.0 u8).typed s.1.1.0 _ gs.1.1.0).0) $ pass0 ! $
         -- [_7; …; _6; …; _5; …; _4; …; _3; …; _2; …; _1; …; _0; …; the tokens; what the parameters own]
-        move ! (17 ∷ []) $ fsplit ! $ fsplit3 ! $ drop ! $ move ! (19 ∷ []) $ split ! $ move ! (4 ∷ []) $ fsplit ! $ drop ! $ use1 𝓛 (‵ Own ⊛ ‵ Own) own-twice $ split ! $ move ! (4 ∷ 5 ∷ 2 ∷ 3 ∷ []) $
+        move ! (17 ∷ []) $ fsplit ! $ fsplit3 ! $ drop ! $ move ! (19 ∷ []) $ split ! $ move ! (4 ∷ []) $ fsplit ! $ drop ! $ use1 𝓛 (‵ Own ⊛ ‵ Own) own_twice $ split ! $ move ! (4 ∷ 5 ∷ 2 ∷ 3 ∷ []) $
         opens ! tt T.the_row {h = h} b o (λ vs. spelt ! T.the_row (Is T.the_row) (shows 𝓛 T.the_row) (LL.vals T.the_type T'.the_laws) (LL.tells T.the_type T'.the_laws) full_share h vs b o $
-        move ! (1 ∷ []) $ peeks ! T.the_row (Is T.the_row) (shows 𝓛 T.the_row) h (valT h ∷ []) (λ gh. move ! (1 ∷ 0 ∷ []) $
+        move ! (1 ∷ []) $ peeks ! T.the_row (Is T.the_row) (shows 𝓛 T.the_row) h (val_t h ∷ []) (λ gh. move ! (1 ∷ 0 ∷ []) $
         -- [the struct's cell; what a Tally owns; the open borrow; obs; auth; the slices' tokens; what they own, twice; room for _7; …; room for _6; …; _5; …; _4; …; _3; …; _2; …; _1; …; room for _0; …]
         assigns ! (of_opd ! (load ! (from ! (hop ! (look ! 20 refl) (stop !))) (look_raw ! 0 refl))) (from ! (stop !)) (init ! 8 refl ((LL.lawful T.the_type T'.the_laws 𝓛).typed h _ gh).0) $
         move ! (5 ∷ 6 ∷ []) $ use2 𝓛 (raw ((Step 𝓛 at_mem run).pre to_step)) (goes_in gh) $
@@ -166,7 +166,7 @@ module _ {M : Type 1} {𝓤 : Ura M} (𝓛 : Logic 𝓤) (at_mem : Memory → SP
         -- [the struct's cell; what a Tally owned; the open borrow; obs; auth; the slices' tokens; what they own; _7; …; _6; …; _5; …; _4; …; _3; …; _2; …; _1; …; room for _0; …]
         assigns ! (of_opd ! (load ! (from ! (fld ! refl (stop !))) (look_in ! 9 (sub ! 1 refl (whole !))))) (from ! (hop ! (look ! 19 refl) (stop !))) (store_raw ! 0 refl ((LL.lawful T.the_type T'.the_laws 𝓛).typed r.tally _ (LL.owed R.the_type R'.the_laws r _ is).1.0).0) $
         assigns ! (of_opd ! (load ! (from ! (fld ! refl (stop !))) (look_in ! 9 (sub ! 0 refl (whole !))))) (from ! (stop !)) (init ! 21 refl ((LL.lawful An.the_type An'.the_laws 𝓛).typed r.answer _ (LL.owed R.the_type R'.the_laws r _ is).0).0) $
-        move ! (1 ∷ []) $ drop ! $ owned ! T.the_row (Is T.the_row) (LL.makes T.the_type T'.the_plain 𝓛) r.tally _ (LL.owed R.the_type R'.the_laws r _ is).1.0 $ move ! (1 ∷ 0 ∷ []) $ closes ! tt T.the_row r.tally (valT r.tally ∷ []) b o $
+        move ! (1 ∷ []) $ drop ! $ owned ! T.the_row (Is T.the_row) (LL.makes T.the_type T'.the_plain 𝓛) r.tally _ (LL.owed R.the_type R'.the_laws r _ is).1.0 $ move ! (1 ∷ 0 ∷ []) $ closes ! tt T.the_row r.tally (val_t r.tally ∷ []) b o $
         -- [obs; the borrow; its token; the slices' tokens; what they own; _7; …; _6; …; _5; …; _4; …; _3; …; _2; …; _1; …; _0; …]
         returns ! (look ! 19 refl) $ forget ! 5 refl $ forget ! 7 refl $ forget ! 9 refl $ forget ! 11 refl $ forget ! 13 refl $ forget ! 15 refl $ forget ! 17 refl $ forget ! 19 refl $
         move ! (19 ∷ 20 ∷ []) $ free1 ! $ move ! (17 ∷ 18 ∷ []) $ free1 ! $ move ! (15 ∷ 16 ∷ []) $ free1 ! $ move ! (13 ∷ 14 ∷ []) $ free1 ! $ move ! (11 ∷ 12 ∷ []) $ free1 ! $ move ! (9 ∷ 10 ∷ []) $ free1 ! $ move ! (7 ∷ 8 ∷ []) $ free1 ! $ move ! (5 ∷ 6 ∷ []) $ free1 ! $ free0 ! $
@@ -194,9 +194,9 @@ meets : {M : Type 1} {𝓤 : Ura M} (𝓛 : Logic 𝓤) (at_mem : Memory → SPr
 meets {𝓤 = 𝓤} 𝓛 at_mem run 𝓣 known = walk_Meets 𝓛 f.ended stayed (goes 𝓛 at_mem run) (f.clauses 𝓛 at_mem run) (WpFn 𝓤 𝓛.H 𝓣.C 𝓣.Λ code.function) (WpFn-mono 𝓤 𝓛.H 𝓛.laws 𝓣 code.function)
     (walks 𝓛 at_mem run 𝓣.C 𝓣.Λ (fm_of 𝓤 𝓛.H 𝓛.laws 𝓣) known)
 
-pub ng-count-record-spec : {M : Type 1} → stated.statement M
+pub ng_count_record_spec : {M : Type 1} → stated.statement M
 unfolding code.routine tables_of
-ng-count-record-spec 𝓤 𝓛 𝓜 𝓡 =
+ng_count_record_spec 𝓤 𝓛 𝓜 𝓡 =
     entered 𝓤 𝓛.H (triple_of 𝓛 f.signature (f.spec 𝓛 𝓜.mem 𝓡.run))
     (tables 𝓤 𝓛.H 𝓜 𝓡 code.env).C (tables 𝓤 𝓛.H 𝓜 𝓡 code.env).Λ #count code.function (code.unfolded 𝓤 𝓛.H 𝓜 𝓡)
     (meets 𝓛 𝓜.mem 𝓡.run (tables_of 𝓤 𝓛.H 𝓜 (tables 𝓤 𝓛.H 𝓜 𝓡 code.env))

@@ -1,11 +1,11 @@
-use Rattle.checks.specs.Numbers.{lengthFault}
+use Rattle.checks.specs.Numbers.{length_fault}
 use borrow.Author.Rules.{rules}
 use Rattle.checks.proofs.lent.length_fault.Statement.{statement}
 use Rattle.checks.proofs.lent.length_fault.Tie as tie
 
 returns : tie.Need-returns
-unfolding lengthFault
+unfolding length_fault
 returns c = c.row.ensures
 
-pub length-fault-spec : {M : Type 1} → statement M
-length-fault-spec = tie.close (tie.spec (λ c κs. search rules) returns)
+pub length_fault_spec : {M : Type 1} → statement M
+length_fault_spec = tie.close (tie.spec (λ c κs. search rules) returns)

@@ -1,5 +1,5 @@
 use Prim.Native.Nat.{◌-◌}
-use Rattle.checks.specs.Numbers.{readingFault, readingsFault}
+use Rattle.checks.specs.Numbers.{reading_fault, readings_fault}
 use lib.Ieee.{nan}
 use lib.ListN.{length, get_or}
 use native.Mathlib.Omega.{arith}
@@ -8,30 +8,30 @@ use Rattle.answer.proofs.Loops as loops
 use Rattle.checks.proofs.lists.readings_fault.Statement.{statement}
 use Rattle.checks.proofs.lists.readings_fault.Tie as tie
 
-abbrev invariant-loop : tie.invariant-loop
-invariant-loop readings a₀ a = loops.Left (λ k. readingFault k (get_or readings k nan)) (readingsFault readings) 0 (length readings) a
+abbrev invariant_loop : tie.invariant_loop
+invariant_loop readings a₀ a = loops.Left (λ k. reading_fault k (get_or readings k nan)) (readings_fault readings) 0 (length readings) a
 
-abbrev decreases-loop : tie.decreases-loop
-decreases-loop readings a₀ a = length readings - a
+abbrev decreases_loop : tie.decreases_loop
+decreases_loop readings a₀ a = length readings - a
 
-loop-holds : tie.Need-loop-init invariant-loop decreases-loop
-unfolding readingsFault
+loop-holds : tie.Need-loop-init invariant_loop decreases_loop
+unfolding readings_fault
 loop-holds c = loops.begin _ 0 _ _ (omega arith)
 
-returns : tie.Need-returns invariant-loop decreases-loop
+returns : tie.Need-returns invariant_loop decreases_loop
 returns c =
     let f = c.before.before in
     loops.stop _ _ _ _ _ f.before.before.before.loop.invariant f.before.before.loop-test.true _ f.reading-fault.ensures c.if1.true
 
-loop-again : tie.Need-loop-preserved invariant-loop decreases-loop
+loop-again : tie.Need-loop-preserved invariant_loop decreases_loop
 loop-again c =
     let f = c.before.before in
     loops.again _ _ _ _ _ f.before.before.before.loop.invariant f.before.before.loop-test.true _ f.reading-fault.ensures c.if1.false
 
-returns-2 : tie.Need-returns-2 invariant-loop decreases-loop
+returns-2 : tie.Need-returns-2 invariant_loop decreases_loop
 returns-2 c = loops.done _ _ _ _ _ c.before.before.loop.invariant c.before.loop-test.false _ c.no-fault.ensures
 
-pub readings-fault-spec : {M : Type 1} → statement M
-readings-fault-spec =
+pub readings_fault_spec : {M : Type 1} → statement M
+readings_fault_spec =
     tie.close
-    (tie.spec invariant-loop decreases-loop loop-holds (λ c. search rules) (λ c. search rules) (λ c κs. search rules) returns (λ c. search rules) (λ c. search rules) loop-again (λ c κs. search rules) returns-2)
+    (tie.spec invariant_loop decreases_loop loop-holds (λ c. search rules) (λ c. search rules) (λ c κs. search rules) returns (λ c. search rules) (λ c. search rules) loop-again (λ c κs. search rules) returns-2)

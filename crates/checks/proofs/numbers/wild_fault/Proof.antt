@@ -8,5 +8,5 @@ use Rattle.checks.proofs.numbers.wild_fault.Tie as tie
 returns : tie.Need-returns
 returns c = row_by _ _ _ _ c.row.ensures (ap not c.before.is_finite.ensures)
 
-pub wild-fault-spec : {M : Type 1} → statement M
-wild-fault-spec = tie.close (tie.spec (λ c κs. search rules) (λ c κs. search rules) returns)
+pub wild_fault_spec : {M : Type 1} → statement M
+wild_fault_spec = tie.close (tie.spec (λ c κs. search rules) (λ c κs. search rules) returns)

@@ -18,5 +18,5 @@ returns-2 : tie.Need-returns-2
 unfolding div of_bits
 returns-2 c = sym (none c.before.args.list.now c.before.args.i c.if1.left)
 
-pub at-or-nan-spec : {M : Type 1} → statement M
-at-or-nan-spec = tie.close (tie.spec (λ c. search rules) (λ c. search rules) (λ c. search rules) returns-2)
+pub at_or_nan_spec : {M : Type 1} → statement M
+at_or_nan_spec = tie.close (tie.spec (λ c. search rules) (λ c. search rules) (λ c. search rules) returns-2)

@@ -1,6 +1,6 @@
 use Prim.Native.Nat.{◌-◌}
-use Rattle.answer.specs.Faults.{first_of}
-use Rattle.checks.specs.Numbers.{countFault}
+use Rattle.answer.specs.Faults.{first_fault}
+use Rattle.checks.specs.Numbers.{count_fault}
 use lib.ListN.{get_or}
 use native.Mathlib.Omega.{arith}
 use borrow.Author.Rules.{rules}
@@ -8,29 +8,29 @@ use Rattle.answer.proofs.Loops as loops
 use Rattle.checks.proofs.shapes.counts_fault.Statement.{statement}
 use Rattle.checks.proofs.shapes.counts_fault.Tie as tie
 
-abbrev invariant-loop : tie.invariant-loop
-invariant-loop axes counts a₀ a = loops.Left (λ k. countFault k (get_or counts k 0)) (first_of (λ k. countFault k (get_or counts k 0)) 0 axes) 0 axes a
+abbrev invariant_loop : tie.invariant_loop
+invariant_loop axes counts a₀ a = loops.Left (λ k. count_fault k (get_or counts k 0)) (first_fault (λ k. count_fault k (get_or counts k 0)) 0 axes) 0 axes a
 
-abbrev decreases-loop : tie.decreases-loop
-decreases-loop axes counts a₀ a = axes - a
+abbrev decreases_loop : tie.decreases_loop
+decreases_loop axes counts a₀ a = axes - a
 
-loop-holds : tie.Need-loop-init invariant-loop decreases-loop
+loop-holds : tie.Need-loop-init invariant_loop decreases_loop
 loop-holds c = loops.begin _ 0 _ _ (omega arith)
 
-returns : tie.Need-returns invariant-loop decreases-loop
+returns : tie.Need-returns invariant_loop decreases_loop
 returns c =
     let f = c.before.before in
     loops.stop _ _ _ _ _ f.before.before.loop.invariant f.before.loop-test.true _ f.count-fault.ensures c.if1.true
 
-loop-again : tie.Need-loop-preserved invariant-loop decreases-loop
+loop-again : tie.Need-loop-preserved invariant_loop decreases_loop
 loop-again c =
     let f = c.before.before in
     loops.again _ _ _ _ _ f.before.before.loop.invariant f.before.loop-test.true _ f.count-fault.ensures c.if1.false
 
-returns-2 : tie.Need-returns-2 invariant-loop decreases-loop
+returns-2 : tie.Need-returns-2 invariant_loop decreases_loop
 returns-2 c = loops.done _ _ _ _ _ c.before.before.loop.invariant c.before.loop-test.false _ c.no-fault.ensures
 
-pub counts-fault-spec : {M : Type 1} → statement M
-counts-fault-spec =
+pub counts_fault_spec : {M : Type 1} → statement M
+counts_fault_spec =
     tie.close
-    (tie.spec invariant-loop decreases-loop loop-holds (λ c. search rules) (λ c. search rules) (λ c κs. search rules) returns (λ c. search rules) (λ c. search rules) loop-again (λ c κs. search rules) returns-2)
+    (tie.spec invariant_loop decreases_loop loop-holds (λ c. search rules) (λ c. search rules) (λ c κs. search rules) returns (λ c. search rules) (λ c. search rules) loop-again (λ c κs. search rules) returns-2)

@@ -10,5 +10,5 @@ returns-2 : tie.Need-returns-2
 unfolding apart
 returns-2 c = simp c.if1.false
 
-pub gaps-apart-spec : {M : Type 1} → statement M
-gaps-apart-spec = tie.close (tie.spec returns returns-2)
+pub gaps_apart_spec : {M : Type 1} → statement M
+gaps_apart_spec = tie.close (tie.spec returns returns-2)

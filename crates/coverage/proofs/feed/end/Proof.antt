@@ -3,9 +3,9 @@ use mathlib.Core.List.{List}
 use Prim.Native.Nat.{ℕ}
 use lib.ListN.{length, take}
 use lib.Seq.{length-take-le}
-use Rattle.lines.proofs.Puts.{wrote-take}
-use Rattle.lines.proofs.Reports.{report-wrote}
-use Rattle.program.specs.Coverage.{lastReport}
+use Rattle.lines.proofs.Puts.{wrote_take}
+use Rattle.lines.proofs.Reports.{report_wrote}
+use Rattle.program.specs.Coverage.{last_report}
 use Rattle.coverage.specs.Whole.{Reported}
 use borrow.Author.Rules.{rules}
 use Rattle.coverage.proofs.feed.end.Statement.{statement}
@@ -17,8 +17,8 @@ start f = f.before.before.before.before.before.before.before
 -- what was put is the report of the tally after the rest
 put : (f : tie.After-finish)
     → take f.finish.result f.finish.new.1.1.1.1.1.0
-    ≡ lastReport (start f).args.t (start f).args.shape (start f).args.nodes.now (start f).args.values.now (start f).args.rest.now
-put f = let s = start f in wrote-take (report-wrote _ s.args.out.now s.pre.1 f.finish.ensures.0.0 f.finish.ensures.0.1)
+    ≡ last_report (start f).args.t (start f).args.shape (start f).args.nodes.now (start f).args.values.now (start f).args.rest.now
+put f = let s = start f in wrote_take (report_wrote _ s.args.out.now s.pre.1 f.finish.ensures.0.0 f.finish.ensures.0.1)
 
 slice-aggregate-report : tie.Need-slice-aggregate-report
 slice-aggregate-report c = sym (length-take-le _ _ (search rules))
@@ -32,8 +32,8 @@ report-requires c κs =
 returns : tie.Need-returns
 returns c = c.report.ensures ∙ ap length (put c.before.before.before.before)
 
-pub end-spec : {M : Type 1} → statement M
-end-spec =
+pub end_spec : {M : Type 1} → statement M
+end_spec =
     tie.close
     (tie.spec
     (λ c κs. search rules)

@@ -8,5 +8,5 @@ use Rattle.coverage.proofs.feed.goes_on.Tie as tie
 returns : tie.Need-returns
 returns c = let a = c.before.args in sym (ap (λ (b : Bool). b && ltb a.rest a.size) c.if1.true)
 
-pub goes-on-spec : {M : Type 1} → statement M
-goes-on-spec = tie.close (tie.spec returns (λ c. search rules))
+pub goes_on_spec : {M : Type 1} → statement M
+goes_on_spec = tie.close (tie.spec returns (λ c. search rules))

@@ -1,6 +1,6 @@
 use lib.Seq.{length-take-le}
-use Rattle.lines.proofs.Feeds.{filled-count}
-use Rattle.coverage.proofs.feed.Steps.{Done, step-used, stepped}
+use Rattle.lines.proofs.Feeds.{filled_count}
+use Rattle.coverage.proofs.feed.Steps.{Done, step_used, stepped}
 use mathlib.Core.Path.{sym}
 use native.Mathlib.Omega.{arith}
 use borrow.Author.Rules.{rules}
@@ -22,7 +22,7 @@ done w =
     record { room = s.pre; filled = f.fill.ensures (search rules); kept = f.fill.kept.0; counted = w.count-block.ensures }
 
 sub_read : tie.Need-overflow-sub-read
-sub_read c = let f = c.before.before in omega (arith, filled-count (search rules) (f.fill.ensures (search rules)))
+sub_read c = let f = c.before.before in omega (arith, filled_count (search rules) (f.fill.ensures (search rules)))
 
 slice-reshare-prefix-count-block : tie.Need-slice-reshare-prefix-count-block
 slice-reshare-prefix-count-block c = let f = c.before.before in (f.fill.ensures (search rules)).within
@@ -31,7 +31,7 @@ slice-aggregate-count-block : tie.Need-slice-aggregate-count-block
 slice-aggregate-count-block c = let f = c.before.before.before in sym (length-take-le _ _ (f.fill.ensures (search rules)).within)
 
 sub-rest : tie.Need-overflow-sub-rest
-sub-rest c = step-used (done c.before)
+sub-rest c = step_used (done c.before)
 
 returns : tie.Need-returns
 returns c =

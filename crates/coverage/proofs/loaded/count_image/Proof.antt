@@ -1,6 +1,6 @@
 use lib.Seq.{length-take-le}
-use Rattle.program.specs.Coverage.{reportBy}
-use Rattle.program.proofs.front.Loads.{image-refused, image-table}
+use Rattle.program.specs.Coverage.{report_by}
+use Rattle.program.proofs.front.Loads.{image_refused, image_table}
 use mathlib.Core.Path.{sym}
 use borrow.Author.Rules.{rules}
 use Rattle.coverage.proofs.loaded.count_image.Statement.{statement}
@@ -17,7 +17,7 @@ returns c =
     let e = c.before in
     let l = load e.before in
     let s = start l in
-    c.refuse.ensures s.pre.1 (image-refused (l.load.ensures.0 s.pre.0.0 s.pre.0.1) s.pre.1 e.if1.true) reportBy _
+    c.refuse.ensures s.pre.1 (image_refused (l.load.ensures.0 s.pre.0.0 s.pre.0.1) s.pre.1 e.if1.true) report_by _
 
 slice-aggregate-count-all : tie.Need-slice-aggregate-count-all
 slice-aggregate-count-all c = sym (length-take-le _ _ (search rules))
@@ -30,10 +30,10 @@ count-all-requires c κs =
     let z = c.before.before in
     let l = load z.before in
     let s = start l in
-    image-table (l.load.ensures.0 s.pre.0.0 s.pre.0.1) s.pre.1 z.if1.false
+    image_table (l.load.ensures.0 s.pre.0.0 s.pre.0.1) s.pre.1 z.if1.false
 
-pub count-image-spec : {M : Type 1} → statement M
-count-image-spec =
+pub count_image_spec : {M : Type 1} → statement M
+count_image_spec =
     tie.close
     (tie.spec
     (λ c κs. search rules)

@@ -8,5 +8,5 @@ returns c = omega (arith, c.if1.true)
 returns-2 : tie.Need-returns-2
 returns-2 c = omega (arith, c.if1.false)
 
-pub later-spec : {M : Type 1} → statement M
-later-spec = tie.close (tie.spec returns returns-2)
+pub later_spec : {M : Type 1} → statement M
+later_spec = tie.close (tie.spec returns returns-2)

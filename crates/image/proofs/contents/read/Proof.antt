@@ -2,12 +2,12 @@ use mathlib.Core.Path.{ap₂, ◌∙◌}
 use Prim.Native.Nat.{ℕ}
 use borrow.Author.Rules.{rules}
 use lib.Seq.{sets}
-use Rattle.image.specs.Image.{floatsAt, valuesIn}
+use Rattle.image.specs.Image.{floats_at, values_in}
 use Rattle.image.proofs.contents.read.Statement.{statement}
 use Rattle.image.proofs.contents.read.Tie as tie
 
 returns : tie.Need-returns
-unfolding valuesIn
+unfolding values_in
 returns c =
     let w = c.before.before in
     let v = w.before.before in
@@ -15,8 +15,8 @@ returns c =
     let m = z.before.before.before in
     let s = m.before.before.before.before.before in
     record {
-      nodes-read = m.read-nodes.ensures;
-      values-read = w.read-floats.ensures ∙ ap₂ (λ (i j : ℕ). sets s.args.values.now 0 (floatsAt s.args.img.now i j)) v.values-at.ensures.is z.sizes-of.ensures.values;
+      nodes_read = m.read-nodes.ensures;
+      values_read = w.read-floats.ensures ∙ ap₂ (λ (i j : ℕ). sets s.args.values.now 0 (floats_at s.args.img.now i j)) v.values-at.ensures.is z.sizes-of.ensures.values;
     }
 
 pub read_spec : {M : Type 1} → statement M

@@ -1,7 +1,7 @@
 use mathlib.Core.Path.{sym, ◌∙◌}
 use borrow.Author.Rules.{rules}
 use lib.Seq.{length-take-le}
-use Rattle.image.proofs.Floats.{fronts-judged}
+use Rattle.image.proofs.Floats.{fronts_judged}
 use Rattle.image.proofs.contents.spaces_fault.Statement.{statement}
 use Rattle.image.proofs.contents.spaces_fault.Tie as tie
 
@@ -17,10 +17,10 @@ returns c =
     let z = h.before in
     let r = z.before.before.before.before.before in
     let s = r.before.before.before.before.before.before in
-    c.stored-fault.ensures ∙ fronts-judged _ _ _ _ _ _ _ h.shape_of.ensures z.sizes-of.ensures s.requires r.read.ensures
+    c.stored-fault.ensures ∙ fronts_judged _ _ _ _ _ _ _ h.shape_of.ensures z.sizes-of.ensures s.requires r.read.ensures
 
-pub spaces-fault-spec : {M : Type 1} → statement M
-spaces-fault-spec =
+pub spaces_fault_spec : {M : Type 1} → statement M
+spaces_fault_spec =
     tie.close
     (tie.spec
     (λ c κs. search rules)

@@ -1,4 +1,4 @@
-use Rattle.bytes.specs.Words.{word_at}
+use Rattle.little_endian.specs.Words.{word_at}
 use mathlib.Core.Path.{◌≡◌, ap, ◌∙◌, subst}
 use Prim.Native.Nat.{ℕ, ◌^◌, ◌<◌, min}
 use native.Mathlib.Omega.{arith}
@@ -12,5 +12,5 @@ returns c =
     let e : min s.args.n 8 ≡ s.args.n = omega (arith, s.requires) in
     record { is = c.word.ensures.0 ∙ ap (λ (k : ℕ). word_at k s.args.img.now s.args.at) e; below = subst (λ (k : ℕ). c.word.result < 256 ^ k) e c.word.ensures.1 }
 
-pub field-spec : {M : Type 1} → statement M
-field-spec = tie.close (tie.spec (λ c κs. search rules) returns)
+pub field_spec : {M : Type 1} → statement M
+field_spec = tie.close (tie.spec (λ c κs. search rules) returns)

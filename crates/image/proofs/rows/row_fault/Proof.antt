@@ -11,8 +11,8 @@ returns c = let s = c.before.before.before.before in c.count-row.ensures ∙ ap 
 returns-2 : tie.Need-returns-2
 returns-2 c = let s = c.before.before.before.before in c.offset-row.ensures ∙ ap (λ (k : Rows). row_of k s.args.img.now s.args.a) (sym c.before.enum-told2.given.1)
 
-pub row-fault-spec : {M : Type 1} → statement M
-row-fault-spec =
+pub row_fault_spec : {M : Type 1} → statement M
+row_fault_spec =
     tie.close
     (tie.spec
     (λ c. search rules)

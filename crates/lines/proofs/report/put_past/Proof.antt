@@ -2,7 +2,7 @@ use mathlib.Core.Path.{◌≡◌, ap, ◌∙◌}
 use native.Mathlib.Omega.{arith}
 use Rattle.answer.specs.Faults.{refusal}
 use Rattle.answer.specs.Answer.{refused}
-use borrow.Author.Tests.{not-true, not-false}
+use borrow.Author.Tests.{not-true, not_false}
 use Rattle.lines.proofs.Puts.{wrote_none}
 use Rattle.lines.proofs.Shows.{line_wrote}
 use borrow.Author.Rules.{rules}
@@ -21,12 +21,12 @@ returns-2 c =
     let no = made.before.before in
     let st = no.before.before in
     let e : made.refuse.result ≡ refused (refusal 17 0 0) = made.refuse.ensures ∙ ap refused made.before.refusal.ensures in (
-      rw (not-false st.args.past no.if1.false, ← e) (line_wrote _ _ _ st.requires w.put-line.ensures.0.0 w.put-line.ensures.0.1),
+      rw (not_false st.args.past no.if1.false, ← e) (line_wrote _ _ _ st.requires w.put-line.ensures.0.0 w.put-line.ensures.0.1),
       w.put-line.ensures.1,
     )
 
-pub put-past-spec : {M : Type 1} → statement M
-put-past-spec =
+pub put_past_spec : {M : Type 1} → statement M
+put_past_spec =
     tie.close
     (tie.spec
     returns

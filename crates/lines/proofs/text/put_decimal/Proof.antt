@@ -18,5 +18,5 @@ returns c =
     let p = w.before.before in
     rw p.places_of.ensures at w.put-digits.ensures.0
 
-pub put-decimal-spec : {M : Type 1} → statement M
-put-decimal-spec = tie.close (tie.spec (λ c κs. search rules) put-digits-requires (λ c. search rules) returns)
+pub put_decimal_spec : {M : Type 1} → statement M
+put_decimal_spec = tie.close (tie.spec (λ c κs. search rules) put-digits-requires (λ c. search rules) returns)

@@ -19,8 +19,8 @@ returns c =
       omega (arith, w1.put_two.ensures.1, w2.put_byte.ensures.next, w3.put-decimal.ensures.next, w4.put-byte2.ensures.next),
     )
 
-pub put-three-spec : {M : Type 1} → statement M
-put-three-spec =
+pub put_three_spec : {M : Type 1} → statement M
+put_three_spec =
     tie.close
     (tie.spec
     (λ c κs. search rules)

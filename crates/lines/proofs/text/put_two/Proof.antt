@@ -19,8 +19,8 @@ returns c =
       omega (arith, w1.put-bytes.ensures.next, w2.put-decimal.ensures.next, w3.put_byte.ensures.next, w4.put-decimal2.ensures.next),
     )
 
-pub put-two-spec : {M : Type 1} → statement M
-put-two-spec =
+pub put_two_spec : {M : Type 1} → statement M
+put_two_spec =
     tie.close
     (tie.spec
     (λ c κs. search rules)

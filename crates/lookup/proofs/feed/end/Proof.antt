@@ -1,7 +1,7 @@
 use lib.Seq.{length-take-le}
-use Rattle.program.specs.Run.{ruleOf}
+use Rattle.program.specs.Run.{rule_of}
 use Rattle.lines.specs.Stream.{lines_of}
-use Rattle.lookup.proofs.feed.Steps.{end-put}
+use Rattle.lookup.proofs.feed.Steps.{end_put}
 use mathlib.Core.Path.{◌≡◌, refl, sym, ap, ◌∙◌}
 use Prim.Native.Nat.{◌≤◌}
 use native.Mathlib.Omega.{arith}
@@ -15,11 +15,11 @@ start w = w.before.before.before.before.before
 
 -- what was put is what is printed of the rest
 put : (w : tie.After-finish)
-    → (take w.finish.result w.finish.new.1.1.0 ≡ lines_of (ruleOf (start w).args.img.now) (start w).args.left (start w).args.rest.now)
+    → (take w.finish.result w.finish.new.1.1.0 ≡ lines_of (rule_of (start w).args.img.now) (start w).args.left (start w).args.rest.now)
     × (w.finish.result ≤ length w.finish.new.1.1.0)
 put w =
     let s = start w in
-    end-put (ruleOf s.args.img.now) refl s.args.left s.args.rest.now s.args.out.now s.pre.0 s.pre.1 _ _ w.finish.ensures.0 w.finish.ensures.1
+    end_put (rule_of s.args.img.now) refl s.args.left s.args.rest.now s.args.out.now s.pre.0 s.pre.1 _ _ w.finish.ensures.0 w.finish.ensures.1
 
 slice-reshare-prefix-end : tie.Need-slice-reshare-prefix-end
 slice-reshare-prefix-end c = (put c.before.before).1
@@ -35,8 +35,8 @@ returns c =
     let w = c.before.before.before.before in
     (c.end.ensures, omega (arith, c.end.ensures ∙ sym (ap length (put w).0) ∙ length-take-le _ _ (put w).1, (put w).1, w.finish.auto))
 
-pub end-spec : {M : Type 1} → statement M
-end-spec =
+pub end_spec : {M : Type 1} → statement M
+end_spec =
     tie.close
     (tie.spec
     (λ c κs. search rules)

@@ -1,8 +1,8 @@
 use lib.Seq.{length-take-le}
-use Rattle.lines.proofs.Feeds.{filled-count}
-use Rattle.program.specs.Run.{ruleOf}
+use Rattle.lines.proofs.Feeds.{filled_count}
+use Rattle.program.specs.Run.{rule_of}
 use Rattle.lookup.proofs.Tables.{of_image}
-use Rattle.lookup.proofs.feed.Steps.{Done, step-there, step_count, step-used, step_room, step-text, stepped}
+use Rattle.lookup.proofs.feed.Steps.{Done, step_there, step_count, step_used, step_room, step_text_lem, stepped}
 use mathlib.Core.Path.{sym}
 use native.Mathlib.Omega.{arith}
 use borrow.Author.Rules.{rules}
@@ -16,7 +16,7 @@ abbrev filled : tie.After-answer-block → tie.After-fill
 filled w = w.before.before.before.before.before
 
 done : (w : tie.After-answer-block)
-    → Done (ruleOf (start (filled w)).args.img.now) (start (filled w)).args.size (start (filled w)).args.held (start (filled w)).args.left (filled w).fill.result
+    → Done (rule_of (start (filled w)).args.img.now) (start (filled w)).args.size (start (filled w)).args.held (start (filled w)).args.left (filled w).fill.result
     w.answer-block.result.count w.answer-block.result.written (start (filled w)).args.buf.now (filled w).fill.new.0 (start (filled w)).args.out.now
     w.answer-block.new.1.1.1.1.1.0
 done w =
@@ -31,7 +31,7 @@ done w =
     }
 
 sub_read : tie.Need-overflow-sub-read
-sub_read c = let f = c.before.before in omega (arith, filled-count (search rules) (f.fill.ensures (search rules)))
+sub_read c = let f = c.before.before in omega (arith, filled_count (search rules) (f.fill.ensures (search rules)))
 
 slice-reshare-prefix-answer-block : tie.Need-slice-reshare-prefix-answer-block
 slice-reshare-prefix-answer-block c = let f = c.before.before in (f.fill.ensures (search rules)).within
@@ -40,10 +40,10 @@ slice-aggregate-answer-block : tie.Need-slice-aggregate-answer-block
 slice-aggregate-answer-block c = let f = c.before.before.before in sym (length-take-le _ _ (f.fill.ensures (search rules)).within)
 
 slice-reshare-prefix-lines : tie.Need-slice-reshare-prefix-lines
-slice-reshare-prefix-lines c = step-there (done c.before.before)
+slice-reshare-prefix-lines c = step_there (done c.before.before)
 
 slice-aggregate-lines : tie.Need-slice-aggregate-lines
-slice-aggregate-lines c = sym (length-take-le _ _ (step-there (done c.before.before.before)))
+slice-aggregate-lines c = sym (length-take-le _ _ (step_there (done c.before.before.before)))
 
 slice-reshare-prefix-lines-2 : tie.Need-slice-reshare-prefix-lines-2
 slice-reshare-prefix-lines-2 c = step_room (done c.before.before.before)
@@ -52,13 +52,13 @@ slice-aggregate-lines-2 : tie.Need-slice-aggregate-lines-2
 slice-aggregate-lines-2 c = sym (length-take-le _ _ (step_room (done c.before.before.before.before)))
 
 lines-requires : tie.Need-lines-requires
-lines-requires c κs = step-text (done c.before.before.before.before)
+lines-requires c κs = step_text_lem (done c.before.before.before.before)
 
 mul-used : tie.Need-overflow-mul-used
-mul-used c = omega (arith, step-used (done c.before.before.before.before.before), step-there (done c.before.before.before.before.before))
+mul-used c = omega (arith, step_used (done c.before.before.before.before.before), step_there (done c.before.before.before.before.before))
 
 sub-rest : tie.Need-overflow-sub-rest
-sub-rest c = step-used (done c.before.before.before.before.before)
+sub-rest c = step_used (done c.before.before.before.before.before)
 
 abbrev answered : tie.After-slice-known5 → tie.After-answer-block
 answered c = c.before.before.before.before.before.before.before.before.before

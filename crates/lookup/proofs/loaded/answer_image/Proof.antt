@@ -1,6 +1,6 @@
 use lib.Seq.{length-take-le}
-use Rattle.program.specs.Run.{linesBy}
-use Rattle.program.proofs.front.Loads.{image-refused, image-table}
+use Rattle.program.specs.Run.{lines_by}
+use Rattle.program.proofs.front.Loads.{image_refused, image_table}
 use mathlib.Core.Path.{sym}
 use borrow.Author.Rules.{rules}
 use Rattle.lookup.proofs.loaded.answer_image.Statement.{statement}
@@ -17,7 +17,7 @@ returns c =
     let e = c.before in
     let l = load e.before in
     let s = start l in
-    c.refuse.ensures s.pre.1 (image-refused (l.load.ensures.0 s.pre.0.0 s.pre.0.1) s.pre.1 e.if1.true) linesBy _
+    c.refuse.ensures s.pre.1 (image_refused (l.load.ensures.0 s.pre.0.0 s.pre.0.1) s.pre.1 e.if1.true) lines_by _
 
 slice-aggregate-answer-all : tie.Need-slice-aggregate-answer-all
 slice-aggregate-answer-all c = sym (length-take-le _ _ (search rules))
@@ -30,10 +30,10 @@ answer-all-requires c κs =
     let z = c.before.before in
     let l = load z.before in
     let s = start l in
-    image-table (l.load.ensures.0 s.pre.0.0 s.pre.0.1) s.pre.1 z.if1.false
+    image_table (l.load.ensures.0 s.pre.0.0 s.pre.0.1) s.pre.1 z.if1.false
 
-pub answer-image-spec : {M : Type 1} → statement M
-answer-image-spec =
+pub answer_image_spec : {M : Type 1} → statement M
+answer_image_spec =
     tie.close
     (tie.spec
     (λ c κs. search rules)

@@ -7,5 +7,5 @@ use Rattle.lookup.proofs.print.end.Tie as tie
 returns : tie.Need-returns
 returns c = c.write.ensures ∙ ap length c.before.before.before.before.requires
 
-pub end-spec : {M : Type 1} → statement M
-end-spec = tie.close (tie.spec (λ c κs. search rules) returns)
+pub end_spec : {M : Type 1} → statement M
+end_spec = tie.close (tie.spec (λ c κs. search rules) returns)

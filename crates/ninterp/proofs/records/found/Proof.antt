@@ -1,5 +1,5 @@
 use mathlib.Core.Path.{◌∙◌}
-use Rattle.ninterp.proofs.KindOrder.{found-linear, found-pick}
+use Rattle.ninterp.proofs.KindOrder.{found_linear, found_pick}
 use borrow.Author.Rules.{rules}
 use Rattle.ninterp.proofs.records.found.Statement.{statement}
 use Rattle.ninterp.proofs.records.found.Tie as tie
@@ -11,7 +11,7 @@ returns : tie.Need-returns
 returns c =
     let t = c.before in
     let a = t.before.before.before.before.args in
-    c.interpolated.ensures ∙ found-linear a.kind a.shape a.nodes.now a.values.now a.point.now t.if1.true
+    c.interpolated.ensures ∙ found_linear a.kind a.shape a.nodes.now a.values.now a.point.now t.if1.true
 
 stored-requires : tie.Need-stored-requires
 stored-requires c κs =
@@ -23,10 +23,10 @@ returns-2 c =
     let q = c.before.before in
     let e = q.before in
     let a = e.before.before.before.before.args in
-    c.stored.ensures ∙ found-pick a.kind a.shape a.nodes.now a.values.now a.point.now q.pick-of.result e.if1.false q.pick-of.ensures
+    c.stored.ensures ∙ found_pick a.kind a.shape a.nodes.now a.values.now a.point.now q.pick-of.result e.if1.false q.pick-of.ensures
 
-pub found-spec : {M : Type 1} → statement M
-found-spec =
+pub found_spec : {M : Type 1} → statement M
+found_spec =
     tie.close
     (tie.spec
     interpolated-requires

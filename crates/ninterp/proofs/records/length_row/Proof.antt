@@ -1,8 +1,8 @@
 use Prim.Native.Nat.{◌≤◌}
 use native.Mathlib.Omega.{arith}
-use Rattle.answer.proofs.Orders.{passes, or-stops, or-goes-on}
-use Rattle.checks.proofs.shapes.Frames.{shape-four}
-use Rattle.checks.proofs.table.Grids.{frame-shape}
+use Rattle.answer.proofs.Orders.{passes, or_stops, or_goes_on}
+use Rattle.checks.proofs.shapes.Frames.{shape_four}
+use Rattle.checks.proofs.table.Grids.{frame_shape}
 use borrow.Author.Rules.{rules}
 use Rattle.ninterp.proofs.records.length_row.Statement.{statement}
 use Rattle.ninterp.proofs.records.length_row.Tie as tie
@@ -14,10 +14,10 @@ start f = f.before.before.before.before
 few : (e : tie.Else1) → (start e.before.before).args.shape.axes ≤ 4
 few e =
     let a = (start e.before.before).args in
-    shape-four a.shape (frame-shape a.shape a.nodes.now a.values.now (passes _ _ e.before.before.frame-fault.ensures e.if1.false))
+    shape_four a.shape (frame_shape a.shape a.nodes.now a.values.now (passes _ _ e.before.before.frame-fault.ensures e.if1.false))
 
 returns : tie.Need-returns
-returns c = or-stops _ _ c.before.before.frame-fault.ensures _ c.if1.true
+returns c = or_stops _ _ c.before.before.frame-fault.ensures _ c.if1.true
 
 mul-length-fault : tie.Need-overflow-mul-length-fault
 mul-length-fault c = omega (arith, few c.before)
@@ -28,10 +28,10 @@ add-length-fault c = omega (arith, few c.before)
 returns-2 : tie.Need-returns-2
 returns-2 c =
     let e = c.before.before in
-    or-goes-on _ _ e.before.before.frame-fault.ensures _ _ e.if1.false c.length-fault.ensures
+    or_goes_on _ _ e.before.before.frame-fault.ensures _ _ e.if1.false c.length-fault.ensures
 
-pub length-row-spec : {M : Type 1} → statement M
-length-row-spec =
+pub length_row_spec : {M : Type 1} → statement M
+length_row_spec =
     tie.close
     (tie.spec
     (λ c κs. search rules)

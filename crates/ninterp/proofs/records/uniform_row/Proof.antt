@@ -17,8 +17,8 @@ returns-2 c =
     let a = e.before.args in
     c.no-fault.ensures ∙ sym (when_false (eqb a.kind 1) a.uniform (ne_eqb a.kind 1 e.if1.false))
 
-pub uniform-row-spec : {M : Type 1} → statement M
-uniform-row-spec =
+pub uniform_row_spec : {M : Type 1} → statement M
+uniform_row_spec =
     tie.close
     (tie.spec
     (λ c κs. search rules)

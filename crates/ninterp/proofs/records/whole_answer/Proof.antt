@@ -1,8 +1,8 @@
 use mathlib.Core.Path.{◌≡◌, sym, ap, ◌∙◌}
 use lib.ListN.{length, take}
 use Rattle.layout.proofs.Totals.{length_ids}
-use Rattle.ninterp.specs.Records.{recordReadings}
-use Rattle.ninterp.proofs.KindOrder.{length-readings, read-four, read-enough, whole-refused, whole-table, whole_four, whole-found}
+use Rattle.ninterp.specs.Records.{record_readings}
+use Rattle.ninterp.proofs.KindOrder.{length_readings, read_four, read_enough, whole-refused, whole-table, whole_four, whole_found}
 use borrow.Author.Rules.{rules}
 use Rattle.ninterp.proofs.records.whole_answer.Statement.{statement}
 use Rattle.ninterp.proofs.records.whole_answer.Tie as tie
@@ -22,25 +22,25 @@ returns c =
 
 -- the readings of the table's axes
 own : (g : tie.After-readings-of) → take (start g.before.before.before).args.shape.axes g.readings-of.result
-    ≡ recordReadings (start g.before.before.before).args.shape (start g.before.before.before).args.rec.now
+    ≡ record_readings (start g.before.before.before).args.shape (start g.before.before.before).args.rec.now
 own g =
     let e = g.before in
     let f = e.before.before in
     let s = start f in
     let a = s.args in
-    read-four a.shape a.rec.now g.readings-of.result g.readings-of.ensures
+    read_four a.shape a.rec.now g.readings-of.result g.readings-of.ensures
     (whole_four a.shape (four s) a.nodes.now a.values.now a.rec.now a.table a.uniform s.pre.0.judged s.pre.0.spaced s.pre.1 _ f.kind-fault.ensures e.if1.false)
 
 array-share-prefix-readings : tie.Need-array-share-prefix-readings
 array-share-prefix-readings c =
     let a = (start c.before.before.before).args in
-    read-enough a.shape a.rec.now c.readings-of.result (own c)
+    read_enough a.shape a.rec.now c.readings-of.result (own c)
 
 slice-aggregate-point-answer : tie.Need-slice-aggregate-point-answer
 slice-aggregate-point-answer c =
     let g = c.before in
     let a = (start g.before.before.before).args in
-    sym (ap length (own g) ∙ length-readings a.shape a.rec.now)
+    sym (ap length (own g) ∙ length_readings a.shape a.rec.now)
 
 point-answer-requires : tie.Need-point-answer-requires
 point-answer-requires c κs =
@@ -49,7 +49,7 @@ point-answer-requires c κs =
     let f = e.before.before in
     let s = start f in
     let a = s.args in
-    (whole-table a.shape (four s) a.nodes.now a.values.now a.rec.now a.table a.uniform s.pre.0.judged s.pre.0.spaced s.pre.1 _ f.kind-fault.ensures e.if1.false, ap length (own g) ∙ length-readings a.shape a.rec.now)
+    (whole-table a.shape (four s) a.nodes.now a.values.now a.rec.now a.table a.uniform s.pre.0.judged s.pre.0.spaced s.pre.1 _ f.kind-fault.ensures e.if1.false, ap length (own g) ∙ length_readings a.shape a.rec.now)
 
 returns-2 : tie.Need-returns-2
 returns-2 c =
@@ -58,10 +58,10 @@ returns-2 c =
     let f = e.before.before in
     let s = start f in
     let a = s.args in
-    whole-found a.shape (four s) a.nodes.now a.values.now a.rec.now a.table a.uniform s.pre.0.judged s.pre.0.spaced s.pre.1 _ f.kind-fault.ensures e.if1.false _ (own g) _ c.point-answer.ensures
+    whole_found a.shape (four s) a.nodes.now a.values.now a.rec.now a.table a.uniform s.pre.0.judged s.pre.0.spaced s.pre.1 _ f.kind-fault.ensures e.if1.false _ (own g) _ c.point-answer.ensures
 
-pub whole-answer-spec : {M : Type 1} → statement M
-whole-answer-spec =
+pub whole_answer_spec : {M : Type 1} → statement M
+whole_answer_spec =
     tie.close
     (tie.spec
     (λ c. search rules)

@@ -1,9 +1,9 @@
 // The corners of a reading: where they lie in the flat values, what is stored there, and what it comes to.
 ghost use Rattle.std.specs.Prelude.{◌≡◌, ◌≤◌, take};
-ghost use Rattle.layout.specs.Shape.{countsOf};
+ghost use Rattle.layout.specs.Shape.{counts_of};
 ghost use Rattle.layout.specs.Layout.{table};
 ghost use Rattle.blend.specs.Blend.{linear, computed};
-ghost use Rattle.axis.specs.Scaffolding.{locationBy, upperOf};
+ghost use Rattle.axis.specs.Scaffolding.{location_by, upper_of};
 ghost use Rattle.ninterp.specs.Scaffolding.{LookupJudged, Cornered, Placeable, Blank, Placed};
 ghost use Rattle.ninterp.specs.Scaffolding.{Spreadable, Spread, Gatherable, Gathered};
 ghost use Rattle.ninterp.specs.Linears.{interpolated};
@@ -17,8 +17,8 @@ use rust::AxisLocation;
 
 // The node of an exact axis, the upper one of any other.
 fn upper_node(location: AxisLocation) -> usize
-    requires { upperOf location ≤ 4096 }
-    ensures { result ≡ upperOf location }
+    requires { upper_of location ≤ 4096 }
+    ensures { result ≡ upper_of location }
 {
     match location {
         AxisLocation::Exact(node) => node,
@@ -101,7 +101,7 @@ fn gather(values: &[f64], places: &[usize], count: usize, low: usize, high: usiz
 // once, instead of from places that were just put.
 fn corner_answer(shape: Shape, values: &[f64], locations: [AxisLocation; 4]) -> Answer
     requires { Cornered shape values.now locations }
-    ensures { result ≡ computed (linear (take shape.axes locations) (table (countsOf shape) values.now)) }
+    ensures { result ≡ computed (linear (take shape.axes locations) (table (counts_of shape) values.now)) }
 {
     let axes = shape.axes;
     let counts = shape.counts;
@@ -122,7 +122,7 @@ pub(crate) fn interpolated(
     point: &[f64],
 ) -> Answer
     requires { LookupJudged shape nodes.now values.now point.now }
-    ensures { result ≡ computed (interpolated (locationBy uniform) (countsOf shape)
+    ensures { result ≡ computed (interpolated (location_by uniform) (counts_of shape)
         nodes.now values.now point.now) }
 {
     let locations = locations::all(uniform, shape, nodes, point);

@@ -1,6 +1,6 @@
 // LinearUniform: the index by the first node and the first gap, and every axis blended.
 ghost use Rattle.std.specs.Prelude.{◌≡◌};
-ghost use Rattle.ninterp.specs.Linears.{linearUniformAnswer};
+ghost use Rattle.ninterp.specs.Linears.{linear_uniform_answer};
 
 use crate::interpolator::n::corners;
 use answer::Answer;
@@ -9,7 +9,7 @@ use orders::before_lookup;
 
 // The lookup by LinearUniform, on a table whose axes are uniform: every axis blended, or 12.
 pub fn interpolate(shape: Shape, nodes: &[f64], values: &[f64], point: &[f64]) -> Answer
-    ensures { result ≡ linearUniformAnswer shape nodes.now values.now point.now }
+    ensures { result ≡ linear_uniform_answer shape nodes.now values.now point.now }
 {
     let fault = before_lookup::linear_uniform_fault(shape, nodes, values, point);
     if fault.number != 0 {

@@ -1,5 +1,5 @@
 // Where a reading lies on each axis, for the two linears: by Linear's rule or by LinearUniform's.
-ghost use Rattle.axis.specs.Scaffolding.{locationBy};
+ghost use Rattle.axis.specs.Scaffolding.{location_by};
 ghost use Rattle.ninterp.specs.Scaffolding.{ReadableTable, Located};
 
 use axis::locate;
@@ -9,7 +9,7 @@ use rust::AxisLocation;
 // The location on each axis, in axis order.
 pub(crate) fn all(uniform: bool, shape: Shape, nodes: &[f64], point: &[f64]) -> [AxisLocation; 4]
     requires { ReadableTable shape nodes.now point.now }
-    ensures { Located (locationBy uniform) shape nodes.now point.now result }
+    ensures { Located (location_by uniform) shape nodes.now point.now result }
 {
     let counts = shape.counts;
     let axes = shape.axes;

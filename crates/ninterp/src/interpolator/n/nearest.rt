@@ -1,6 +1,6 @@
 // Nearest: one stored value, at the nearest node of each axis.
 ghost use Rattle.std.specs.Prelude.{◌≡◌};
-ghost use Rattle.ninterp.specs.Tables.{nearestAnswer};
+ghost use Rattle.ninterp.specs.Tables.{nearest_answer};
 
 use crate::interpolator::n::pick;
 use answer::Answer;
@@ -9,7 +9,7 @@ use orders::before_lookup;
 
 // The lookup by Nearest: the value stored at the nearest node of each axis.
 pub fn interpolate(shape: Shape, nodes: &[f64], values: &[f64], point: &[f64]) -> Answer
-    ensures { result ≡ nearestAnswer shape nodes.now values.now point.now }
+    ensures { result ≡ nearest_answer shape nodes.now values.now point.now }
 {
     let fault = before_lookup::lookup_fault(shape, nodes, values, point);
     if fault.number != 0 {

@@ -1,8 +1,8 @@
 // What Step and Nearest share: one index for each axis, and one stored value. A pick of 0 is Lower, of 1 Upper, of anything else Nearest.
 ghost use Rattle.std.specs.Prelude.{◌≡◌, ◌≤◌, length};
 ghost use Rattle.answer.specs.Answer.{answered};
-ghost use Rattle.layout.specs.Shape.{countsOf};
-ghost use Rattle.axis.specs.Scaffolding.{pickRule};
+ghost use Rattle.layout.specs.Shape.{counts_of};
+ghost use Rattle.axis.specs.Scaffolding.{pick_rule};
 ghost use Rattle.ninterp.specs.Tables.{picked};
 ghost use Rattle.ninterp.specs.Scaffolding.{LookupJudged, ReadableTable, PickedAt};
 
@@ -14,7 +14,7 @@ use layout::Shape;
 fn pick_place(shape: Shape, nodes: &[f64], picks: &[u8], point: &[f64]) -> usize
     requires readable_table { ReadableTable shape nodes.now point.now }
     requires axes_in_bounds { shape.axes ≤ length picks.now }
-    ensures { PickedAt (pickRule picks.now) shape nodes.now point.now result }
+    ensures { PickedAt (pick_rule picks.now) shape nodes.now point.now result }
 {
     let counts = shape.counts;
     let axes = shape.axes;
@@ -42,7 +42,7 @@ pub(crate) fn stored(
 ) -> Answer
     requires lookup_judged { LookupJudged shape nodes.now values.now point.now }
     requires axes_in_bounds { shape.axes ≤ length picks.now }
-    ensures { result ≡ answered (picked (pickRule picks.now) (countsOf shape)
+    ensures { result ≡ answered (picked (pick_rule picks.now) (counts_of shape)
         nodes.now values.now point.now) }
 {
     let at = pick_place(shape, nodes, picks, point);

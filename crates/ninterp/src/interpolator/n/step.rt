@@ -1,6 +1,6 @@
 // Step: one stored value, at the step index of each axis.
 ghost use Rattle.std.specs.Prelude.{◌≡◌};
-ghost use Rattle.ninterp.specs.Tables.{stepAnswer};
+ghost use Rattle.ninterp.specs.Tables.{step_answer};
 
 use crate::interpolator::n::pick;
 use answer::Answer;
@@ -15,7 +15,7 @@ pub fn interpolate(
     point: &[f64],
     directions: &[u8],
 ) -> Answer
-    ensures { result ≡ stepAnswer shape nodes.now values.now point.now
+    ensures { result ≡ step_answer shape nodes.now values.now point.now
         directions.now }
 {
     let fault = before_lookup::step_fault(shape, nodes, values, point, directions);

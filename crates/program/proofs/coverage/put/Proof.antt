@@ -1,10 +1,10 @@
-use Rattle.program.specs.Coverage.{reportOn}
+use Rattle.program.specs.Coverage.{report_on}
 use borrow.Author.Rules.{rules}
 use Rattle.program.proofs.coverage.put.Statement.{statement}
 use Rattle.program.proofs.coverage.put.Tie as tie
 
 returns : tie.Need-returns
-unfolding reportOn
+unfolding report_on
 returns c = c.before.before.put.ensures
 
 pub put_spec : {M : Type 1} → statement M

@@ -1,7 +1,7 @@
 use native.Mathlib.Omega.{arith}
 use Rattle.lines.proofs.Shows.{line_wrote}
-use Rattle.program.proofs.run.Places.{wrote-fronted}
-use Rattle.program.proofs.run.Gives.{line-fronted, text-fronted}
+use Rattle.program.proofs.run.Places.{wrote_fronted}
+use Rattle.program.proofs.run.Gives.{line_fronted, text_fronted}
 use borrow.Author.Rules.{rules}
 use Rattle.program.proofs.coverage.put_text.Statement.{statement}
 use Rattle.program.proofs.coverage.put_text.Tie as tie
@@ -15,7 +15,7 @@ returns c =
     let t = p.before.before in
     let s = start t.before in
     let e = p.put-line.ensures in (
-      line-fronted _ _ t.if1.true (wrote-fronted (line_wrote s.args.loaded s.args.chunk.now 0 (omega (arith, s.pre.1)) e.0.0 e.0.1)),
+      line_fronted _ _ t.if1.true (wrote_fronted (line_wrote s.args.loaded s.args.chunk.now 0 (omega (arith, s.pre.1)) e.0.0 e.0.1)),
       omega (arith, e.1),
     )
 
@@ -29,10 +29,10 @@ returns-2 : tie.Need-returns-2
 returns-2 c =
     let p = c.before.before in
     let t = p.before.before in
-    (text-fronted _ _ t.if1.false p.put-records.ensures.0, p.put-records.ensures.1)
+    (text_fronted _ _ t.if1.false p.put-records.ensures.0, p.put-records.ensures.1)
 
-pub put-text-spec : {M : Type 1} → statement M
-put-text-spec =
+pub put_text_spec : {M : Type 1} → statement M
+put_text_spec =
     tie.close
     (tie.spec
     (λ c κs. search rules)

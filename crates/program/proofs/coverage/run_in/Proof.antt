@@ -1,10 +1,10 @@
 use mathlib.Core.Path.{sym}
 use lib.Seq.{length-take-le}
 use native.Mathlib.Omega.{arith}
-use Rattle.program.specs.Coverage.{coverageReport}
-use Rattle.program.proofs.front.Loads.{table-shape}
-use Rattle.program.proofs.run.Places.{fronted-take}
-use Rattle.program.proofs.run.Inputs.{run-texted}
+use Rattle.program.specs.Coverage.{coverage_report}
+use Rattle.program.proofs.front.Loads.{table_shape}
+use Rattle.program.proofs.run.Places.{fronted_take}
+use Rattle.program.proofs.run.Inputs.{run_texted}
 use borrow.Author.Rules.{rules}
 use Rattle.program.proofs.coverage.run_in.Statement.{statement}
 use Rattle.program.proofs.coverage.run_in.Tie as tie
@@ -22,7 +22,7 @@ put-text-requires : tie.Need-put-text-requires
 put-text-requires c κs =
     let l = c.before.before.before.before.before.before.before.before in
     let s = start l in
-    (λ z. table-shape ((l.load.ensures.0 s.pre.0 s.pre.1.0).table z), s.pre.1.1)
+    (λ z. table_shape ((l.load.ensures.0 s.pre.0 s.pre.1.0).table z), s.pre.1.1)
 
 slice-aggregate-give : tie.Need-slice-aggregate-give
 slice-aggregate-give c = sym (length-take-le _ _ (search rules))
@@ -33,11 +33,11 @@ returns c =
     let p = g.before.before.before.before.before in
     let l = p.before.before.before.before.before.before.before.before.before in
     let s = start l in
-    run-texted coverageReport (l.load.ensures.0 s.pre.0 s.pre.1.0) l.load.ensures.1.0.1
-    (fronted-take p.put-text.ensures.0 (omega (arith, p.put-text.ensures.1, s.pre.1.1))) g.give.ensures
+    run_texted coverage_report (l.load.ensures.0 s.pre.0 s.pre.1.0) l.load.ensures.1.0.1
+    (fronted_take p.put-text.ensures.0 (omega (arith, p.put-text.ensures.1, s.pre.1.1))) g.give.ensures
 
-pub run-in-spec : {M : Type 1} → statement M
-run-in-spec =
+pub run_in_spec : {M : Type 1} → statement M
+run_in_spec =
     tie.close
     (tie.spec
     (λ c κs. search rules)

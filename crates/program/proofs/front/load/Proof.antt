@@ -4,9 +4,9 @@ use native.Mathlib.Omega.{arith}
 use lib.ListN.{length}
 use lib.Seq.{length-take-le}
 use Rattle.image.specs.declared.LoadAnswer.{LoadAnswer}
-use Rattle.image.proofs.Laws.{given-four}
-use Rattle.program.specs.Input.{imageSize}
-use Rattle.program.proofs.front.Loads.{front-loads}
+use Rattle.image.proofs.Laws.{given_four}
+use Rattle.program.specs.Input.{image_size}
+use Rattle.program.proofs.front.Loads.{front_loads}
 use borrow.Author.Rules.{rules}
 use Rattle.program.proofs.front.load.Statement.{statement}
 use Rattle.program.proofs.front.load.Tie as tie
@@ -20,7 +20,7 @@ lent l = l.before.before.before.before
 abbrev start : tie.After-least → tie.Start
 start z = z.before.before.before.before.before
 
-sized : (z : tie.After-least) → z.least.result ≡ min (imageSize (start z).args.input.now) (length (start z).args.input.now)
+sized : (z : tie.After-least) → z.least.result ≡ min (image_size (start z).args.input.now) (length (start z).args.input.now)
 sized z = z.least.ensures ∙ ap (λ (n : ℕ). min n (length (start z).args.input.now)) z.before.image-size.ensures
 
 returns : tie.Need-returns
@@ -29,9 +29,9 @@ returns c =
     let h = v.before.before in
     let l = h.before.before.before.before.before.before.before in
     let s = start (lent l) in (
-      λ x y. front-loads s.args.input.now _ (sized (lent l)) l.load.ensures x y _ h.sizes.ensures _ _ v.before.least2.ensures v.least3.ensures,
+      λ x y. front_loads s.args.input.now _ (sized (lent l)) l.load.ensures x y _ h.sizes.ensures _ _ v.before.least2.ensures v.least3.ensures,
       (
-        (subst (λ (a : LoadAnswer). a.shape.axes ≤ 4) (sym l.load.ensures.answer) (given-four _ _ _), omega (arith, sized (lent l))),
+        (subst (λ (a : LoadAnswer). a.shape.axes ≤ 4) (sym l.load.ensures.answer) (given_four _ _ _), omega (arith, sized (lent l))),
         (omega (arith, v.before.least2.ensures), omega (arith, v.least3.ensures)),
       ),
     )

@@ -1,18 +1,18 @@
 use Rattle.answer.specs.Faults.{refusal}
 use Rattle.answer.specs.Answer.{refused}
 use Rattle.answer.specs.declared.Answer.{Answer}
-use Rattle.lines.specs.Put.{lineInto, lineEnd}
-use Rattle.program.proofs.input.Ends.{no-record-left, no-byte-left, cut_short}
+use Rattle.lines.specs.Put.{line_into, line_end}
+use Rattle.program.proofs.input.Ends.{no_record_left, no_byte_left, cut_short}
 use mathlib.Core.Path.{◌≡◌, ap, ◌∙◌}
 use borrow.Author.Rules.{rules}
 use Rattle.program.proofs.input.finish.Statement.{statement}
 use Rattle.program.proofs.input.finish.Tie as tie
 
 returns : tie.Need-returns
-returns c = let s = c.before.before in no-record-left s.args.rest s.args.left s.args.out.now c.if1.true
+returns c = let s = c.before.before in no_record_left s.args.rest s.args.left s.args.out.now c.if1.true
 
 returns-2 : tie.Need-returns-2
-returns-2 c = let s = c.before.before.before in no-byte-left s.args.rest s.args.left s.args.out.now c.if2.true
+returns-2 c = let s = c.before.before.before in no_byte_left s.args.rest s.args.left s.args.out.now c.if2.true
 
 -- the answer of a short record
 told : (f : tie.After-refuse) → f.refuse.result ≡ refused (refusal 3 0 2)
@@ -25,8 +25,8 @@ returns-3 c =
     let b = f.before.before in
     let s = b.before.before.before in
     cut_short s.args.rest s.args.left s.args.out.now b.before.if1.false b.if2.false _ _
-    (w.put-line.ensures.0.0 ∙ ap (λ (a : Answer). lineEnd a s.args.out.now 0) (told f))
-    (w.put-line.ensures.0.1 ∙ ap (λ (a : Answer). lineInto a s.args.out.now 0) (told f))
+    (w.put-line.ensures.0.0 ∙ ap (λ (a : Answer). line_end a s.args.out.now 0) (told f))
+    (w.put-line.ensures.0.1 ∙ ap (λ (a : Answer). line_into a s.args.out.now 0) (told f))
 
 pub finish_spec : {M : Type 1} → statement M
 finish_spec =

@@ -4,7 +4,7 @@ use Prim.Native.Nat.{ℕ}
 use native.Mathlib.Omega.{arith}
 use lib.ListN.{length, take}
 use lib.Seq.{length-take-le}
-use Rattle.lines.proofs.Puts.{wrote-take}
+use Rattle.lines.proofs.Puts.{wrote_take}
 use Rattle.lines.proofs.Shows.{line_wrote}
 use Rattle.program.specs.Run.{run_by}
 use borrow.Author.Rules.{rules}
@@ -18,7 +18,7 @@ start w = w.before.before.before.before
 put : (w : tie.After-put-line) (by : List ℕ → List ℕ → List ℕ) → take w.put-line.result w.put-line.new.1.0 ≡ run_by by (start w).args.img.now
 put w by =
     let s = start w in
-    wrote-take (line_wrote s.args.answer s.args.out.now 0 (omega (arith, s.pre.0)) w.put-line.ensures.0.0 w.put-line.ensures.0.1) ∙ sym (s.pre.1 by)
+    wrote_take (line_wrote s.args.answer s.args.out.now 0 (omega (arith, s.pre.0)) w.put-line.ensures.0.0 w.put-line.ensures.0.1) ∙ sym (s.pre.1 by)
 
 slice-aggregate-line : tie.Need-slice-aggregate-line
 slice-aggregate-line c = sym (length-take-le _ _ (search rules))
@@ -29,8 +29,8 @@ line-requires c κs = put c.before.before.before
 returns : tie.Need-returns
 returns c = λ by. c.line.ensures ∙ ap length (put c.before.before.before.before by)
 
-pub put-line-spec : {M : Type 1} → statement M
-put-line-spec =
+pub put_line_spec : {M : Type 1} → statement M
+put_line_spec =
     tie.close
     (tie.spec
     (λ c κs. search rules)

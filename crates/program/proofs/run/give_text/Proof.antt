@@ -1,7 +1,7 @@
 use mathlib.Core.Path.{◌≡◌, ap}
 use mathlib.Core.List.{◌++◌}
 use lib.ListN.{length}
-use Rattle.program.proofs.run.Gives.{nothing_put, give-refused, give-made}
+use Rattle.program.proofs.run.Gives.{nothing_put, give_refused, give_made}
 use borrow.Author.Rules.{rules}
 use Rattle.program.proofs.run.give_text.Statement.{statement}
 use Rattle.program.proofs.run.give_text.Tie as tie
@@ -20,7 +20,7 @@ returns : tie.Need-returns
 returns c =
     let r = c.before.before in
     let t = measured r in
-    give-refused _ _ t.put-text.ensures.long (ap length (untouched t)) r.room-answer.ensures c.if1.true (untouched t)
+    give_refused _ _ t.put-text.ensures.long (ap length (untouched t)) r.room-answer.ensures c.if1.true (untouched t)
 
 returns-2 : tie.Need-returns-2
 returns-2 c =
@@ -28,10 +28,10 @@ returns-2 c =
     let d = u.before.before.before in
     let r = d.before.before in
     let t = measured r in
-    give-made _ _ t.put-text.ensures.long (ap length (untouched t)) r.room-answer.ensures d.if1.false (untouched t) u.put-text2.ensures
+    give_made _ _ t.put-text.ensures.long (ap length (untouched t)) r.room-answer.ensures d.if1.false (untouched t) u.put-text2.ensures
 
-pub give-text-spec : {M : Type 1} → statement M
-give-text-spec =
+pub give_text_spec : {M : Type 1} → statement M
+give_text_spec =
     tie.close
     (tie.spec
     (λ c. search rules)

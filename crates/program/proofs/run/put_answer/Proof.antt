@@ -17,8 +17,8 @@ returns c =
     let s = w.before.before.before.before in
     placed (line_wrote s.args.a s.args.chunk.now 0 (omega (arith, s.requires)) w.put-line.ensures.0.0 w.put-line.ensures.0.1) p.put_all_lem.ensures
 
-pub put-answer-spec : {M : Type 1} → statement M
-put-answer-spec =
+pub put_answer_spec : {M : Type 1} → statement M
+put_answer_spec =
     tie.close
     (tie.spec
     (λ c κs. search rules)

@@ -24,8 +24,8 @@ returns c =
     let w = p.before.before.before.before.before in
     (w.answer-block.ensures, placed (answered w.answer-block.ensures w.answer-block.auto.1.1.1.1.1.0).lines p.put_all_lem.ensures)
 
-pub put-chunk-spec : {M : Type 1} → statement M
-put-chunk-spec =
+pub put_chunk_spec : {M : Type 1} → statement M
+put_chunk_spec =
     tie.close
     (tie.spec
     (λ c κs. search rules)

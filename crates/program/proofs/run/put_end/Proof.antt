@@ -5,7 +5,7 @@ use lib.ListN.{length}
 use lib.Seq.{length-take-le}
 use Rattle.lines.specs.Scaffolding.{Wrote}
 use Rattle.program.specs.Scaffolding.{end_of}
-use Rattle.program.proofs.run.Places.{placed, end_fits, end-wrote}
+use Rattle.program.proofs.run.Places.{placed, end_fits, end_wrote}
 use borrow.Author.Rules.{rules}
 use Rattle.program.proofs.run.put_end.Statement.{statement}
 use Rattle.program.proofs.run.put_end.Tie as tie
@@ -14,7 +14,7 @@ abbrev start : tie.After-finish → tie.Start
 start w = w.before.before.before.before
 
 said : (w : tie.After-finish) → Wrote (start w).args.chunk.now 0 (end_of (start w).args.rest (start w).args.left) w.finish.new.1.1.0 w.finish.result
-said w = let s = start w in end-wrote s.args.rest s.args.left s.pre w.finish.ensures.0 w.finish.ensures.1
+said w = let s = start w in end_wrote s.args.rest s.args.left s.pre w.finish.ensures.0 w.finish.ensures.1
 
 fits : (w : tie.After-finish) → w.finish.result ≤ length w.finish.new.1.1.0
 fits w = let s = start w in omega (arith, (said w).next, end_fits s.args.rest s.args.left, w.finish.auto.1.1.0, s.pre)
@@ -32,8 +32,8 @@ returns c =
     let s = start w in
     (placed (said w) p.put_all_lem.ensures, omega (arith, (said w).next, end_fits s.args.rest s.args.left))
 
-pub put-end-spec : {M : Type 1} → statement M
-put-end-spec =
+pub put_end_spec : {M : Type 1} → statement M
+put_end_spec =
     tie.close
     (tie.spec
     (λ c κs. search rules)

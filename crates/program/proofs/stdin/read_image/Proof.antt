@@ -1,4 +1,4 @@
-use Rattle.program.proofs.input.Ends.{size-within, head_read, image-read}
+use Rattle.program.proofs.input.Ends.{size_within, head_read, image_read}
 use native.Mathlib.Omega.{arith}
 use borrow.Author.Rules.{rules}
 use Rattle.program.proofs.stdin.read_image.Statement.{statement}
@@ -16,7 +16,7 @@ read-rest-requires : tie.Need-read-rest-requires
 read-rest-requires c κs =
     let z = c.before in
     let h = z.before.before.before.before.before.before in
-    let w = size-within _ _ z.image-size.ensures in
+    let w = size_within _ _ z.image-size.ensures in
     (omega (arith, w.0), omega (arith, w.1, h.read_head.auto.0, h.before.before.if1.false))
 
 returns-3 : tie.Need-returns-3
@@ -24,10 +24,10 @@ returns-3 c =
     let r = c.before.before in
     let z = r.before.before in
     let h = z.before.before.before.before.before.before in
-    (r.read-rest.ensures.0.within, image-read _ _ z.image-size.result r.read-rest.result (omega (arith, h.read_head.auto.0, h.before.before.if1.false)) z.image-size.ensures r.read-rest.ensures.0 r.read-rest.ensures.1)
+    (r.read-rest.ensures.0.within, image_read _ _ z.image-size.result r.read-rest.result (omega (arith, h.read_head.auto.0, h.before.before.if1.false)) z.image-size.ensures r.read-rest.ensures.0 r.read-rest.ensures.1)
 
-pub read-image-spec : {M : Type 1} → statement M
-read-image-spec =
+pub read_image_spec : {M : Type 1} → statement M
+read_image_spec =
     tie.close
     (tie.spec
     returns

@@ -16,8 +16,8 @@ returns c =
     let part : length (take (st.args.size - 40) (drop 40 st.args.img.now)) ≡ st.args.size - 40 = length-take-le (st.args.size - 40) (drop 40 st.args.img.now) (omega (arith, length-drop 40 st.args.img.now, st.requires.1)) in
     (filled st.args.img.now w.read-full.new.1.0 _ 40 w.read-full.result (omega (arith, st.requires)) w.read-full.ensures.0, omega (arith, w.read-full.ensures.0, w.read-full.auto.1.0, part, st.requires.0))
 
-pub read-rest-spec : {M : Type 1} → statement M
-read-rest-spec =
+pub read_rest_spec : {M : Type 1} → statement M
+read_rest_spec =
     tie.close
     (tie.spec
     (λ c. search rules)

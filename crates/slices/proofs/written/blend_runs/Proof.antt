@@ -5,11 +5,11 @@ use native.Mathlib.Omega.{arith}
 use lib.ListN.{length, take, drop, length-drop}
 use lib.Seq.{length-take-le}
 use lib.Ieee.{Float}
-use Rattle.blend.specs.Scaffolding.{blends, blendedInto}
-use Rattle.checks.specs.Numbers.{resultsFault}
-use Rattle.slices.specs.Scaffolding.{blendedRuns}
+use Rattle.blend.specs.Scaffolding.{blends, blended_into}
+use Rattle.checks.specs.Numbers.{results_fault}
+use Rattle.slices.specs.Scaffolding.{blended_runs}
 use Rattle.slices.proofs.Sliced.{kept, written}
-use Rattle.slices.proofs.Alongs.{into-blends, length-blends}
+use Rattle.slices.proofs.Alongs.{into_blends, length-blends}
 use borrow.Author.Rules.{rules}
 use Rattle.slices.proofs.written.blend_runs.Statement.{statement}
 use Rattle.slices.proofs.written.blend_runs.Tie as tie
@@ -25,12 +25,12 @@ run_length : (values : List Float) (k r : ℕ) → k + r ≤ length values → l
 run_length values k r h = length-take-le r (drop k values) (omega (arith, length-drop k values, h))
 
 -- what the blends were judged to be
-told : (f : tie.After-blend-fault) → f.blend-fault.result ≡ resultsFault (blendedRuns (start f).args.frac (start f).args.lower (start f).args.rest (start f).args.values.now)
+told : (f : tie.After-blend-fault) → f.blend-fault.result ≡ results_fault (blended_runs (start f).args.frac (start f).args.lower (start f).args.rest (start f).args.values.now)
 told f =
     let s = start f in
     let r = s.args.rest in
     f.blend-fault.ensures
-    ∙ ap₂ (λ (i j : ℕ). resultsFault (blends s.args.frac (take i (drop (s.args.lower * r) s.args.values.now)) (take j (drop (s.args.lower * r + r) s.args.values.now)))) (cut (s.args.lower * r) r) (cut (s.args.lower * r + r) r)
+    ∙ ap₂ (λ (i j : ℕ). results_fault (blends s.args.frac (take i (drop (s.args.lower * r) s.args.values.now)) (take j (drop (s.args.lower * r + r) s.args.values.now)))) (cut (s.args.lower * r) r) (cut (s.args.lower * r + r) r)
 
 returns : tie.Need-returns
 returns c = let f = c.before.before in kept _ _ (told f) _ _ c.if1.true
@@ -48,11 +48,11 @@ returns-2 c =
     let high : length (take r (drop (from + r) vs)) ≡ r = run_length vs (from + r) r s.pre.reach in
     written _ _ (told f) _ _ e.if1.false r (sym (length-blends s.args.frac _ _ r low high)) _
     (z.blend-into.ensures
-    ∙ ap₂ (λ (i j : ℕ). blendedInto s.args.frac (take i (drop from vs)) (take j (drop (from + r) vs)) s.args.out.now) (cut from r) (cut (from + r) r)
-    ∙ into-blends s.args.frac _ _ s.args.out.now r low high s.pre.enough)
+    ∙ ap₂ (λ (i j : ℕ). blended_into s.args.frac (take i (drop from vs)) (take j (drop (from + r) vs)) s.args.out.now) (cut from r) (cut (from + r) r)
+    ∙ into_blends s.args.frac _ _ s.args.out.now r low high s.pre.enough)
 
-pub blend-runs-spec : {M : Type 1} → statement M
-blend-runs-spec =
+pub blend_runs_spec : {M : Type 1} → statement M
+blend_runs_spec =
     tie.close
     (tie.spec
     (λ c. search rules)

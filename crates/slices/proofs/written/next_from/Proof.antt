@@ -9,6 +9,6 @@ returns c = simp (eq-eqb _ _ c.if1.true)
 returns-2 : tie.Need-returns-2
 returns-2 c = simp (ne_eqb _ _ c.if1.false)
 
-pub next-from-spec : {M : Type 1} → statement M
-next-from-spec =
+pub next_from_spec : {M : Type 1} → statement M
+next_from_spec =
     tie.close (tie.spec (λ c. search rules) (λ c. search rules) (λ c. search rules) (λ c. search rules) returns returns-2)

@@ -9,5 +9,5 @@ returns c = simp (eq-eqb _ _ c.if1.true)
 returns-2 : tie.Need-returns-2
 returns-2 c = simp (ne_eqb _ _ c.if1.false)
 
-pub next-in-run-spec : {M : Type 1} → statement M
-next-in-run-spec = tie.close (tie.spec (λ c. search rules) (λ c. search rules) returns returns-2)
+pub next_in_run_spec : {M : Type 1} → statement M
+next_in_run_spec = tie.close (tie.spec (λ c. search rules) (λ c. search rules) returns returns-2)

@@ -5,18 +5,18 @@ use borrow.Author.Rules.{rules}
 use Rattle.test_damaged.proofs.outputs.mark.Statement.{statement}
 use Rattle.test_damaged.proofs.outputs.mark.Tie as tie
 
-abbrev invariant-loop : tie.invariant-loop
-invariant-loop output₀ first i₀ output i = length output ≡ length output₀
+abbrev invariant_loop : tie.invariant_loop
+invariant_loop output₀ first i₀ output i = length output ≡ length output₀
 
-abbrev decreases-loop : tie.decreases-loop
-decreases-loop output₀ first i₀ output i = length output₀ - i
+abbrev decreases_loop : tie.decreases_loop
+decreases_loop output₀ first i₀ output i = length output₀ - i
 
 pub mark_spec : {M : Type 1} → statement M
 mark_spec =
     tie.close
     (tie.spec
-    invariant-loop
-    decreases-loop
+    invariant_loop
+    decreases_loop
     (λ c. search rules)
     (λ c κs. search rules)
     (λ c. search rules)

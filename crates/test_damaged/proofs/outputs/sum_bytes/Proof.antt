@@ -4,18 +4,18 @@ use borrow.Author.Rules.{rules}
 use Rattle.test_damaged.proofs.outputs.sum_bytes.Statement.{statement}
 use Rattle.test_damaged.proofs.outputs.sum_bytes.Tie as tie
 
-abbrev invariant-loop : tie.invariant-loop
-invariant-loop output sum₀ i₀ sum i = sum < 4294967311
+abbrev invariant_loop : tie.invariant_loop
+invariant_loop output sum₀ i₀ sum i = sum < 4294967311
 
-abbrev decreases-loop : tie.decreases-loop
-decreases-loop output sum₀ i₀ sum i = length output - i
+abbrev decreases_loop : tie.decreases_loop
+decreases_loop output sum₀ i₀ sum i = length output - i
 
-pub sum-bytes-spec : {M : Type 1} → statement M
-sum-bytes-spec =
+pub sum_bytes_spec : {M : Type 1} → statement M
+sum_bytes_spec =
     tie.close
     (tie.spec
-    invariant-loop
-    decreases-loop
+    invariant_loop
+    decreases_loop
     (λ c. search rules)
     (λ c κs. search rules)
     (λ c κs. search rules)

@@ -4,18 +4,18 @@ use borrow.Author.Rules.{rules}
 use Rattle.test_replay.proofs.cut.changed.Statement.{statement}
 use Rattle.test_replay.proofs.cut.changed.Tie as tie
 
-abbrev invariant-loop : tie.invariant-loop
-invariant-loop sliced count₀ count = count ≤ length sliced
+abbrev invariant_loop : tie.invariant_loop
+invariant_loop sliced count₀ count = count ≤ length sliced
 
-abbrev decreases-loop : tie.decreases-loop
-decreases-loop sliced count₀ count = count
+abbrev decreases_loop : tie.decreases_loop
+decreases_loop sliced count₀ count = count
 
-pub changed-spec : {M : Type 1} → statement M
-changed-spec =
+pub changed_spec : {M : Type 1} → statement M
+changed_spec =
     tie.close
     (tie.spec
-    invariant-loop
-    decreases-loop
+    invariant_loop
+    decreases_loop
     (λ c. search rules)
     (λ c. search rules)
     (λ c. search rules)

@@ -5,18 +5,18 @@ use borrow.Author.Rules.{rules}
 use Rattle.test_replay.proofs.cut.mark_all.Statement.{statement}
 use Rattle.test_replay.proofs.cut.mark_all.Tie as tie
 
-abbrev invariant-loop : tie.invariant-loop
-invariant-loop sliced₀ i₀ sliced i = length sliced ≡ length sliced₀
+abbrev invariant_loop : tie.invariant_loop
+invariant_loop sliced₀ i₀ sliced i = length sliced ≡ length sliced₀
 
-abbrev decreases-loop : tie.decreases-loop
-decreases-loop sliced₀ i₀ sliced i = length sliced₀ - i
+abbrev decreases_loop : tie.decreases_loop
+decreases_loop sliced₀ i₀ sliced i = length sliced₀ - i
 
-pub mark-all-spec : {M : Type 1} → statement M
-mark-all-spec =
+pub mark_all_spec : {M : Type 1} → statement M
+mark_all_spec =
     tie.close
     (tie.spec
-    invariant-loop
-    decreases-loop
+    invariant_loop
+    decreases_loop
     (λ c. search rules)
     (λ c κs. search rules)
     (λ c κs. search rules)

@@ -7,8 +7,8 @@ use Rattle.test_replay.proofs.cut.say.Tie as tie
 slice-aggregate-say-made : tie.Need-slice-aggregate-say-made
 slice-aggregate-say-made c = sym (length-take-le _ _ (search rules))
 
-pub say-spec : {M : Type 1} → statement M
-say-spec =
+pub say_spec : {M : Type 1} → statement M
+say_spec =
     tie.close
     (tie.spec
     (λ c κs. search rules)

@@ -5,18 +5,18 @@ use borrow.Author.Rules.{rules}
 use Rattle.test_replay.proofs.list.floats_of.Statement.{statement}
 use Rattle.test_replay.proofs.list.floats_of.Tie as tie
 
-abbrev invariant-loop : tie.invariant-loop
-invariant-loop bytes count into₀ at i₀ into i = length into ≡ length into₀
+abbrev invariant_loop : tie.invariant_loop
+invariant_loop bytes count into₀ at i₀ into i = length into ≡ length into₀
 
-abbrev decreases-loop : tie.decreases-loop
-decreases-loop bytes count into₀ at i₀ into i = count - i
+abbrev decreases_loop : tie.decreases_loop
+decreases_loop bytes count into₀ at i₀ into i = count - i
 
-pub floats-of-spec : {M : Type 1} → statement M
-floats-of-spec =
+pub floats_of_spec : {M : Type 1} → statement M
+floats_of_spec =
     tie.close
     (tie.spec
-    invariant-loop
-    decreases-loop
+    invariant_loop
+    decreases_loop
     (λ c. search rules)
     (λ c. search rules)
     (λ c κs. search rules)

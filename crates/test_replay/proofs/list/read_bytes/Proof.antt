@@ -7,8 +7,8 @@ use Rattle.test_replay.proofs.list.read_bytes.Tie as tie
 slice-aggregate-read-full : tie.Need-slice-aggregate-read-full
 slice-aggregate-read-full c = sym (length-take-le _ _ (search rules))
 
-pub read-bytes-spec : {M : Type 1} → statement M
-read-bytes-spec =
+pub read_bytes_spec : {M : Type 1} → statement M
+read_bytes_spec =
     tie.close
     (tie.spec
     (λ c. search rules)

@@ -5,18 +5,18 @@ use borrow.Author.Rules.{rules}
 use Rattle.test_replay.proofs.list.read_floats.Statement.{statement}
 use Rattle.test_replay.proofs.list.read_floats.Tie as tie
 
-abbrev invariant-loop : tie.invariant-loop
-invariant-loop count into₀ at₀ into at = (at ≤ count) × (length into ≡ length into₀)
+abbrev invariant_loop : tie.invariant_loop
+invariant_loop count into₀ at₀ into at = (at ≤ count) × (length into ≡ length into₀)
 
-abbrev decreases-loop : tie.decreases-loop
-decreases-loop count into₀ at₀ into at = count - at
+abbrev decreases_loop : tie.decreases_loop
+decreases_loop count into₀ at₀ into at = count - at
 
-pub read-floats-spec : {M : Type 1} → statement M
-read-floats-spec =
+pub read_floats_spec : {M : Type 1} → statement M
+read_floats_spec =
     tie.close
     (tie.spec
-    invariant-loop
-    decreases-loop
+    invariant_loop
+    decreases_loop
     (λ c. search rules)
     (λ c. search rules)
     (λ c κs. search rules)

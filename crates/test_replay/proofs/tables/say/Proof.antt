@@ -7,8 +7,8 @@ use Rattle.test_replay.proofs.tables.say.Tie as tie
 slice-aggregate-look-up : tie.Need-slice-aggregate-look-up
 slice-aggregate-look-up c = sym (length-take-le _ _ (search rules))
 
-pub say-spec : {M : Type 1} → statement M
-say-spec =
+pub say_spec : {M : Type 1} → statement M
+say_spec =
     tie.close
     (tie.spec
     (λ c. search rules)

@@ -5,18 +5,18 @@ use borrow.Author.Rules.{rules}
 use Rattle.test_runs.proofs.room.mark.Statement.{statement}
 use Rattle.test_runs.proofs.room.mark.Tie as tie
 
-abbrev invariant-loop : tie.invariant-loop
-invariant-loop out₀ i₀ out i = length out ≡ length out₀
+abbrev invariant_loop : tie.invariant_loop
+invariant_loop out₀ i₀ out i = length out ≡ length out₀
 
-abbrev decreases-loop : tie.decreases-loop
-decreases-loop out₀ i₀ out i = length out₀ - i
+abbrev decreases_loop : tie.decreases_loop
+decreases_loop out₀ i₀ out i = length out₀ - i
 
 pub mark_spec : {M : Type 1} → statement M
 mark_spec =
     tie.close
     (tie.spec
-    invariant-loop
-    decreases-loop
+    invariant_loop
+    decreases_loop
     (λ c. search rules)
     (λ c. search rules)
     (λ c. search rules)

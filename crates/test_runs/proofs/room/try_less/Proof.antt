@@ -7,8 +7,8 @@ use Rattle.test_runs.proofs.room.try_less.Tie as tie
 slice-aggregate-try-short : tie.Need-slice-aggregate-try-short
 slice-aggregate-try-short c = sym (length-take-le _ _ (search rules))
 
-pub try-less-spec : {M : Type 1} → statement M
-try-less-spec =
+pub try_less_spec : {M : Type 1} → statement M
+try_less_spec =
     tie.close
     (tie.spec
     (λ c. search rules)

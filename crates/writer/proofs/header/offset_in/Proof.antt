@@ -10,5 +10,5 @@ returns c = sym (ap (λ (b : Bool). cond b c.before.before.args.at 0) (lt-ltb _ 
 returns-2 : tie.Need-returns-2
 returns-2 c = sym (ap (λ (b : Bool). cond b c.before.before.args.at 0) (le-ltb _ _ c.if1.false))
 
-pub offset-in-spec : {M : Type 1} → statement M
-offset-in-spec = tie.close (tie.spec returns returns-2)
+pub offset_in_spec : {M : Type 1} → statement M
+offset_in_spec = tie.close (tie.spec returns returns-2)

@@ -1,5 +1,5 @@
 use lib.Seq.{sets}
-use Rattle.writer.specs.Made.{fieldBytes}
+use Rattle.writer.specs.Made.{field_bytes}
 use mathlib.Core.Path.{sym, ap, ◌∙◌}
 use mathlib.Core.List.{List}
 use Prim.Native.Nat.{ℕ, ◌-◌}
@@ -17,10 +17,10 @@ returns : tie.Need-returns
 returns c =
     let p = c.before.before in
     let h = p.before.before.before.before in
-    p.put-fields.ensures ∙ ap (λ (fs : List (ℕ × ℕ)). sets h.before.before.args.out.now 0 (fieldBytes fs)) h.header-fields.ensures.told
+    p.put-fields.ensures ∙ ap (λ (fs : List (ℕ × ℕ)). sets h.before.before.args.out.now 0 (field_bytes fs)) h.header-fields.ensures.told
 
-pub put-header-spec : {M : Type 1} → statement M
-put-header-spec =
+pub put_header_spec : {M : Type 1} → statement M
+put_header_spec =
     tie.close
     (tie.spec
     header-fields-requires

@@ -1,7 +1,7 @@
 use native.Mathlib.Nat.{add-zero}
 use lib.Seq.{sets}
-use Rattle.writer.specs.Made.{floatBytes}
-use Rattle.writer.proofs.Puts.{floats-step, floats-end}
+use Rattle.writer.specs.Made.{float_bytes}
+use Rattle.writer.proofs.Puts.{floats_step, floats_end}
 use mathlib.Core.Path.{◌≡◌, refl, sym, ap, ◌∙◌}
 use Prim.Native.Nat.{ℕ, ◌+◌, ◌-◌, ◌*◌, ◌≤◌}
 use native.Mathlib.Omega.{arith}
@@ -10,17 +10,17 @@ use borrow.Author.Rules.{rules}
 use Rattle.writer.proofs.put.put_floats.Statement.{statement}
 use Rattle.writer.proofs.put.put_floats.Tie as tie
 
-abbrev invariant-loop : tie.invariant-loop
-invariant-loop floats out₀ at i₀ out i =
-    (i ≤ length floats) × ((length out ≡ length out₀) × (sets out (at + 8 * i) (floatBytes (drop i floats)) ≡ sets out₀ at (floatBytes floats)))
+abbrev invariant_loop : tie.invariant_loop
+invariant_loop floats out₀ at i₀ out i =
+    (i ≤ length floats) × ((length out ≡ length out₀) × (sets out (at + 8 * i) (float_bytes (drop i floats)) ≡ sets out₀ at (float_bytes floats)))
 
-abbrev decreases-loop : tie.decreases-loop
-decreases-loop floats out₀ at i₀ out i = length floats - i
+abbrev decreases_loop : tie.decreases_loop
+decreases_loop floats out₀ at i₀ out i = length floats - i
 
-loop-holds : tie.Need-loop-init invariant-loop decreases-loop
-loop-holds c = (omega arith, (refl, ap (λ (j : ℕ). sets c.before.before.args.out.now j (floatBytes c.before.before.args.floats.now)) (add-zero _)))
+loop-holds : tie.Need-loop-init invariant_loop decreases_loop
+loop-holds c = (omega arith, (refl, ap (λ (j : ℕ). sets c.before.before.args.out.now j (float_bytes c.before.before.args.floats.now)) (add-zero _)))
 
-loop-again : tie.Need-loop-preserved invariant-loop decreases-loop
+loop-again : tie.Need-loop-preserved invariant_loop decreases_loop
 loop-again c =
     let p = c.before.before in
     let b = p.before.before in
@@ -30,19 +30,19 @@ loop-again c =
       omega (arith, i.loop-test.true),
       (
         p.put_word.auto.0 ∙ l.loop.invariant.1.0,
-        floats-step l.loop.out _ s.args.at l.loop.i _ s.args.floats.now i.loop-test.true b.bits-of-float.ensures p.put_word.ensures ∙ l.loop.invariant.1.1,
+        floats_step l.loop.out _ s.args.at l.loop.i _ s.args.floats.now i.loop-test.true b.bits-of-float.ensures p.put_word.ensures ∙ l.loop.invariant.1.1,
       ),
     )
 
-returns : tie.Need-returns invariant-loop decreases-loop
-returns c = sym (floats-end _ _ _ _ c.loop-test.false) ∙ c.before.loop.invariant.1.1
+returns : tie.Need-returns invariant_loop decreases_loop
+returns c = sym (floats_end _ _ _ _ c.loop-test.false) ∙ c.before.loop.invariant.1.1
 
-pub put-floats-spec : {M : Type 1} → statement M
-put-floats-spec =
+pub put_floats_spec : {M : Type 1} → statement M
+put_floats_spec =
     tie.close
     (tie.spec
-    invariant-loop
-    decreases-loop
+    invariant_loop
+    decreases_loop
     loop-holds
     (λ c. search rules)
     (λ c. search rules)

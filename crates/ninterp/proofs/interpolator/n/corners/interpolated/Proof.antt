@@ -1,6 +1,6 @@
 use mathlib.Core.Path.{ap, ◌∙◌}
 use native.Mathlib.Omega.{arith}
-use Rattle.layout.specs.Shape.{countsOf}
+use Rattle.layout.specs.Shape.{counts_of}
 use Rattle.layout.specs.Layout.{table}
 use Rattle.blend.specs.Blend.{linear, computed}
 use Rattle.ninterp.specs.Linears.{interpolated}
@@ -24,7 +24,7 @@ returns : tie.Need-returns
 unfolding interpolated
 returns c =
     let s = start c.before in
-    c.corner-answer.ensures ∙ ap (λ ps. computed (linear ps (table (countsOf s.args.shape) s.args.values.now))) c.before.all.ensures.same
+    c.corner-answer.ensures ∙ ap (λ ps. computed (linear ps (table (counts_of s.args.shape) s.args.values.now))) c.before.all.ensures.same
 
-pub interpolated-spec : {M : Type 1} → statement M
-interpolated-spec = tie.close (tie.spec all-requires corner-answer-requires returns)
+pub interpolated_spec : {M : Type 1} → statement M
+interpolated_spec = tie.close (tie.spec all-requires corner-answer-requires returns)

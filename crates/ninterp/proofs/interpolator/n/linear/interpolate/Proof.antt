@@ -1,8 +1,8 @@
 use Rattle.answer.proofs.Orders.{passes}
-use Rattle.answer.proofs.Answers.{then-stops, then-goes-on}
-use Rattle.ninterp.specs.Linears.{linearAnswer}
+use Rattle.answer.proofs.Answers.{then_stops, then_goes_on}
+use Rattle.ninterp.specs.Linears.{linear_answer}
 use Rattle.ninterp.specs.Scaffolding.{LookupJudged}
-use Rattle.ninterp.proofs.Lookups.{lookup-judged}
+use Rattle.ninterp.proofs.Lookups.{lookup_judged_lem}
 use mathlib.Core.Path.{◌≡◌}
 use lib.ListN.{length}
 use borrow.Author.Rules.{rules}
@@ -14,21 +14,21 @@ start e = e.before.before.before.before.before.before
 
 -- what is known where nothing was refused
 known : (e : tie.Else1) → LookupJudged (start e).args.shape (start e).args.nodes.now (start e).args.values.now (start e).args.point.now
-known e = lookup-judged (start e).args.shape (start e).args.nodes.now (start e).args.values.now (start e).args.point.now (passes _ _ e.before.before.lookup-fault.ensures e.if1.false)
+known e = lookup_judged_lem (start e).args.shape (start e).args.nodes.now (start e).args.values.now (start e).args.point.now (passes _ _ e.before.before.lookup-fault.ensures e.if1.false)
 
 returns : tie.Need-returns
-unfolding linearAnswer
-returns c = let f = c.before.before.before in then-stops _ _ f.lookup-fault.ensures _ _ c.before.if1.true c.refuse.ensures
+unfolding linear_answer
+returns c = let f = c.before.before.before in then_stops _ _ f.lookup-fault.ensures _ _ c.before.if1.true c.refuse.ensures
 
 interpolated-requires : tie.Need-interpolated-requires
 interpolated-requires c κs = known c
 
 returns-2 : tie.Need-returns-2
-unfolding linearAnswer
+unfolding linear_answer
 returns-2 c =
     let e = c.before in
-    then-goes-on _ _ e.before.before.lookup-fault.ensures _ _ e.if1.false c.interpolated.ensures
+    then_goes_on _ _ e.before.before.lookup-fault.ensures _ _ e.if1.false c.interpolated.ensures
 
-pub interpolate-spec : {M : Type 1} → statement M
-interpolate-spec =
+pub interpolate_spec : {M : Type 1} → statement M
+interpolate_spec =
     tie.close (tie.spec (λ c κs. search rules) (λ c κs. search rules) returns interpolated-requires returns-2)

@@ -1,8 +1,8 @@
 use mathlib.Core.Path.{ap, ◌∙◌}
 use native.Mathlib.Omega.{arith}
 use Rattle.answer.specs.Answer.{answered}
-use Rattle.layout.specs.Shape.{countsOf}
-use Rattle.axis.specs.Scaffolding.{pickRule}
+use Rattle.layout.specs.Shape.{counts_of}
+use Rattle.axis.specs.Scaffolding.{pick_rule}
 use Rattle.ninterp.proofs.Lookups.{stored_at}
 use borrow.Author.Rules.{rules}
 use Rattle.ninterp.proofs.interpolator.n.pick.stored.Statement.{statement}
@@ -27,9 +27,9 @@ returns : tie.Need-returns
 returns c =
     let q = c.before.before in
     let s = start q in
-    c.succeed.ensures ∙ ap answered (stored_at (pickRule s.args.picks.now) (countsOf s.args.shape) s.args.nodes.now s.args.values.now s.args.point.now _ q.pick-place.ensures.same)
+    c.succeed.ensures ∙ ap answered (stored_at (pick_rule s.args.picks.now) (counts_of s.args.shape) s.args.nodes.now s.args.values.now s.args.point.now _ q.pick-place.ensures.same)
 
-pub stored-spec : {M : Type 1} → statement M
-stored-spec =
+pub stored_spec : {M : Type 1} → statement M
+stored_spec =
     tie.close
     (tie.spec pick-place-requires mul-succeed shared-slice-read-succeed (λ c κs. search rules) returns)

@@ -1,7 +1,7 @@
 // Numbers as little-endian bytes, for every place and width: bytes that are not there are not looked at.
 ghost use Rattle.std.specs.Prelude.{◌≡◌, ◌+◌, ◌^◌, ◌<◌, ◌≤◌, min, length};
-ghost use Rattle.bytes.specs.Words.{word_at, float_at};
-ghost use Rattle.bytes.specs.Scaffolding.{fourAt};
+ghost use Rattle.little_endian.specs.Words.{word_at, float_at};
+ghost use Rattle.little_endian.specs.Scaffolding.{four_at};
 
 // A byte as a wider number.
 fn wide(x: u8) -> u64
@@ -41,7 +41,7 @@ pub fn word(s: &[u8], at: usize, n: usize) -> u64
 // Four bytes that are there, in a straight line: the compiler reads them by one load.
 fn four(s: &[u8], at: usize) -> u64
     requires { at + 4 ≤ length s.now }
-    ensures { (result ≡ fourAt s.now at) × (result < 256 ^ 4) }
+    ensures { (result ≡ four_at s.now at) × (result < 256 ^ 4) }
 {
     wide(s[at]) + 256 * (wide(s[at + 1]) + 256 * (wide(s[at + 2]) + 256 * wide(s[at + 3])))
 }

@@ -1,10 +1,12 @@
 // What judges gives a fault. The answer that all calls share is made of a fault or of a value, here and nowhere else.
+#![tactic(auto)]
+
 ghost use Rattle.std.specs.Prelude.{◌≡◌};
 ghost use Rattle.answer.specs.Faults.{refusal, no_fault, when, ◌or◌};
 ghost use Rattle.answer.specs.Answer.{refused, answered, fine};
 
 // What is wrong, and where: its number, axis and place. The number 0 says that nothing is.
-#[derive(Drop)]
+#[derive(Clone, Copy)]
 pub struct Fault {
     pub number: u32,
     pub axis: usize,
@@ -13,7 +15,7 @@ pub struct Fault {
 
 // What a technician sees: a fault's number, axis and place, or 0, 0, 0; and a value.
 #[repr(C)]
-#[derive(Drop)]
+#[derive(Clone, Copy)]
 pub struct Answer {
     pub number: u32,
     pub axis: usize,

@@ -1,5 +1,7 @@
 // Numbers as IEEE 754 binary64 has them: a test for finite ones, and their bits, both ways, for every input.
 // The laws of their order, differences and quotients are in proofs/.
+#![tactic(auto)]
+
 ghost use Rattle.std.specs.Prelude.{◌≡◌};
 ghost use Rattle.std.specs.Float.{binary64};
 ghost use Rattle.std.specs.Float.Ieee.{of_bits, to_bits};

@@ -1,4 +1,6 @@
 // What the two linears compute with: the blend of two values, and how many corners one axis more gives.
+#![tactic(auto)]
+
 ghost use Rattle.std.specs.Prelude.{◌≡◌, ◌+◌, min};
 ghost use Rattle.blend.specs.Blend.{blended};
 ghost use Rattle.blend.specs.Scaffolding.{more_corners};

@@ -1,6 +1,7 @@
 // The public side: every call that a board or a bench makes, and nothing else. Each is one line over the judged call of a room below (three
 // where a tally is lent), under the same equation, and is exported to C (include/ngamsothul.h): `&[f64]` is a pointer and a length, a
 // struct stands by value, a lent tally is a pointer.
+#![tactic(auto)]
 
 // the seven axis primitives
 pub mod primitives;

@@ -8,7 +8,7 @@ use utils::{AxisAnswer, ExactAnswer, Tolerance};
 
 // What `exact_index` answers: found is 1 where a node equals the reading and index is that node; else both are 0.
 #[repr(C)]
-#[derive(Drop)]
+#[derive(Clone, Copy)]
 pub struct PlainExact {
     pub answer: Answer,
     pub found: u32,
@@ -17,7 +17,7 @@ pub struct PlainExact {
 
 // What `locate_axis` answers: between is 0 on the node index, 1 at a fraction of the cell whose lower node is index.
 #[repr(C)]
-#[derive(Drop)]
+#[derive(Clone, Copy)]
 pub struct PlainLocation {
     pub answer: Answer,
     pub between: u32,

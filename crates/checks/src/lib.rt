@@ -1,6 +1,7 @@
 // The table of numbers: what is judged, row by row. specs/Numbers.antt has the rows in the paper's order, specs/Shapes.antt the checks
 // that every call begins with, specs/Passed.antt what is known where they were passed. Each public function gives a fault for every input,
 // and judges lists that are too short as far as they go; in which order a call asks them stands in the room `orders`.
+#![tactic(auto)]
 
 // 1, 2: how many axes, a count.
 pub mod counts;

@@ -27,7 +27,7 @@ fn counts_fault(shape: Shape) -> Fault
 }
 
 // What a shape says of nodes and values, once it is judged.
-#[derive(Drop)]
+#[derive(Clone, Copy)]
 pub struct Holding {
     pub fault: Fault,
     pub nodes: usize,

@@ -15,7 +15,7 @@ use program::{Counts, coverage, stdin, turns};
 use tally::Tally;
 
 // What a turn leaves: the tally, how many bytes are held, how many were asked for and read, and whether to go on.
-#[derive(Drop)]
+#[derive(Clone, Copy)]
 struct Next {
     tally: Tally,
     held: usize,

@@ -1,4 +1,5 @@
 // Reads an image and then records from standard input, counts the records, and prints the coverage report.
+#![tactic(auto)]
 
 // records from standard input, block by block
 mod feed;

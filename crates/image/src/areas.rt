@@ -10,14 +10,14 @@ use crate::fields;
 use answer::Fault;
 
 // An area: where it begins, and how many floats it has.
-#[derive(Drop)]
+#[derive(Clone, Copy)]
 pub(crate) struct Area {
     pub(crate) at: usize,
     pub(crate) floats: usize,
 }
 
 // The areas by their numbers: the axes', then the values'.
-#[derive(Drop)]
+#[derive(Clone, Copy)]
 pub(crate) struct Areas {
     pub(crate) axes: usize,
     pub(crate) at: [usize; 5],
@@ -110,7 +110,7 @@ fn shared_fault(i: usize, one: Area, j: usize, other: Area) -> Fault
 }
 
 // What is asked area by area: 14 in an image of so many bytes, 18 with an area before it.
-#[derive(Drop)]
+#[derive(Clone, Copy)]
 pub(crate) enum Asked {
     Alone(usize),
     SharedWith(usize),

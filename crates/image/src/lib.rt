@@ -1,4 +1,6 @@
 // The table image: a header of counts and offsets, then nodes and values as f64 bits, anywhere after it, no byte in two areas.
+#![tactic(auto)]
+
 ghost use Rattle.std.specs.Prelude.{◌≡◌};
 ghost use Rattle.image.specs.Load.{load_fault, Loaded};
 ghost use Rattle.image.specs.Scaffolding.{refused_load};
@@ -25,7 +27,7 @@ pub const MOST_BYTES: usize = 36_864;
 
 // What loading answers, with the shape of what it wrote.
 #[repr(C)]
-#[derive(Drop)]
+#[derive(Clone, Copy)]
 pub struct LoadAnswer {
     pub answer: Answer,
     pub shape: Shape,

@@ -70,7 +70,7 @@ fn offset_row(img: &[u8], a: usize) -> Fault
 }
 
 // What is asked axis by axis.
-#[derive(Drop)]
+#[derive(Clone, Copy)]
 pub(crate) enum Rows {
     Counts,
     Offsets,

@@ -1,12 +1,14 @@
 // A table's shape. Where its nodes and values lie stands in specs/Layout.antt; the laws of it in proofs/: counts and totals (Totals),
 // index lists and flat places (Layouts), one axis put in or left out (Removals), where each axis starts (Walks).
+#![tactic(auto)]
+
 ghost use Rattle.std.specs.Prelude.{◌≡◌, min};
 ghost use Rattle.layout.specs.Shape.{no_shape};
 ghost use Rattle.layout.specs.Scaffolding.{Four};
 
 // A lent shape: how many axes, and the count of nodes of each. Counts past the axes are not looked at.
 #[repr(C)]
-#[derive(Drop)]
+#[derive(Clone, Copy)]
 pub struct Shape {
     pub axes: usize,
     pub counts: [usize; 4],

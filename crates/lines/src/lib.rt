@@ -1,4 +1,6 @@
 // An answer's line put into a buffer, and the coverage report. What is printed of records, block by block, is in specs/Stream.antt.
+#![tactic(auto)]
+
 ghost use Rattle.std.specs.Prelude.{◌≡◌, ◌+◌, ◌≤◌, length, leb};
 ghost use Rattle.lines.specs.Digit.{decimal};
 ghost use Rattle.lines.specs.Line.{ok_line, no_line, longest};

@@ -1,4 +1,6 @@
 // Numbers as little-endian bytes, for every place and width: bytes that are not there are not looked at.
+#![tactic(auto)]
+
 ghost use Rattle.std.specs.Prelude.{◌≡◌, ◌+◌, ◌^◌, ◌<◌, ◌≤◌, min, length};
 ghost use Rattle.little_endian.specs.Words.{word_at, float_at};
 ghost use Rattle.little_endian.specs.Scaffolding.{four_at};

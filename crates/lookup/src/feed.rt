@@ -15,7 +15,7 @@ use program::{Counts, input, stdin, turns};
 
 // What a turn leaves: how many bytes are held, how many records may still come, how many bytes were asked for, read and printed, whether
 // to go on, and whether the output stands.
-#[derive(Drop)]
+#[derive(Clone, Copy)]
 struct Next {
     held: usize,
     left: usize,

@@ -1,4 +1,5 @@
 // Reads an image and then records from standard input, and prints a line for each record.
+#![tactic(auto)]
 
 // records from standard input, block by block
 mod feed;

@@ -1,6 +1,7 @@
 // What all programs share: the table image read from standard input, records fed block by block, what is printed at the end. A
 // program is its `main` and what it does with a block. What can be said as an equation is said in `input`, `run`, `coverage` and
 // `turns`; what `read` and `write` do, no contract can say.
+#![tactic(auto)]
 
 // what the bytes of an input say, whatever its table: where the image ends, whether to read on, the input's end
 pub mod input;

@@ -1,4 +1,6 @@
 // Slices of a table: one axis is removed at a reading, and the values of the other axes are written.
+#![tactic(auto)]
+
 ghost use Rattle.std.specs.Prelude.{◌≡◌, ◌≤◌, length};
 ghost use Rattle.slices.specs.Slices.{slice_answer, nearest_slice, nearest_sliced, step_slice, step_sliced};
 ghost use Rattle.slices.specs.Scaffolding.{refused_slice};
@@ -14,7 +16,7 @@ use orders::before_slice;
 
 // What a slice answers, with the shape of what it wrote.
 #[repr(C)]
-#[derive(Drop)]
+#[derive(Clone, Copy)]
 pub struct SliceAnswer {
     pub answer: Answer,
     pub shape: Shape,

@@ -1,5 +1,7 @@
 // The coverage tally: how many records of a file were read, how many accepted ones fell into each cell of each axis, and how many were
 // refused by each number. Here a record is what became of it; what becomes of it is worked out by `ninterp::records`.
+#![tactic(auto)]
+
 ghost use Rattle.std.specs.Prelude.{◌≡◌, ◌<◌, take};
 ghost use Rattle.answer.specs.Answer.{fine, ◌then◌};
 ghost use Rattle.checks.specs.Numbers.{limit_fault};
@@ -12,7 +14,7 @@ use checks::lent;
 
 // The count of cell i of axis a stands at a * 63 + i, that of the refusal number k at k.
 #[repr(C)]
-#[derive(Drop)]
+#[derive(Clone, Copy)]
 pub struct Tally {
     pub records: u32,
     pub cells: [u32; 252],
@@ -20,7 +22,7 @@ pub struct Tally {
 }
 
 // What became of a record: its number, and where that is 0 the cell on each of so many axes.
-#[derive(Drop)]
+#[derive(Clone, Copy)]
 pub struct Outcome {
     pub number: u32,
     pub axes: usize,
@@ -28,7 +30,7 @@ pub struct Outcome {
 }
 
 // What a counting call answers, and the tally after it.
-#[derive(Drop)]
+#[derive(Clone, Copy)]
 pub struct TallyAnswer {
     pub answer: Answer,
     pub tally: Tally,

@@ -9,7 +9,7 @@ const HEAD: usize = 24;
 
 // How long an image is, how many places each output of the loader has, how many nodes and values are lent to the writer, and how many
 // bytes its output has.
-#[derive(Drop)]
+#[derive(Clone, Copy)]
 pub struct Head {
     pub length: usize,
     pub nodes: usize,
@@ -20,7 +20,7 @@ pub struct Head {
 }
 
 // What the list has next: an image, a head that is cut short, or nothing.
-#[derive(Drop)]
+#[derive(Clone, Copy)]
 pub enum Next {
     Image(Head),
     Cut,

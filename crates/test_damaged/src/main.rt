@@ -1,5 +1,7 @@
 // Loads each image of the list on standard input, writes what was loaded as an image and loads that, and tells in a line how it went.
 // The list and the lines are those of vectors/images.py.
+#![tactic(auto)]
+
 mod line;
 mod list;
 mod outputs;

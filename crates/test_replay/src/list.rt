@@ -8,7 +8,7 @@ const BLOCK: usize = 128;
 
 // A record's header; its op says which fields it has, and what the words hold. The op is a byte of the list, or 256 where the list ends
 // before the header and 257 where it ends within, or the header has more than eight directions.
-#[derive(Drop)]
+#[derive(Clone, Copy)]
 pub struct Header {
     pub op: usize,
     pub a: u8,

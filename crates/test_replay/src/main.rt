@@ -1,5 +1,7 @@
 // Answers the list of calls on standard input, a line for each, or for a slice several. The list and the lines are those of
 // oracle/README.md.
+#![tactic(auto)]
+
 mod calls;
 mod cut;
 mod line;
@@ -14,7 +16,7 @@ use list::Header;
 use tables::Table;
 
 // What the list has lent: how many nodes the axis has, the table, and whether the list had all of it.
-#[derive(Drop)]
+#[derive(Clone, Copy)]
 struct Lent {
     count: usize,
     table: Table,

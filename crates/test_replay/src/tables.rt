@@ -14,7 +14,7 @@ pub(crate) const MOST_VALUES: usize = 4160;
 const MOST_READINGS: usize = 8;
 
 // A table's shape, and how many nodes and values are lent with it.
-#[derive(Drop)]
+#[derive(Clone, Copy)]
 pub struct Table {
     pub shape: Shape,
     pub nodes: usize,

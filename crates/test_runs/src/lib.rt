@@ -1,5 +1,7 @@
 // Runs each input of a list on standard input, an image and records, from memory, by one of two calls: `program::run::run`, which gives its
 // lines, or `program::coverage::run`, which gives its coverage report.
+#![tactic(auto)]
+
 mod list;
 mod room;
 

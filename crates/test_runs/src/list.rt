@@ -3,7 +3,7 @@ use libc::{STDIN_FILENO, STDOUT_FILENO};
 
 pub(crate) const MOST_BYTES: usize = 40_000;
 
-#[derive(Drop)]
+#[derive(Clone, Copy)]
 pub enum Next {
     Run(usize),
     Cut,

@@ -1,5 +1,7 @@
 // Single-axis primitives for locating a reading on one axis: the seven of the Rust's strategy/utils.rs under their names, in its order.
 // Each is total, with its checks in front (front.rt), and answers as specs/Calls.antt says.
+#![tactic(auto)]
+
 ghost use Rattle.std.specs.Prelude.{◌≡◌};
 ghost use Rattle.answer.specs.Answer.{fine, refused};
 ghost use Rattle.rust.specs.declared.AxisLocation.TheVariants.{Exact};
@@ -17,28 +19,28 @@ mod front;
 
 // What a primitive answers that gives an index.
 #[repr(C)]
-#[derive(Drop)]
+#[derive(Clone, Copy)]
 pub struct IndexAnswer {
     pub answer: Answer,
     pub index: usize,
 }
 
 // What `locate_axis` answers.
-#[derive(Drop)]
+#[derive(Clone, Copy)]
 pub struct AxisAnswer {
     pub answer: Answer,
     pub location: AxisLocation,
 }
 
 // What `exact_index` answers.
-#[derive(Drop)]
+#[derive(Clone, Copy)]
 pub struct ExactAnswer {
     pub answer: Answer,
     pub index: MaybeIndex,
 }
 
 // The tolerance of a uniform grid: a lent one, or the default. The Rust's Option<f64>.
-#[derive(Drop)]
+#[derive(Clone, Copy)]
 pub enum Tolerance {
     Lent(f64),
     Default,

@@ -1,4 +1,6 @@
 // The table image: the writer. The axes stand from byte 40 without gaps, then the values.
+#![tactic(auto)]
+
 ghost use Rattle.std.specs.Prelude.{◌≡◌, true, length};
 ghost use Rattle.std.proofs.lemmas.List.Edits.{sets};
 ghost use Rattle.answer.specs.Faults.{good};
@@ -19,7 +21,7 @@ use orders::stages;
 
 // What writing answers, with the image's length.
 #[repr(C)]
-#[derive(Drop)]
+#[derive(Clone, Copy)]
 pub struct WriteAnswer {
     pub answer: Answer,
     pub length: usize,

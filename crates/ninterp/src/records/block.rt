@@ -12,7 +12,7 @@ use checks::table;
 use layout::Shape;
 
 // How many records were answered, and how many bytes their lines have.
-#[derive(Drop)]
+#[derive(Clone, Copy)]
 pub struct Done {
     pub count: usize,
     pub written: usize,

@@ -16,7 +16,7 @@ use layout::Shape;
 use tally::{Outcome, Tally, TallyAnswer};
 
 // The tally after the records of a block that were counted, and how many bytes they have.
-#[derive(Drop)]
+#[derive(Clone, Copy)]
 pub struct BlockTally {
     pub tally: Tally,
     pub used: usize,

@@ -42,7 +42,7 @@ fn spread(places: &mut [usize], count: usize, low: usize, high: usize)
 }
 
 // How many corners the axes after the first have, and what the lower and the upper node of the first add to their places.
-#[derive(Drop)]
+#[derive(Clone, Copy)]
 struct Rest {
     count: usize,
     low: usize,

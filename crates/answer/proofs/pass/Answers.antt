@@ -1,0 +1,8 @@
+use lib.Ieee.{of_bits}
+use Rattle.answer.specs.Answer.{fine}
+use borrow.Author.Rules.{rules}
+use Rattle.answer.proofs.pass.Goals as goal
+
+pub returns : goal.returns
+unfolding fine of_bits
+returns c = c.succeed.ensures

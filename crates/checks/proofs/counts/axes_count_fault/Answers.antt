@@ -1,0 +1,7 @@
+use Rattle.checks.specs.Numbers.{axes_count_fault}
+use borrow.Author.Rules.{rules}
+use Rattle.checks.proofs.counts.axes_count_fault.Goals as goal
+
+pub returns : goal.returns
+unfolding axes_count_fault
+returns c = c.row.ensures

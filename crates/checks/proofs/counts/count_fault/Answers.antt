@@ -1,0 +1,7 @@
+use Rattle.checks.specs.Numbers.{count_fault}
+use borrow.Author.Rules.{rules}
+use Rattle.checks.proofs.counts.count_fault.Goals as goal
+
+pub returns : goal.returns
+unfolding count_fault
+returns c = c.row.ensures

@@ -1,0 +1,7 @@
+use Rattle.checks.specs.Numbers.{direction_fault}
+use borrow.Author.Rules.{rules}
+use Rattle.checks.proofs.lent.direction_fault.Goals as goal
+
+pub returns : goal.returns
+unfolding direction_fault
+returns c = c.row.ensures

@@ -1,0 +1,22 @@
+use Prim.Native.Nat.{◌-◌}
+use Rattle.checks.specs.Numbers.{direction_fault, directions_fault}
+use lib.ListN.{length, get_or}
+use native.Mathlib.Omega.{arith}
+use borrow.Author.Rules.{rules}
+use Rattle.answer.proofs.Loops as loops
+use Rattle.checks.proofs.lists.directions_fault.Goals as goal
+
+pub loop-a-init : goal.loop-a-init
+unfolding directions_fault
+loop-a-init c = loops.begin _ 0 _ _ (omega arith)
+
+pub returns-then-fault-ne0 : goal.returns-then-fault-ne0
+returns-then-fault-ne0 c =
+    loops.stop _ _ _ _ _ c.loop-a.invariant c.loop-a-test.true _ c.direction_fault-fault.ensures c.if-fault-ne0.true
+
+pub loop-a-preserved : goal.loop-a-preserved
+loop-a-preserved c =
+    loops.again _ _ _ _ _ c.loop-a.invariant c.loop-a-test.true _ c.direction_fault-fault.ensures c.if-fault-ne0.false
+
+pub returns : goal.returns
+returns c = loops.done _ _ _ _ _ c.loop-a.invariant c.loop-a-test.false _ c.no_fault.ensures

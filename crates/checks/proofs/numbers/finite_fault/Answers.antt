@@ -1,0 +1,7 @@
+use Rattle.checks.specs.Numbers.{finite_fault}
+use borrow.Author.Rules.{rules}
+use Rattle.checks.proofs.numbers.finite_fault.Goals as goal
+
+pub returns : goal.returns
+unfolding finite_fault
+returns c = c.wild_fault.ensures

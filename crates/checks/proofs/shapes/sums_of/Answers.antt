@@ -1,0 +1,26 @@
+use native.Mathlib.Nat.{lt_of_le_of_lt}
+use native.Mathlib.Omega.{arith}
+use lib.Dec.{lit<}
+use borrow.Author.Rules.{rules}
+use Rattle.checks.proofs.shapes.Sums as sums
+use Rattle.checks.proofs.shapes.sums_of.Goals as goal
+
+pub loop-a-init : goal.loop-a-init
+loop-a-init c = sums.begin _ _ c.Counts-of.ensures _ c.requires.axes c.requires.each
+
+pub bounds-counts-a : goal.bounds-counts-a
+bounds-counts-a c = omega (arith, c.requires.axes)
+
+pub loop-a-preserved : goal.loop-a-preserved
+loop-a-preserved c =
+    sums.again _ _ c.Counts-of.ensures _ c.requires.axes c.requires.each _ _ _ c.loop-a.invariant c.loop-a-test.true
+
+pub returns : goal.returns
+returns c =
+    sums.done _ _ c.Counts-of.ensures _ c.requires.axes c.requires.each _ _ _ c.loop-a.invariant c.loop-a-test.false _ c.no_fault.ensures
+
+-- LOST mul-count overflow-mul-count
+
+-- LOST add-nodes overflow-add-nodes
+
+-- LOST mul-values overflow-mul-values

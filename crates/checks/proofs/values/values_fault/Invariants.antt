@@ -1,0 +1,15 @@
+use Prim.Native.Nat.{◌+◌, ◌-◌}
+use native.Mathlib.Omega.{arith}
+use lib.ListN.{length}
+use borrow.Author.Rules.{rules}
+use Rattle.answer.proofs.Loops as loops
+use Rattle.answer.proofs.Tests.{not_false}
+use Rattle.checks.proofs.values.Rows.{value_good}
+use Rattle.checks.specs.Numbers.{value_fault, values_fault}
+use Rattle.checks.proofs.values.values_fault.Given as goal
+
+abbrev pub invariant-loop-i : goal.invariant-loop-i
+invariant-loop-i l = loops.Left (value_fault l.values) (values_fault l.values) 0 (length l.values) l.i
+
+abbrev pub decreases-loop-i : goal.decreases-loop-i
+decreases-loop-i l = length l.values - l.i

@@ -1,0 +1,22 @@
+use Prim.Native.Nat.{◌-◌}
+use Rattle.answer.specs.Faults.{first_fault}
+use Rattle.checks.specs.Numbers.{value_fault}
+use lib.ListN.{length}
+use native.Mathlib.Omega.{arith}
+use borrow.Author.Rules.{rules}
+use Rattle.answer.proofs.Loops as loops
+use Rattle.checks.proofs.values.values_fault_from.Goals as goal
+
+pub loop-i-init : goal.loop-i-init
+loop-i-init c = loops.begin _ _ _ _ (omega arith)
+
+pub returns-then-fault-ne0 : goal.returns-then-fault-ne0
+returns-then-fault-ne0 c =
+    loops.stop _ _ _ _ _ c.loop-i.invariant c.loop-i-test.true _ c.value_fault-fault.ensures c.if-fault-ne0.true
+
+pub loop-i-preserved : goal.loop-i-preserved
+loop-i-preserved c =
+    loops.again _ _ _ _ _ c.loop-i.invariant c.loop-i-test.true _ c.value_fault-fault.ensures c.if-fault-ne0.false
+
+pub returns : goal.returns
+returns c = loops.done _ _ _ _ _ c.loop-i.invariant c.loop-i-test.false _ c.no_fault.ensures

@@ -1,0 +1,17 @@
+use mathlib.Core.Path.{◌≡◌, refl, sym, ap, ◌∙◌}
+use Prim.Native.Nat.{ℕ, ◌+◌, ◌-◌}
+use native.Mathlib.Omega.{arith}
+use borrow.Author.Rules.{rules}
+use Rattle.answer.specs.Faults.{first_fault}
+use Rattle.answer.specs.declared.Fault.{Fault}
+use Rattle.answer.proofs.Orders.{passes, fails, first_step, first_stop, first_end, first_begin}
+use Rattle.image.specs.Scaffolding.{asked_of}
+use Rattle.image.specs.declared.areas.Areas.{Areas}
+use Rattle.image.specs.declared.areas.Asked.TheVariants.{SharedWith}
+use Rattle.image.proofs.areas.pairs_fault.Given as goal
+
+abbrev pub invariant-loop-i : goal.invariant-loop-i
+invariant-loop-i l = first_fault (pairs l.areas) 0 (l.areas.axes - 0) ≡ first_fault (pairs l.areas) l.i (l.areas.axes - l.i)
+
+abbrev pub decreases-loop-i : goal.decreases-loop-i
+decreases-loop-i l = l.areas.axes - l.i

@@ -1,0 +1,13 @@
+use mathlib.Core.Path.{◌≡◌, refl, sym, ◌∙◌}
+use Prim.Native.Nat.{◌-◌}
+use borrow.Author.Rules.{rules}
+use Rattle.answer.specs.Faults.{first_fault}
+use Rattle.answer.proofs.Orders.{passes, fails, first_step, first_stop, first_end}
+use Rattle.image.specs.Scaffolding.{row_of}
+use Rattle.image.proofs.rows.rows_fault.Given as goal
+
+abbrev pub invariant-loop-a : goal.invariant-loop-a
+invariant-loop-a l = first_fault (row_of l.rows l.img) l.from (l.end - l.from) ≡ first_fault (row_of l.rows l.img) l.a (l.end - l.a)
+
+abbrev pub decreases-loop-a : goal.decreases-loop-a
+decreases-loop-a l = l.end - l.a

@@ -1,0 +1,23 @@
+use mathlib.Core.Path.{◌≡◌, sym, ap, ◌∙◌}
+use Prim.Native.Nat.{◌-◌, min}
+use native.Mathlib.Omega.{arith}
+use lib.ListN.{length, take, get_or, length-take}
+use Rattle.lines.specs.Report.{cell_line, joined, held, cell_at}
+use Rattle.lines.proofs.Reports.{Joining, join_start, join_step, join_end, held-length, held_cells}
+use borrow.Author.Rules.{rules}
+use Rattle.lines.proofs.report.put_axes.Goals as goal
+
+pub loop-a-init : goal.loop-a-init
+loop-a-init c = join_start _ _ _ _ _
+
+pub loop-a-preserved : goal.loop-a-preserved
+loop-a-preserved c =
+    join_step c.loop-a.invariant c.loop-a-test.true (omega arith)
+    (held_cells c.args.axes c.args.counts c.loop-a.a c.Cells-of.result _ (omega (arith, c.axes_of-n.ensures, c.loop-a-test.true)) c.Cells-of.ensures)
+    c.put_cells-next.ensures.wrote c.put_cells-next.ensures.upper_bound (search rules)
+
+pub returns : goal.returns
+returns c =
+    let n : length (held (take c.args.axes c.args.counts)) ≡ c.axes_of-n.result =
+    held-length (take c.args.axes c.args.counts) ∙ length-take c.args.axes c.args.counts ∙ ap (min c.args.axes) c.well-formed.1.0.1.0.1 ∙ sym c.axes_of-n.ensures in
+    (rw n (join_end c.loop-a.invariant c.loop-a-test.false), omega arith)

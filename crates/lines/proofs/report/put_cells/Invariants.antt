@@ -1,0 +1,13 @@
+use mathlib.Core.Path.{refl}
+use Prim.Native.Nat.{◌-◌}
+use native.Mathlib.Omega.{arith}
+use Rattle.lines.specs.Report.{cell_line, cell_at}
+use Rattle.lines.proofs.Reports.{Joining, join_start, join_step, join_end}
+use borrow.Author.Rules.{rules}
+use Rattle.lines.proofs.report.put_cells.Given as goal
+
+abbrev pub invariant-loop-i : goal.invariant-loop-i
+invariant-loop-i l = Joining l.initial.out l.at 21 l.n (λ j. cell_line l.axis j (cell_at l.cells l.axis j)) l.out l.i l.next
+
+abbrev pub decreases-loop-i : goal.decreases-loop-i
+decreases-loop-i l = l.n - l.i

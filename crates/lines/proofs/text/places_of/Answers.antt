@@ -1,0 +1,15 @@
+use native.Mathlib.Omega.{arith}
+use borrow.Author.Rules.{rules}
+use Rattle.lines.proofs.Digits.{Counting, count_start, count-step, count_end, count_small}
+use Rattle.lines.proofs.text.places_of.Goals as goal
+
+pub loop-left-init : goal.loop-left-init
+loop-left-init c = count_start c.args.n (omega arith)
+
+pub loop-left-preserved : goal.loop-left-preserved
+loop-left-preserved c = count-step c.loop-left.invariant c.loop-left-test.true
+
+pub returns : goal.returns
+returns c = count_end c.loop-left.invariant c.loop-left-test.false
+
+-- LOST add-k overflow-add-k

@@ -1,0 +1,6 @@
+use Rattle.lines.proofs.Puts.{wrote_one}
+use borrow.Author.Rules.{rules}
+use Rattle.lines.proofs.text.put_byte.Goals as goal
+
+pub returns : goal.returns
+returns c = wrote_one c.args.out.now c.args.at c.args.b c.requires

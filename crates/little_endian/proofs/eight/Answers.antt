@@ -1,0 +1,6 @@
+use Rattle.little_endian.proofs.Bytes.{word_eight}
+use borrow.Author.Rules.{rules}
+use Rattle.little_endian.proofs.eight.Goals as goal
+
+pub returns : goal.returns
+returns c = word_eight c.args.s.now c.args.at _ _ c.requires c.four.ensures.0 c.four-2.ensures.0

@@ -1,0 +1,17 @@
+use lib.Seq.{length-take-le}
+use Rattle.program.specs.Run.{rule_of}
+use Rattle.program.proofs.front.Loads.{four_axes}
+use Rattle.program.proofs.turns.Turning.{turns_left}
+use Rattle.lookup.proofs.feed.Loops.{Feeding, feed_start, feed_room, feed_step, feed_last, turn_fewer}
+use Rattle.lookup.proofs.feed.Wholes.{failed_whole, ended_whole}
+use mathlib.Core.Path.{sym}
+use native.Mathlib.Omega.{arith}
+use borrow.Author.Tests.{not-true, not_false}
+use borrow.Author.Rules.{rules}
+use Rattle.lookup.proofs.feed.answer_blocks.Given as goal
+
+abbrev pub invariant-loop-go : goal.invariant-loop-go
+invariant-loop-go l = Feeding (rule_of l.img) l.buf l.out l.held l.left l.asked l.read l.printed l.go l.ok
+
+abbrev pub decreases-loop-go : goal.decreases-loop-go
+decreases-loop-go l = turns_left l.left l.go

@@ -1,0 +1,7 @@
+use mathlib.Core.Path.{ap, ◌∙◌}
+use lib.ListN.{length}
+use borrow.Author.Rules.{rules}
+use Rattle.lookup.proofs.print.end.Goals as goal
+
+pub returns : goal.returns
+returns c = c.write.ensures ∙ ap length c.requires

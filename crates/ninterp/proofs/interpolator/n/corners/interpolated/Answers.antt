@@ -1,0 +1,26 @@
+use mathlib.Core.Path.{ap, ◌∙◌}
+use native.Mathlib.Omega.{arith}
+use Rattle.layout.specs.Shape.{counts_of}
+use Rattle.layout.specs.Layout.{table}
+use Rattle.blend.specs.Blend.{linear, computed}
+use Rattle.ninterp.specs.Linears.{interpolated}
+use Rattle.ninterp.proofs.interpolator.n.corners.interpolated.Goals as goal
+
+abbrev start : goal.After-all-locations → goal.Start
+start (goal.at.None c).After-all-locations = (goal.at.None c).Start
+
+pub all-locations-requires : goal.all-locations-requires
+all-locations-requires c κs =
+    let j = c.requires in
+    record { grid = j.grid; four = j.four; read = omega (arith, j.read); finites = j.finites }
+
+pub corner_answer-requires : goal.corner_answer-requires
+corner_answer-requires c κs =
+    let j = (start c).requires in
+    record { four = j.four; small = j.grid.small; within = c.all-locations.ensures.within; stored = j.stored; some = j.some }
+
+pub returns : goal.returns
+unfolding interpolated
+returns c =
+    let s = start (goal.at.returns c).After-all-locations in
+    c.corner_answer.ensures ∙ ap (λ ps. computed (linear ps (table (counts_of s.args.shape) s.args.values.now))) c.all-locations.ensures.same

@@ -1,0 +1,12 @@
+use mathlib.Core.Path.{refl}
+use Prim.Native.Nat.{◌-◌, ◌≤◌}
+use native.Mathlib.Omega.{arith}
+use Rattle.ninterp.proofs.Corners.{Spreaded, spread_turn}
+use borrow.Author.Rules.{rules, Below-set}
+use Rattle.ninterp.proofs.interpolator.n.corners.spread.Given as goal
+
+abbrev pub invariant-loop-i : goal.invariant-loop-i
+invariant-loop-i l = (l.i ≤ l.count) × Spreaded l.initial.places l.count l.low l.high l.i l.places
+
+abbrev pub decreases-loop-i : goal.decreases-loop-i
+decreases-loop-i l = l.count - l.i

@@ -1,0 +1,10 @@
+use Rattle.axis.specs.Scaffolding.{upper_of}
+use mathlib.Core.Path.{sym, ap}
+use native.Mathlib.Omega.{arith}
+use borrow.Author.Rules.{rules}
+use Rattle.ninterp.proofs.interpolator.n.corners.upper_node.Goals as goal
+
+pub returns-in-Between : goal.returns-in-Between
+returns-in-Between c = sym (ap upper_of c.in-Between.is)
+
+-- LOST add-result overflow-add-result

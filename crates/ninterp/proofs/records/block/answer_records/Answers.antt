@@ -1,0 +1,49 @@
+use Prim.Native.Nat.{◌-◌}
+use native.Mathlib.Omega.{arith}
+use Rattle.lines.proofs.Blocks.{Going, go_start}
+use Rattle.ninterp.specs.Records.{record_rule}
+use Rattle.ninterp.proofs.RecordLines.{record_there, block_turn, block_most, block_short, block_full}
+use borrow.Author.Rules.{rules}
+use Rattle.ninterp.proofs.records.block.answer_records.Goals as goal
+
+abbrev start : goal.At-loop-count → goal.Start
+start (goal.at.None c).At-loop-count = (goal.at.None c).Start
+
+pub loop-count-init : goal.loop-count-init
+loop-count-init c =
+    let a = c.args in
+    go_start (record_rule a.shape a.nodes.now a.values.now) a.most a.records.now a.out.now
+
+pub returns-then-records-at : goal.returns-then-records-at
+returns-then-records-at c =
+    let s = start (goal.at.returns-then-records-at c).At-loop-count in
+    let a = s.args in
+    block_short a.shape a.nodes.now a.values.now a.size s.pre.1 c.loop-count.invariant c.if-records-at.true
+
+pub returns-then-out-written-lt-LONGEST : goal.returns-then-out-written-lt-LONGEST
+returns-then-out-written-lt-LONGEST c =
+    let s = start (goal.at.returns-then-out-written-lt-LONGEST c).At-loop-count in
+    let a = s.args in
+    block_full a.shape a.nodes.now a.values.now a.size s.pre.1 c.loop-count.invariant c.if-out-written-lt-LONGEST.true
+
+pub put_answer-written-requires : goal.put_answer-written-requires
+put_answer-written-requires c κs =
+    let s = start (goal.at.put_answer-written-requires c).At-loop-count in
+    let a = s.args in
+    (s.pre.0, (record_there a.shape a.nodes.now a.values.now a.size s.pre.1 a.records.now c.loop-count.at c.if-records-at.false, omega (arith, c.if-out-written-lt-LONGEST.false)))
+
+pub loop-count-preserved : goal.loop-count-preserved
+loop-count-preserved c =
+    let s = start (goal.at.loop-count-preserved c).At-loop-count in
+    let a = s.args in
+    block_turn a.shape a.nodes.now a.values.now a.size s.pre.1 c.loop-count.invariant c.loop-count-test.true c.if-records-at.false c.if-out-written-lt-LONGEST.false c.put_answer-written.ensures.wrote c.put_answer-written.ensures.upper_bound (omega (arith, c.put_answer-written.auto))
+
+pub returns : goal.returns
+returns c =
+    let s = start (goal.at.returns c).At-loop-count in
+    let a = s.args in
+    block_most a.shape a.nodes.now a.values.now a.size s.pre.1 c.loop-count.invariant c.loop-count-test.false
+
+-- LOST sub-if1 overflow-sub-if1
+
+-- LOST sub-if2 overflow-sub-if2

@@ -1,0 +1,12 @@
+use mathlib.Core.Path.{refl}
+use Rattle.answer.proofs.Orders.{or_by, pair_stops, pair_goes_on}
+use borrow.Author.Rules.{rules}
+use Rattle.orders.proofs.stages.table_fault.Goals as goal
+
+pub returns-then-fault-ne0 : goal.returns-then-fault-ne0
+returns-then-fault-ne0 c =
+    pair_stops _ _ _ (or_by _ _ _ _ _ c.or-fault.ensures c.frame_fault.ensures refl) _ c.if-fault-ne0.true
+
+pub returns : goal.returns
+returns c =
+    pair_goes_on _ _ _ (or_by _ _ _ _ _ c.or-fault.ensures c.frame_fault.ensures refl) _ _ c.if-fault-ne0.false c.stored_fault.ensures

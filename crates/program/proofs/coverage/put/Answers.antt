@@ -1,0 +1,7 @@
+use Rattle.program.specs.Coverage.{report_on}
+use borrow.Author.Rules.{rules}
+use Rattle.program.proofs.coverage.put.Goals as goal
+
+pub returns : goal.returns
+unfolding report_on
+returns c = c.put.ensures

@@ -1,0 +1,26 @@
+use native.Mathlib.Omega.{arith}
+use Rattle.lines.proofs.Shows.{line_wrote}
+use Rattle.program.proofs.run.Places.{wrote_fronted}
+use Rattle.program.proofs.run.Gives.{line_fronted, text_fronted}
+use borrow.Author.Rules.{rules}
+use Rattle.program.proofs.coverage.put_text.Goals as goal
+
+abbrev start : goal.After-struct_known-1 → goal.Start
+start (goal.at.None c).After-struct_known-1 = (goal.at.None c).Start
+
+pub returns-then-loaded-ne0 : goal.returns-then-loaded-ne0
+returns-then-loaded-ne0 c =
+    let s = start (goal.at.returns-then-loaded-ne0 c).After-struct_known-1 in
+    let e = c.put_line.ensures in (
+      line_fronted _ _ c.if-loaded-ne0.true (wrote_fronted (line_wrote s.args.loaded s.args.chunk.now 0 (omega (arith, s.pre.1)) e.0.0 e.0.1)),
+      omega (arith, e.1),
+    )
+
+pub put_records-requires : goal.put_records-requires
+put_records-requires c κs =
+    let s = start (goal.at.put_records-requires c).After-struct_known-1 in
+    (s.pre.0 c.if-loaded-ne0.false, s.pre.1)
+
+pub returns : goal.returns
+returns c =
+    (text_fronted _ _ c.if-loaded-ne0.false c.put_records.ensures.fronted, c.put_records.ensures.upper_bound)

@@ -1,0 +1,32 @@
+use mathlib.Core.Path.{sym}
+use lib.Seq.{length-take-le}
+use native.Mathlib.Omega.{arith}
+use Rattle.program.specs.Coverage.{coverage_report}
+use Rattle.program.proofs.front.Loads.{table_shape}
+use Rattle.program.proofs.run.Places.{fronted_take}
+use Rattle.program.proofs.run.Inputs.{run_texted}
+use borrow.Author.Rules.{rules}
+use Rattle.program.proofs.coverage.run_in.Goals as goal
+
+abbrev start : goal.After-load-loaded → goal.Start
+start (goal.at.None c).After-load-loaded = (goal.at.None c).Start
+
+pub slice_bounds-put_text-end-2 : goal.slice_bounds-put_text-end-2
+slice_bounds-put_text-end-2 c = sym (length-take-le _ _ (search rules))
+
+pub slice_bounds-put_text-end-4 : goal.slice_bounds-put_text-end-4
+slice_bounds-put_text-end-4 c = sym (length-take-le _ _ (search rules))
+
+pub put_text-long-requires : goal.put_text-long-requires
+put_text-long-requires c κs =
+    let s = start (goal.at.put_text-long-requires c).After-load-loaded in
+    (λ z. table_shape ((c.load-loaded.ensures.loads s.pre.0 s.pre.1.0).table z), s.pre.1.1)
+
+pub slice_bounds-give-end-2 : goal.slice_bounds-give-end-2
+slice_bounds-give-end-2 c = sym (length-take-le _ _ (search rules))
+
+pub returns : goal.returns
+returns c =
+    let s = start (goal.at.returns c).After-load-arg-2-1 in
+    run_texted coverage_report (c.load.ensures.0 s.pre.0 s.pre.1.0) c.load.ensures.1.0.1
+    (fronted_take c.put-text.ensures.0 (omega (arith, c.put-text.ensures.1, s.pre.1.1))) c.give.ensures

@@ -1,0 +1,8 @@
+use native.Mathlib.Omega.{arith}
+use Rattle.writer.proofs.Laws.{told_inside}
+use borrow.Author.Rules.{rules}
+use Rattle.test_damaged.proofs.write_again.Goals as goal
+
+pub returns : goal.returns
+returns c =
+    omega (arith, told_inside _ _ _ _ _ c.write.ensures.answer, c.write.auto.1.1.1.0)

@@ -1,0 +1,7 @@
+use mathlib.Core.Path.{ap, ◌∙◌}
+use Rattle.checks.specs.Numbers.{result_fault}
+use borrow.Author.Rules.{rules}
+use Rattle.utils.proofs.front.fraction_fault.Goals as goal
+
+pub returns : goal.returns
+returns c = c.result_fault.ensures ∙ ap (result_fault 0) c.location_fraction.ensures

@@ -1,0 +1,51 @@
+use lib.Seq.{sets}
+use Rattle.writer.specs.Made.{field_bytes}
+use Rattle.writer.specs.Scaffolding.{sum, pairs}
+use Rattle.writer.proofs.Puts.{sum_more, fields_step, fields_end}
+use mathlib.Core.Path.{◌≡◌, refl, sym, ◌∙◌}
+use Prim.Native.Nat.{◌+◌, ◌-◌, ◌≤◌}
+use native.Mathlib.Omega.{arith}
+use lib.ListN.{length, drop, get_or}
+use borrow.Author.Rules.{rules}
+use Rattle.writer.proofs.header.put_fields.Goals as goal
+
+abbrev start : goal.After-shared_slice_known-in-loop-k-2-1 → goal.Start
+start (goal.at.None c).After-shared_slice_known-in-loop-k-2-1 = (goal.at.None c).Start
+
+room : (c : goal.After-shared_slice_known-in-loop-k-2-1) → c.before.before.before.loop.at + get_or (start c).args.widths.now c.before.before.before.loop.k 0 ≤ length c.before.before.before.loop.out
+room (goal.at.None c).After-shared_slice_known-in-loop-k-2-1 =
+    let s = start (goal.at.None c).After-shared_slice_known-in-loop-k-2-1 in
+    omega (arith, sum_more s.args.widths.now s.args.fields.now c.loop-k.k c.loop-k-test.true, c.loop-k.invariant.1.1.0, c.loop-k.invariant.1.0, s.pre.enough)
+
+pub loop-k-init : goal.loop-k-init
+loop-k-init c = (omega arith, (refl, (omega arith, refl)))
+
+pub put_word-requires : goal.put_word-requires
+put_word-requires c κs = omega (arith, room (goal.at.put_word-requires c).After-shared_slice_known-in-loop-k-2-1)
+
+pub loop-k-smaller : goal.loop-k-smaller
+loop-k-smaller c =
+    omega (arith, c.loop-k-test.true)
+
+pub loop-k-preserved : goal.loop-k-preserved
+loop-k-preserved c =
+    let s = start (goal.at.loop-k-preserved c).After-shared_slice_known-in-loop-k-2-1 in
+    let m = sum_more s.args.widths.now s.args.fields.now c.loop-k.k c.loop-k-test.true in (
+      omega (arith, c.loop-k-test.true),
+      (
+        c.put_word.auto.0 ∙ c.loop-k.invariant.1.0,
+        (
+          omega (arith, m, c.loop-k.invariant.1.1.0),
+          fields_step s.args.widths.now s.args.fields.now c.loop-k.k c.loop-k.out _ c.loop-k.at c.loop-k-test.true s.pre.same c.put_word.ensures
+              ∙ c.loop-k.invariant.1.1.1,
+        ),
+      ),
+    )
+
+pub returns : goal.returns
+returns c =
+    sym (fields_end c.args.widths.now c.args.fields.now c.loop-k.k c.loop-k.out c.loop-k.at c.loop-k-test.false) ∙ c.loop-k.invariant.1.1.1
+
+-- LOST add_at overflow-add-at
+
+-- LOST add-k overflow-add-k

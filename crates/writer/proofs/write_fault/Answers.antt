@@ -1,0 +1,41 @@
+use mathlib.Core.Bool.{true}
+use Rattle.answer.specs.Faults.{good, ◌or◌}
+use Rattle.answer.specs.declared.Fault.{Fault}
+use Rattle.answer.proofs.Orders.{passes, or_stops, or_goes_on, pair_stops, pair_goes_on, first-passed}
+use Rattle.checks.specs.Shapes.{shape_fault, frame_fault}
+use Rattle.checks.specs.Numbers.{room_fault}
+use Rattle.writer.specs.Write.{write_fault}
+use mathlib.Core.Path.{◌≡◌, ap, ◌∙◌}
+use Prim.Native.Nat.{ℕ, ◌-◌}
+use lib.ListN.{length}
+use borrow.Author.Rules.{rules}
+use Rattle.writer.proofs.write_fault.Goals as goal
+
+abbrev start : goal.After-frame_fault-fault → goal.Start
+start (goal.at.None c).After-frame_fault-fault = (goal.at.None c).Start
+
+abbrev frame : goal.After-frame_fault-fault → Fault
+frame (goal.at.None c).After-frame_fault-fault = let s = start (goal.at.None c).After-frame_fault-fault in frame_fault s.args.shape (length s.args.nodes.now) (length s.args.values.now)
+
+known : (d : goal.Else-fault-ne0) → good (shape_fault (start d.before.before).args.shape) ≡ true
+unfolding frame_fault
+known (goal.at.None c).Else-fault-ne0 = first-passed (shape_fault (start (goal.at.None c).After-frame_fault-fault).args.shape) _ (passes _ (frame (goal.at.None c).After-frame_fault-fault) d.frame_fault-fault.ensures d.if-fault-ne0.false)
+
+past : (d : goal.Else-fault-ne0) (x rest : Fault) → x ≡ rest → x ≡ (frame d.before.before or rest)
+past (goal.at.None c).Else-fault-ne0 x rest p = or_goes_on _ _ d.frame_fault-fault.ensures x rest d.if-fault-ne0.false p
+
+pub returns-then-fault-ne0 : goal.returns-then-fault-ne0
+unfolding write_fault
+returns-then-fault-ne0 c = or_stops _ _ c.frame_fault-fault.ensures _ c.if-fault-ne0.true
+
+pub returns-then-fault-ne0-2 : goal.returns-then-fault-ne0-2
+unfolding write_fault
+returns-then-fault-ne0-2 c = past (goal.at.returns-then-fault-ne0-2 c).Else-fault-ne0 _ _ (pair_stops _ _ _ c.stored_fault-fault.ensures _ c.if-fault-ne0-2.true)
+
+pub image_length-requires : goal.image_length-requires
+image_length-requires c κs = known (goal.at.image_length-requires c).Else-fault-ne0
+
+pub returns : goal.returns
+unfolding write_fault
+returns c =
+    past (goal.at.returns c).Else-fault-ne0 _ _ (pair_goes_on _ _ _ c.stored_fault-fault.ensures _ _ c.if-fault-ne0-2.false (c.room_fault.ensures ∙ ap (λ (k : ℕ). room_fault 2 k (start (goal.at.returns c).After-frame_fault-fault).args.room) c.image_length.ensures))

@@ -3,7 +3,7 @@ use mathlib.Core.Path.{◌≡◌, refl, sym, ◌∙◌}
 use mathlib.Core.Bool.{Bool, true, false, not}
 use Prim.Native.Nat.{ℕ, ◌+◌, ◌-◌, ◌*◌, ◌/◌, ◌≤◌, ◌<◌}
 use native.Mathlib.Omega.{arith}
-use borrow.Author.Tests.{le-leb, lt-leb, leb-true, leb-false, not-true, not_false}
+use borrow.Author.Tests.{le-leb, lt-leb, leb-true, leb-false, not-true, not-false}
 use lib.Dec.{leb}
 use Rattle.layout.specs.declared.Shape.{Shape}
 use Rattle.ninterp.specs.Records.{record_size}
@@ -21,7 +21,7 @@ whole_by s len n = go (leb (record_size s) len) (leb-true (record_size s) len) (
 -- b is what the code's test gave, and its opposite was tested
 module _ (s : Shape) (len : ℕ) (b : Bool) (e : b ≡ leb (record_size s) len) where
   pub whole_there : not b ≡ false → record_size s ≤ len
-  whole_there h = leb-true (record_size s) len (sym e ∙ not_false b h)
+  whole_there h = leb-true (record_size s) len (sym e ∙ not-false b h)
 
   pub whole_missing : not b ≡ true → len < record_size s
   whole_missing h = leb-false (record_size s) len (sym e ∙ not-true b h)

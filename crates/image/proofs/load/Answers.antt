@@ -9,12 +9,6 @@ use Rattle.image.specs.Load.{load_fault}
 use Rattle.image.proofs.Loads.{load-refused, load_made, out_kept, out_filled, loaded_rooms, nodes_fit, values_fit}
 use Rattle.image.proofs.load.Goals as goal
 
-abbrev start : goal.After-load_fault-fault → goal.Start
-start (goal.at.None c).After-load_fault-fault = (goal.at.None c).Start
-
-known : (d : goal.Else-fault-ne0) → good (load_fault (start d.before.before).args.img.now (length (start d.before.before).args.nodes.now) (length (start d.before.before).args.values.now)) ≡ true
-known (goal.at.None c).Else-fault-ne0 = passes _ _ d.load_fault-fault.ensures d.if-fault-ne0.false
-
 pub returns-then-fault-ne0 : goal.returns-then-fault-ne0
 returns-then-fault-ne0 c =
     let s = start (goal.at.returns-then-fault-ne0 c).After-load_fault-fault in
@@ -26,14 +20,17 @@ returns-then-fault-ne0 c =
     }
 
 pub read-requires : goal.read-requires
-read-requires c κs = loaded_rooms _ _ _ (known (goal.at.read-requires c).Else-fault-ne0)
+read-requires c =
+    let known : good (load_fault c.args.img.now (length c.args.nodes.now) (length c.args.values.now)) ≡ true = passes _ _ c.load_fault-fault.ensures c.if-fault-ne0.false in
+    loaded_rooms _ _ _ (known)
 
 pub returns : goal.returns
 returns c =
+    let known : good (load_fault c.args.img.now (length c.args.nodes.now) (length c.args.values.now)) ≡ true = passes _ _ c.load_fault-fault.ensures c.if-fault-ne0.false in
     let s = start (goal.at.returns c).After-load_fault-fault in
     let yes = c.if-fault-ne0.false in
     record {
       answer = load_made _ _ _ _ c.load_fault-fault.ensures yes _ _ c.pass.ensures c.shape_of.ensures;
-      nodes_out = out_filled _ _ c.load_fault-fault.ensures (nodes_in s.args.img.now) s.args.nodes.now yes _ (nodes_fit _ _ _ (known (goal.at.returns c).Else-fault-ne0)) c.read.ensures.nodes_read;
-      values_out = out_filled _ _ c.load_fault-fault.ensures (values_in s.args.img.now) s.args.values.now yes _ (values_fit _ _ _ (known (goal.at.returns c).Else-fault-ne0)) c.read.ensures.values_read;
+      nodes_out = out_filled _ _ c.load_fault-fault.ensures (nodes_in s.args.img.now) s.args.nodes.now yes _ (nodes_fit _ _ _ (known)) c.read.ensures.nodes_read;
+      values_out = out_filled _ _ c.load_fault-fault.ensures (values_in s.args.img.now) s.args.values.now yes _ (values_fit _ _ _ (known)) c.read.ensures.values_read;
     }

@@ -7,7 +7,7 @@ use borrow.Author.Rules.{rules}
 use Rattle.little_endian.proofs.float.Goals as goal
 
 pub eight-requires : goal.eight-requires
-eight-requires c κs = omega (arith, leb-true)
+eight-requires c = omega (arith, leb-true)
 
 pub returns-then-at-len : goal.returns-then-at-len
 unfolding float_at

@@ -4,18 +4,21 @@ use native.Mathlib.Omega.{arith}
 use borrow.Author.Rules.{rules}
 use Rattle.little_endian.proofs.word_within.Goals as goal
 
-room : (c : goal.After-wide-b) → c.before.before.before.loop.x * 256 + c.wide.result < 2 ^ 64
-room (goal.at.None c).After-wide-b = reading_room _ _ _ _ _ _ c.wide-b.ensures.1 c.requires.1 c.loop-i-test.true c.loop-i.invariant c.wide-b.ensures.0 c.requires.0
-
 pub loop-i-init : goal.loop-i-init
 loop-i-init c = reading_start _ _ _
+
+pub overflow_mul-x : goal.overflow_mul-x
+overflow_mul-x c =
+    let room : c.loop-i.x * 256 + c.wide-b.result < 2 ^ 64 = reading_room _ _ _ _ _ _ c.wide-b.ensures.1 c.requires.1 c.loop-i-test.true c.loop-i.invariant c.wide-b.ensures.0 c.requires.0 in
+    omega (arith, room)
+
+pub overflow_add-x : goal.overflow_add-x
+overflow_add-x c =
+    let room : c.loop-i.x * 256 + c.wide-b.result < 2 ^ 64 = reading_room _ _ _ _ _ _ c.wide-b.ensures.1 c.requires.1 c.loop-i-test.true c.loop-i.invariant c.wide-b.ensures.0 c.requires.0 in
+    omega (arith, room)
 
 pub loop-i-preserved : goal.loop-i-preserved
 loop-i-preserved c = reading_next _ _ _ _ _ _ c.wide-b.ensures.1 c.requires.1 c.loop-i-test.true c.loop-i.invariant c.wide-b.ensures.0
 
 pub returns : goal.returns
 returns c = reading_end _ _ _ _ _ c.loop-i-test.false c.loop-i.invariant
-
--- LOST mul-x overflow-mul-x
-
--- LOST add-x overflow-add-x

@@ -1,6 +1,6 @@
 -- Where the image ends, and what is printed at the input's end. Assumes nothing.
 use mathlib.Core.Path.{◌≡◌, refl, sym, ap, ap₂, ◌∙◌}
-use mathlib.Core.Bool.{Bool, true, false, ◌&&◌, ◌||◌, cond, and_false, or-true}
+use mathlib.Core.Bool.{Bool, true, false, ◌&&◌, ◌||◌, cond, and-false, or-true}
 use mathlib.Core.Logic.{◌⊎◌, inl, inr}
 use mathlib.Core.List.{List, [], ◌++◌}
 use Prim.Native.Nat.{ℕ, ◌+◌, ◌≤◌, ◌<◌}
@@ -32,7 +32,7 @@ module _ (input : List ℕ) (w : ℕ) (e : w ≡ word_at 4 input 4) where
   size_short h = sized false (ap (λ (t : Bool). t && leb w 36864) (lt-leb 40 w h))
 
   pub size_long : 36864 < w → 40 ≡ image_size input
-  size_long h = sized false (ap (λ (t : Bool). leb 40 w && t) (lt-leb w 36864 h) ∙ and_false (leb 40 w))
+  size_long h = sized false (ap (λ (t : Bool). leb 40 w && t) (lt-leb w 36864 h) ∙ and-false (leb 40 w))
 
   pub size_stated : 40 ≤ w → w ≤ 36864 → w ≡ image_size input
   size_stated h k = sized true (ap₂ ◌&&◌ (le-leb 40 w h) (le-leb w 36864 k))

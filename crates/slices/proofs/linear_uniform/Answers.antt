@@ -11,31 +11,28 @@ use Rattle.slices.proofs.Sliced.{linear_ready, linear-first, uniform_linear, or_
 use borrow.Author.Rules.{rules}
 use Rattle.slices.proofs.linear_uniform.Goals as goal
 
-abbrev start : goal.Else-fault-ne0 → goal.Start
-start (goal.at.None c).Else-fault-ne0 = (goal.at.None c).Start
-
-passed : (e : goal.Else-fault-ne0) → good (linear_uniform_front (start e).args.shape (start e).args.nodes.now (start e).args.values.now (start e).args.axis) ≡ true
-passed (goal.at.None c).Else-fault-ne0 = passes _ _ e.linear_uniform_front-fault.ensures e.if-fault-ne0.false
-
-first : (e : goal.Else-fault-ne0) → (start e).args.axis ≡ 0
-first (goal.at.None c).Else-fault-ne0 = linear-first _ _ _ _ (uniform_linear _ _ _ _ (passed (goal.at.None c).Else-fault-ne0))
-
--- what is known where the front was passed
-known : (e : goal.Else-fault-ne0) → Ready (start e).args.shape (start e).args.nodes.now (start e).args.values.now 0
-known (goal.at.None c).Else-fault-ne0 = linear_ready _ _ _ _ (uniform_linear _ _ _ _ (passed (goal.at.None c).Else-fault-ne0))
-
 pub returns-then-fault-ne0 : goal.returns-then-fault-ne0
 unfolding linear_uniform_slice linear_uniform_sliced linear_uniform_slice_fault
 returns-then-fault-ne0 c =
     sliced _ _ _ (or_kept _ _ c.linear_uniform_front-fault.ensures _ _ _ c.if-fault-ne0.true) _ (answer_refused _ _ _ c.if-fault-ne0.true _ c.refused_slice.ensures)
 
 pub linear_judged-fault-requires : goal.linear_judged-fault-requires
-linear_judged-fault-requires c κs = known (goal.at.linear_judged-fault-requires c).Else-fault-ne0
+linear_judged-fault-requires c =
+    let passed : good (linear_uniform_front c.args.shape c.args.nodes.now c.args.values.now c.args.axis) ≡ true = passes _ _ c.linear_uniform_front-fault.ensures c.if-fault-ne0.false in
+    let known : Ready c.args.shape c.args.nodes.now c.args.values.now 0 = linear_ready _ _ _ _ (uniform_linear _ _ _ _ (passed)) in
+    known
 
 pub slice_answer-requires : goal.slice_answer-requires
-slice_answer-requires c κs = let j = known (goal.at.slice_answer-requires c).Else-fault-ne0 in (omega (arith, j.many), j.four)
+slice_answer-requires c =
+    let passed : good (linear_uniform_front c.args.shape c.args.nodes.now c.args.values.now c.args.axis) ≡ true = passes _ _ c.linear_uniform_front-fault.ensures c.if-fault-ne0.false in
+    let known : Ready c.args.shape c.args.nodes.now c.args.values.now 0 = linear_ready _ _ _ _ (uniform_linear _ _ _ _ (passed)) in
+    let j = known in
+    record { le_axes = omega (arith, j.many); axes_bound = j.four }
 
 pub returns : goal.returns
 unfolding linear_uniform_slice linear_uniform_sliced linear_uniform_slice_fault
 returns c =
-    sliced _ _ _ (or_filled _ _ c.linear_uniform_front-fault.ensures _ _ _ c.if-fault-ne0.false (on-axis _ _ _ _ _ _ _ (first (goal.at.returns c).Else-fault-ne0) c.linear_judged-fault.ensures)) _ c.slice_answer.ensures
+    let passed : good (linear_uniform_front c.args.shape c.args.nodes.now c.args.values.now c.args.axis) ≡ true = passes _ _ c.linear_uniform_front-fault.ensures c.if-fault-ne0.false in
+    let first : c.args.axis ≡ 0 = linear-first _ _ _ _ (uniform_linear _ _ _ _ (passed)) in
+    let all = sliced _ _ _ (or_filled _ _ c.linear_uniform_front-fault.ensures _ _ _ c.if-fault-ne0.false (on-axis _ _ _ _ _ _ _ (first) c.linear_judged-fault.ensures)) _ c.slice_answer.ensures in
+    record { value = all.0; out_after = all.1 }

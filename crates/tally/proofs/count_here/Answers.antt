@@ -17,14 +17,18 @@ ahead read r e h = let l : read < 1000000 = limit_passed read (passes r (limit_f
 pub returns-then-fault-ne0 : goal.returns-then-fault-ne0
 returns-then-fault-ne0 c = counts_no_more _ _ _ c.limit_fault-fault.ensures c.if-fault-ne0.true
 
+pub overflow_add-result : goal.overflow_add-result
+overflow_add-result c =
+    ahead _ _ c.limit_fault-fault.ensures c.if-fault-ne0.false
+
 pub returns-then-o-eq0 : goal.returns-then-o-eq0
 returns-then-o-eq0 c =
     counts-on _ _ _ c.limit_fault-fault.ensures _ c.if-fault-ne0.false (accepted _ _ _ c.if-o-eq0.true c.count_cells.ensures)
 
+pub overflow_add-result-2 : goal.overflow_add-result-2
+overflow_add-result-2 c =
+    ahead _ _ c.limit_fault-fault.ensures c.if-fault-ne0.false
+
 pub returns : goal.returns
 returns c =
     counts-on _ _ _ c.limit_fault-fault.ensures _ c.if-fault-ne0.false (refused-one _ _ _ c.if-o-eq0.false c.count_number.ensures)
-
--- LOST add-result overflow-add-result
-
--- LOST add-result-2 overflow-add-result-2

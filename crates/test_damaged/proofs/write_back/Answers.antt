@@ -5,7 +5,3 @@ use Rattle.test_damaged.proofs.write_back.Goals as goal
 
 pub slice_bounds-load_entry-end-2 : goal.slice_bounds-load_entry-end-2
 slice_bounds-load_entry-end-2 c = sym (length-take-le _ _ (search rules))
-
--- LOST slice-aggregate-write-again slice-aggregate-write-preserved
-
--- LOST slice-aggregate-write-again-2 slice-aggregate-write-preserved-2

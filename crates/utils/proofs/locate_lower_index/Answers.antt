@@ -9,7 +9,7 @@ unfolding locate_lower_index index_answer
 returns-then-fault-ne0 c = stops with_index _ _ c.axis_reading_fault-fault.ensures _ _ 0 c.if-fault-ne0.true c.index_refused.ensures
 
 pub lower_index-requires : goal.lower_index-requires
-lower_index-requires c κs = readable _ _ (passes _ _ c.axis_reading_fault-fault.ensures c.if-fault-ne0.false)
+lower_index-requires c = readable _ _ (passes _ _ c.axis_reading_fault-fault.ensures c.if-fault-ne0.false)
 
 pub returns : goal.returns
 unfolding locate_lower_index index_answer

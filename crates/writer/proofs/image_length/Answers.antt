@@ -8,23 +8,37 @@ use native.Mathlib.Omega.{arith}
 use borrow.Author.Rules.{rules}
 use Rattle.writer.proofs.image_length.Goals as goal
 
-nodes : (c : goal.After-sizes-held) → c.sizes.result.nodes ≡ total (counts_of c.before.args.shape)
-nodes (goal.at.None c).After-sizes-held = holds_nodes _ c.requires _ c.sizes-held.ensures
+pub overflow_mul-result : goal.overflow_mul-result
+overflow_mul-result c =
+    let nodes : c.sizes-held.result.nodes ≡ total (counts_of c.args.shape) = holds_nodes _ c.requires _ c.sizes-held.ensures in
+    let values : c.sizes-held.result.values ≡ size (counts_of c.args.shape) = holds_values _ c.requires _ c.sizes-held.ensures in
+    let small : (c.sizes-held.result.nodes ≤ 256) × (c.sizes-held.result.values ≤ 4096) = (omega (arith, nodes, total_small _ c.requires), omega (arith, values, shape_size _ c.requires)) in
+    omega (arith, (small).0)
 
-values : (c : goal.After-sizes-held) → c.sizes.result.values ≡ size (counts_of c.before.args.shape)
-values (goal.at.None c).After-sizes-held = holds_values _ c.requires _ c.sizes-held.ensures
+pub overflow_add-result : goal.overflow_add-result
+overflow_add-result c =
+    let nodes : c.sizes-held.result.nodes ≡ total (counts_of c.args.shape) = holds_nodes _ c.requires _ c.sizes-held.ensures in
+    let values : c.sizes-held.result.values ≡ size (counts_of c.args.shape) = holds_values _ c.requires _ c.sizes-held.ensures in
+    let small : (c.sizes-held.result.nodes ≤ 256) × (c.sizes-held.result.values ≤ 4096) = (omega (arith, nodes, total_small _ c.requires), omega (arith, values, shape_size _ c.requires)) in
+    omega (arith, (small).0)
 
-small : (c : goal.After-sizes-held) → (c.sizes.result.nodes ≤ 256) × (c.sizes.result.values ≤ 4096)
-small (goal.at.None c).After-sizes-held = (omega (arith, nodes (goal.at.None c).After-sizes-held, total_small _ c.requires), omega (arith, values (goal.at.None c).After-sizes-held, shape_size _ c.requires))
+pub overflow_mul-result-2 : goal.overflow_mul-result-2
+overflow_mul-result-2 c =
+    let nodes : c.sizes-held.result.nodes ≡ total (counts_of c.args.shape) = holds_nodes _ c.requires _ c.sizes-held.ensures in
+    let values : c.sizes-held.result.values ≡ size (counts_of c.args.shape) = holds_values _ c.requires _ c.sizes-held.ensures in
+    let small : (c.sizes-held.result.nodes ≤ 256) × (c.sizes-held.result.values ≤ 4096) = (omega (arith, nodes, total_small _ c.requires), omega (arith, values, shape_size _ c.requires)) in
+    omega (arith, (small).1)
+
+pub overflow_add-result-2 : goal.overflow_add-result-2
+overflow_add-result-2 c =
+    let nodes : c.sizes-held.result.nodes ≡ total (counts_of c.args.shape) = holds_nodes _ c.requires _ c.sizes-held.ensures in
+    let values : c.sizes-held.result.values ≡ size (counts_of c.args.shape) = holds_values _ c.requires _ c.sizes-held.ensures in
+    let small : (c.sizes-held.result.nodes ≤ 256) × (c.sizes-held.result.values ≤ 4096) = (omega (arith, nodes, total_small _ c.requires), omega (arith, values, shape_size _ c.requires)) in
+    omega (arith, (small).0, (small).1)
 
 pub returns : goal.returns
 unfolding image_length values_at
-returns c = omega (arith, nodes (goal.at.returns c).After-sizes-held, values (goal.at.returns c).After-sizes-held)
-
--- LOST mul-result overflow-mul-result
-
--- LOST add-result overflow-add-result
-
--- LOST mul-result-2 overflow-mul-result-2
-
--- LOST add-result-2 overflow-add-result-2
+returns c =
+    let nodes : c.sizes-held.result.nodes ≡ total (counts_of c.args.shape) = holds_nodes _ c.requires _ c.sizes-held.ensures in
+    let values : c.sizes-held.result.values ≡ size (counts_of c.args.shape) = holds_values _ c.requires _ c.sizes-held.ensures in
+    omega (arith, nodes, values)

@@ -11,18 +11,8 @@ use lib.ListN.{length}
 use borrow.Author.Rules.{rules}
 use Rattle.writer.proofs.write_fault.Goals as goal
 
-abbrev start : goal.After-frame_fault-fault → goal.Start
-start (goal.at.None c).After-frame_fault-fault = (goal.at.None c).Start
-
 abbrev frame : goal.After-frame_fault-fault → Fault
 frame (goal.at.None c).After-frame_fault-fault = let s = start (goal.at.None c).After-frame_fault-fault in frame_fault s.args.shape (length s.args.nodes.now) (length s.args.values.now)
-
-known : (d : goal.Else-fault-ne0) → good (shape_fault (start d.before.before).args.shape) ≡ true
-unfolding frame_fault
-known (goal.at.None c).Else-fault-ne0 = first-passed (shape_fault (start (goal.at.None c).After-frame_fault-fault).args.shape) _ (passes _ (frame (goal.at.None c).After-frame_fault-fault) d.frame_fault-fault.ensures d.if-fault-ne0.false)
-
-past : (d : goal.Else-fault-ne0) (x rest : Fault) → x ≡ rest → x ≡ (frame d.before.before or rest)
-past (goal.at.None c).Else-fault-ne0 x rest p = or_goes_on _ _ d.frame_fault-fault.ensures x rest d.if-fault-ne0.false p
 
 pub returns-then-fault-ne0 : goal.returns-then-fault-ne0
 unfolding write_fault
@@ -30,12 +20,18 @@ returns-then-fault-ne0 c = or_stops _ _ c.frame_fault-fault.ensures _ c.if-fault
 
 pub returns-then-fault-ne0-2 : goal.returns-then-fault-ne0-2
 unfolding write_fault
-returns-then-fault-ne0-2 c = past (goal.at.returns-then-fault-ne0-2 c).Else-fault-ne0 _ _ (pair_stops _ _ _ c.stored_fault-fault.ensures _ c.if-fault-ne0-2.true)
+returns-then-fault-ne0-2 c =
+    let past : (x rest : Fault) → x ≡ rest → x ≡ (frame (goal.at.returns-then-fault-ne0-2 c).After-frame_fault-fault or rest) = λ x rest p. or_goes_on _ _ c.frame_fault-fault.ensures x rest c.if-fault-ne0.false p in
+    past _ _ (pair_stops _ _ _ c.stored_fault-fault.ensures _ c.if-fault-ne0-2.true)
 
 pub image_length-requires : goal.image_length-requires
-image_length-requires c κs = known (goal.at.image_length-requires c).Else-fault-ne0
+unfolding frame_fault
+image_length-requires c =
+    let known : good (shape_fault c.args.shape) ≡ true = first-passed (shape_fault c.args.shape) _ (passes _ (frame (goal.at.image_length-requires c).After-frame_fault-fault) c.frame_fault-fault.ensures c.if-fault-ne0.false) in
+    known
 
 pub returns : goal.returns
 unfolding write_fault
 returns c =
-    past (goal.at.returns c).Else-fault-ne0 _ _ (pair_goes_on _ _ _ c.stored_fault-fault.ensures _ _ c.if-fault-ne0-2.false (c.room_fault.ensures ∙ ap (λ (k : ℕ). room_fault 2 k (start (goal.at.returns c).After-frame_fault-fault).args.room) c.image_length.ensures))
+    let past : (x rest : Fault) → x ≡ rest → x ≡ (frame (goal.at.returns c).After-frame_fault-fault or rest) = λ x rest p. or_goes_on _ _ c.frame_fault-fault.ensures x rest c.if-fault-ne0.false p in
+    past _ _ (pair_goes_on _ _ _ c.stored_fault-fault.ensures _ _ c.if-fault-ne0-2.false (c.room_fault.ensures ∙ ap (λ (k : ℕ). room_fault 2 k c.args.room) c.image_length.ensures))

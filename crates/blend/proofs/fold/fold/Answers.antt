@@ -16,7 +16,7 @@ pub loop-d-init : goal.loop-d-init
 loop-d-init c = ((omega arith, c.well-formed.0.1.0.1), record { counted = c.corner_count-half.ensures; same = refl })
 
 pub merge-requires : goal.merge-requires
-merge-requires c κs =
+merge-requires c =
     let few : c.least-axes.result ≤ 4 = omega (arith, c.least-axes.ensures) in
     let z = fold_at c.args.locations c.least-axes.result c.loop-d.d c.loop-d-test.true (omega (arith, c.well-formed.1.0.1.0.1, few)) c.loop-d.invariant.1 in
     omega (arith, c.loop-d.invariant.0.1, fold_fits (get_or c.args.locations c.loop-d.d (Exact 0)) (drop (c.loop-d.d + 1) (take c.least-axes.result c.args.locations)) c.loop-d.half c.half_of_lem.result z.counted (count_few c.args.locations c.least-axes.result c.loop-d.d c.loop-d.half few c.loop-d.invariant.1.counted) c.half_of_lem.ensures)

@@ -15,4 +15,4 @@ none (x ∷ l) (suc i) h = none l i (omega arith)
 
 pub returns-else-i-list : goal.returns-else-i-list
 unfolding div of_bits
-returns-else-i-list c = sym (none c.args.list.now c.args.i c.if-i-list.left)
+returns-else-i-list c = sym (none c.args.list.now c.args.i c.if-i-list.false)

@@ -14,7 +14,7 @@ unfolding shape_fault
 returns-then-fault-ne0 c = or_stops _ _ c.axes_count_fault-fault.ensures _ c.if-fault-ne0.true
 
 pub counts_fault-fault-requires : goal.counts_fault-fault-requires
-counts_fault-fault-requires c κs = axes_four _ (passes _ _ c.axes_count_fault-fault.ensures c.if-fault-ne0.false)
+counts_fault-fault-requires c = axes_four _ (passes _ _ c.axes_count_fault-fault.ensures c.if-fault-ne0.false)
 
 pub returns-then-fault-ne0-2 : goal.returns-then-fault-ne0-2
 unfolding shape_fault
@@ -22,7 +22,7 @@ returns-then-fault-ne0-2 c =
     or_goes_on _ _ c.axes_count_fault-fault.ensures _ _ c.if-fault-ne0.false (or_stops _ _ c.counts_fault-fault.ensures _ c.if-fault-ne0-2.true)
 
 pub sums_of-sums-requires : goal.sums_of-sums-requires
-sums_of-sums-requires c κs =
+sums_of-sums-requires c =
     counts_few _ (passes _ _ c.axes_count_fault-fault.ensures c.if-fault-ne0.false) (passes _ _ c.counts_fault-fault.ensures c.if-fault-ne0-2.false)
 
 pub returns : goal.returns

@@ -7,7 +7,7 @@ pub returns-then-fault-ne0 : goal.returns-then-fault-ne0
 returns-then-fault-ne0 c = refused_sizes _ c.shape_fault-fault.result c.shape_fault-fault.ensures c.if-fault-ne0.true
 
 pub sums_of-sums-requires : goal.sums_of-sums-requires
-sums_of-sums-requires c κs = shape_counts _ (passes _ _ c.shape_fault-fault.ensures c.if-fault-ne0.false)
+sums_of-sums-requires c = shape_counts _ (passes _ _ c.shape_fault-fault.ensures c.if-fault-ne0.false)
 
 pub returns : goal.returns
 returns c =

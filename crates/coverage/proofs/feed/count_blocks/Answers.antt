@@ -9,8 +9,11 @@ use native.Mathlib.Omega.{arith}
 use borrow.Author.Rules.{rules}
 use Rattle.coverage.proofs.feed.count_blocks.Goals as goal
 
-abbrev start : goal.After-struct_known-1 → goal.Start
-start (goal.at.None c).After-struct_known-1 = (goal.at.None c).Start
+pub overflow_mul-size : goal.overflow_mul-size
+overflow_mul-size c = omega (arith, four_axes c.requires.table_of)
+
+pub overflow_add-size : goal.overflow_add-size
+overflow_add-size c = omega (arith, four_axes c.requires.table_of)
 
 pub loop-go-init : goal.loop-go-init
 loop-go-init c =
@@ -18,11 +21,18 @@ loop-go-init c =
     feed_start s.args.shape s.args.nodes.now s.args.values.now s.args.buf.now _ c.none_read-t.ensures s.pre.1.0
 
 pub step-n-requires : goal.step-n-requires
-step-n-requires c κs =
-    feed_room (start (goal.at.step-n-requires c).After-struct_known-1).pre.0 c.loop-go.invariant
+step-n-requires c =
+    feed_room c.requires.table_of c.loop-go.invariant
 
-abbrev looped : goal.After-step-n → goal.In-loop-go
-looped (goal.at.None c).After-step-n = (goal.at.None c).In-loop-go
+pub overflow_add-asked : goal.overflow_add-asked
+overflow_add-asked c =
+    let g = c.loop-go.invariant in
+    omega (arith, g.few, g.long, c.step-n.ensures.room)
+
+pub overflow_add-read : goal.overflow_add-read
+overflow_add-read c =
+    let g = c.loop-go.invariant in
+    omega (arith, g.filled, g.few, g.long, c.step-n.ensures.filled, c.step-n.ensures.room)
 
 pub loop-go-smaller : goal.loop-go-smaller
 loop-go-smaller c =
@@ -41,18 +51,10 @@ pub slice_bounds-end-end-2 : goal.slice_bounds-end-end-2
 slice_bounds-end-end-2 c = sym (length-take-le _ _ c.loop.invariant.holds)
 
 pub end-last-requires : goal.end-last-requires
-end-last-requires c κs =
+end-last-requires c =
     let s = start (goal.at.end-last-requires c).After-slice_known-2-1 in
     (feed_report s.pre.0 c.loop.invariant, omega (arith, s.pre.1.1))
 
 pub returns : goal.returns
 returns c =
-    feed_whole (start (goal.at.returns c).After-slice_known-2-1).pre.0 c.loop.invariant c.loop-test.false _ _ c.end-last.ensures
-
--- LOST mul-size overflow-mul-size
-
--- LOST add-size overflow-add-size
-
--- LOST add-asked overflow-add-asked
-
--- LOST add_read overflow-add-read
+    feed_whole c.requires.table_of c.loop.invariant c.loop-test.false _ _ c.end-last.ensures

@@ -5,12 +5,6 @@ use mathlib.Core.Path.{sym}
 use borrow.Author.Rules.{rules}
 use Rattle.coverage.proofs.loaded.count_image.Goals as goal
 
-abbrev start : goal.After-load-loaded → goal.Start
-start (goal.at.None c).After-load-loaded = (goal.at.None c).Start
-
-abbrev load : goal.After-struct_known-1 → goal.After-load-loaded
-load (goal.at.None c).After-struct_known-1 = (goal.at.None c).After-load-loaded
-
 pub returns-then-answer-ne0 : goal.returns-then-answer-ne0
 returns-then-answer-ne0 c =
     let l = load (goal.at.returns-then-answer-ne0 c).After-struct_known-1 in
@@ -24,7 +18,7 @@ pub slice_bounds-count_all-end-4 : goal.slice_bounds-count_all-end-4
 slice_bounds-count_all-end-4 c = sym (length-take-le _ _ (search rules))
 
 pub count_all-requires : goal.count_all-requires
-count_all-requires c κs =
+count_all-requires c =
     let l = load (goal.at.count_all-requires c).After-answer-1 in
     let s = start l in
     image_table (l.load.ensures.0 s.pre.0.0 s.pre.0.1) s.pre.1 c.if1.false

@@ -12,17 +12,15 @@ use Rattle.image.proofs.areas.areas_of.Goals as goal
 is_below : {x bound r : ℕ} → Number x bound r → x < bound
 is_below n = omega (arith, n.is, n.below)
 
-abbrev axes-at : goal.After-sizes_of-held → goal.After-axes_of-axes
-axes-at (goal.at.None c).After-sizes_of-held = (goal.at.None c).After-axes_of-axes
-
-five_in : (z : goal.After-sizes_of-held) → (axes-at z).axes_of.result < 5
-five_in (goal.at.None c).After-sizes_of-held = omega (arith, (axes-at (goal.at.None c).After-sizes_of-held).axes_of.ensures.is, axes_four _ (axes-at (goal.at.None c).After-sizes_of-held).before.before.requires)
-
 pub five-at-requires : goal.five-at-requires
-five-at-requires c κs = five_in c
+five-at-requires c =
+    let five_in : c.axes_of-axes.result < 5 = omega (arith, c.axes_of-axes.ensures.is, axes_four _ c.requires) in
+    five_in
 
 pub five-floats-requires : goal.five-floats-requires
-five-floats-requires c κs = five_in (goal.at.five-floats-requires c).After-sizes_of-held
+five-floats-requires c =
+    let five_in : c.axes_of-axes.result < 5 = omega (arith, c.axes_of-axes.ensures.is, axes_four _ c.requires) in
+    five_in
 
 pub returns : goal.returns
 returns c =

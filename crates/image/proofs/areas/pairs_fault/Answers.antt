@@ -18,22 +18,20 @@ pub loop-i-init : goal.loop-i-init
 loop-i-init c = refl
 
 pub rows_fault-fault-requires : goal.rows_fault-fault-requires
-rows_fault-fault-requires c κs = record { held = c.requires; inside = omega (arith, c.loop-i-test.true); with_one = omega (arith, c.loop-i-test.true) }
-
-row : (f : goal.After-rows_fault-fault) → f.rows_fault.result ≡ pairs f.before.before.before.args.areas f.before.before.loop.i
-row (goal.at.None c).After-rows_fault-fault = f.rows_fault-fault.ensures ∙ ap (first_fault (asked_of (SharedWith f.loop-i.i) f.args.areas) (f.loop-i.i + 1)) (omega arith)
-
-whole : (l : goal.At-loop-i) (r : Fault) → r ≡ first_fault (pairs l.before.args.areas) l.loop.i (l.before.args.areas.axes - l.loop.i)
-    → r ≡ first_fault (pairs l.before.args.areas) 0 l.before.args.areas.axes
-whole (goal.at.None c).At-loop-i r e = e ∙ sym l.loop-i.invariant ∙ sym (first_begin (pairs l.args.areas) 0 _ _ (omega arith))
+rows_fault-fault-requires c = record { held = c.requires; inside = omega (arith, c.loop-i-test.true); with_one = omega (arith, c.loop-i-test.true) }
 
 pub returns-then-fault-ne0 : goal.returns-then-fault-ne0
 returns-then-fault-ne0 c =
-    whole (goal.at.returns-then-fault-ne0 c).At-loop-i _ (row (goal.at.returns-then-fault-ne0 c).After-rows_fault-fault ∙ sym (first_stop _ c.loop-i.i _ c.loop-i-test.true (fails _ _ (row (goal.at.returns-then-fault-ne0 c).After-rows_fault-fault) c.if-fault-ne0.true)))
+    let whole : (r : Fault) → r ≡ first_fault (pairs c.args.areas) c.loop-i.i (c.args.areas.axes - c.loop-i.i) → r ≡ first_fault (pairs c.args.areas) 0 c.args.areas.axes = λ r e. e ∙ sym c.loop-i.invariant ∙ sym (first_begin (pairs c.args.areas) 0 _ _ (omega arith)) in
+    let row : c.rows_fault-fault.result ≡ pairs c.args.areas c.loop-i.i = c.rows_fault-fault.ensures ∙ ap (first_fault (asked_of (SharedWith c.loop-i.i) c.args.areas) (c.loop-i.i + 1)) (omega arith) in
+    whole _ (row ∙ sym (first_stop _ c.loop-i.i _ c.loop-i-test.true (fails _ _ (row) c.if-fault-ne0.true)))
 
 pub loop-i-preserved : goal.loop-i-preserved
 loop-i-preserved c =
-    c.loop-i.invariant ∙ first_step _ c.loop-i.i _ c.loop-i-test.true (passes _ _ (row (goal.at.loop-i-preserved c).After-rows_fault-fault) c.if-fault-ne0.false)
+    let row : c.rows_fault-fault.result ≡ pairs c.args.areas c.loop-i.i = c.rows_fault-fault.ensures ∙ ap (first_fault (asked_of (SharedWith c.loop-i.i) c.args.areas) (c.loop-i.i + 1)) (omega arith) in
+    c.loop-i.invariant ∙ first_step _ c.loop-i.i _ c.loop-i-test.true (passes _ _ (row) c.if-fault-ne0.false)
 
 pub returns : goal.returns
-returns c = whole (goal.at.returns c).At-loop-i _ (c.no_fault.ensures ∙ sym (first_end _ _ _ c.loop-i-test.false))
+returns c =
+    let whole : (r : Fault) → r ≡ first_fault (pairs c.args.areas) c.loop-i.i (c.args.areas.axes - c.loop-i.i) → r ≡ first_fault (pairs c.args.areas) 0 c.args.areas.axes = λ r e. e ∙ sym c.loop-i.invariant ∙ sym (first_begin (pairs c.args.areas) 0 _ _ (omega arith)) in
+    whole _ (c.no_fault.ensures ∙ sym (first_end _ _ _ c.loop-i-test.false))

@@ -8,23 +8,21 @@ use Rattle.image.specs.declared.areas.Area.{Area}
 use Rattle.image.specs.declared.areas.Asked.{Asked}
 use Rattle.image.proofs.areas.row_fault.Goals as goal
 
--- an area that was read out of the list is bounded, where it is one of them
-bounded : (s : goal.Start) (k : ℕ) (r : Area) → k ≤ s.args.areas.axes → r ≡ area_in s.args.areas k → Bounded r.at r.floats
-bounded (goal.at.None c).Start k r l e = subst (λ (x : Area). Bounded x.at x.floats) (sym e) (s.requires.held.bounded k l)
-
--- so is the one that it is asked with
-with_one : (t : goal.In-SharedWith) → t.before.asked2.given.0.0 ≤ t.before.before.before.before.args.areas.axes
-with_one (goal.at.None c).In-SharedWith = subst (λ (r : Asked). WithOne r t.args.areas) t.in-SharedWith.is t.requires.with_one
-
 pub area_fault-requires : goal.area_fault-requires
-area_fault-requires c κs = bounded (goal.at.area_fault-requires c).Start _ _ c.requires.there c.area_of-area.ensures
+area_fault-requires c =
+    let bounded : (k : ℕ) (r : Area) → k ≤ c.args.areas.axes → r ≡ area_in c.args.areas k → Bounded r.at r.floats = λ k r l e. subst (λ (x : Area). Bounded x.at x.floats) (sym e) (c.requires.held.bounded k l) in
+    bounded _ _ c.requires.there c.area_of-area.ensures
 
 pub area_of-requires : goal.area_of-requires
-area_of-requires c κs = omega (arith, with_one c, c.requires.held.four)
+area_of-requires c =
+    let with_one : c.in-SharedWith.i ≤ c.args.areas.axes = subst (λ (r : Asked). WithOne r c.args.areas) c.in-SharedWith.is c.requires.with_one in
+    omega (arith, with_one, c.requires.held.four)
 
 pub shared_fault-requires : goal.shared_fault-requires
-shared_fault-requires c κs =
-    record { first = bounded (goal.at.shared_fault-requires c).Start _ _ (with_one (goal.at.shared_fault-requires c).In-SharedWith) c.area_of.ensures; second = bounded (goal.at.shared_fault-requires c).Start _ _ c.requires.there c.area_of-area.ensures }
+shared_fault-requires c =
+    let bounded : (k : ℕ) (r : Area) → k ≤ c.args.areas.axes → r ≡ area_in c.args.areas k → Bounded r.at r.floats = λ k r l e. subst (λ (x : Area). Bounded x.at x.floats) (sym e) (c.requires.held.bounded k l) in
+    let with_one : c.in-SharedWith.i ≤ c.args.areas.axes = subst (λ (r : Asked). WithOne r c.args.areas) c.in-SharedWith.is c.requires.with_one in
+    record { first = bounded _ _ (with_one) c.area_of.ensures; second = bounded _ _ c.requires.there c.area_of-area.ensures }
 
 pub returns-in-Alone : goal.returns-in-Alone
 returns-in-Alone c =

@@ -11,7 +11,7 @@ pub loop-k-init : goal.loop-k-init
 loop-k-init c = refl
 
 pub row_fault-fault-requires : goal.row_fault-fault-requires
-row_fault-fault-requires c κs = record { held = c.requires.held; there = omega (arith, c.loop-k-test.true, c.requires.inside); with_one = c.requires.with_one }
+row_fault-fault-requires c = record { held = c.requires.held; there = omega (arith, c.loop-k-test.true, c.requires.inside); with_one = c.requires.with_one }
 
 pub returns-then-fault-ne0 : goal.returns-then-fault-ne0
 returns-then-fault-ne0 c =

@@ -10,17 +10,6 @@ use Rattle.image.specs.Fields.{count_field, shape_of}
 use Rattle.image.proofs.Floats.{axes_four, nodes_total, nodes_length, nodes_step, nodes_end, Reading}
 use Rattle.image.proofs.contents.read_nodes.Goals as goal
 
-abbrev start : goal.In-loop-a → goal.Start
-start (goal.at.None c).In-loop-a = (goal.at.None c).Start
-
--- what is left has one axis more than what is left after it
-longer : (w : goal.In-loop-a) → length (nodes_from (start w).args.img.now w.before.loop.a (w.before.before.axes_of.result - w.before.loop.a))
-    ≡ count_field (start w).args.img.now w.before.loop.a + length (nodes_from (start w).args.img.now (w.before.loop.a + 1) (w.before.before.axes_of.result - (w.before.loop.a + 1)))
-longer (goal.at.None c).In-loop-a = nodes_length (start (goal.at.None c).In-loop-a).args.img.now w.axes_of-axes.result w.loop-a.a w.loop-a-test.true
-
-few : (w : goal.In-loop-a) → w.before.loop.a ≤ 4
-few (goal.at.None c).In-loop-a = omega (arith, w.loop-a-test.true, w.axes_of-axes.ensures.is, axes_four _ (start (goal.at.None c).In-loop-a).requires.judged)
-
 pub loop-a-init : goal.loop-a-init
 unfolding nodes_in
 loop-a-init c =
@@ -35,27 +24,38 @@ loop-a-init c =
     }
 
 pub count_of-count-requires : goal.count_of-count-requires
-count_of-count-requires c κs = few c
+count_of-count-requires c =
+    let few : c.loop-a.a ≤ 4 = omega (arith, c.loop-a-test.true, c.axes_of-axes.ensures.is, axes_four _ c.requires.judged) in
+    few
 
 pub offset_of-at-requires : goal.offset_of-at-requires
-offset_of-at-requires c κs = few (goal.at.offset_of-at-requires c).In-loop-a
+offset_of-at-requires c =
+    let few : c.loop-a.a ≤ 4 = omega (arith, c.loop-a-test.true, c.axes_of-axes.ensures.is, axes_four _ c.requires.judged) in
+    few
 
 pub read_floats-requires : goal.read_floats-requires
-read_floats-requires c κs =
+read_floats-requires c =
+    let longer : length (nodes_from c.args.img.now c.loop-a.a (c.axes_of-axes.result - c.loop-a.a)) ≡ count_field c.args.img.now c.loop-a.a + length (nodes_from c.args.img.now (c.loop-a.a + 1) (c.axes_of-axes.result - (c.loop-a.a + 1))) = nodes_length c.args.img.now c.axes_of-axes.result c.loop-a.a c.loop-a-test.true in
     let i = c.loop-a.invariant in
     record {
       area = record { near = c.offset_of-at.ensures.below; few = c.count_of-count.ensures.below };
-      inside = omega (arith, c.count_of-count.ensures.is, longer (goal.at.read_floats-requires c).In-loop-a, i.fits, i.same);
+      inside = omega (arith, c.count_of-count.ensures.is, longer, i.fits, i.same);
     }
+
+pub overflow_add-to : goal.overflow_add-to
+overflow_add-to c =
+    let longer : length (nodes_from c.args.img.now c.loop-a.a (c.axes_of-axes.result - c.loop-a.a)) ≡ count_field c.args.img.now c.loop-a.a + length (nodes_from c.args.img.now (c.loop-a.a + 1) (c.axes_of-axes.result - (c.loop-a.a + 1))) = nodes_length c.args.img.now c.axes_of-axes.result c.loop-a.a c.loop-a-test.true in
+    omega (arith, c.count_of-count.ensures.is, longer, c.loop-a.invariant.fits)
 
 pub loop-a-preserved : goal.loop-a-preserved
 loop-a-preserved c =
+    let longer : length (nodes_from c.args.img.now c.loop-a.a (c.axes_of-axes.result - c.loop-a.a)) ≡ count_field c.args.img.now c.loop-a.a + length (nodes_from c.args.img.now (c.loop-a.a + 1) (c.axes_of-axes.result - (c.loop-a.a + 1))) = nodes_length c.args.img.now c.axes_of-axes.result c.loop-a.a c.loop-a-test.true in
     record {
       on = omega (arith, c.loop-a-test.true);
-      same = ap length c.read_floats.ensures ∙ length-sets c.loop-a.out c.loop-a.to (floats_at (start (goal.at.loop-a-preserved c).In-loop-a).args.img.now c.offset_of-at.result c.count_of-count.result) ∙ c.loop-a.invariant.same;
-      fits = omega (arith, c.count_of-count.ensures.is, longer (goal.at.loop-a-preserved c).In-loop-a, c.loop-a.invariant.fits);
+      same = ap length c.read_floats.ensures ∙ length-sets c.loop-a.out c.loop-a.to (floats_at c.args.img.now c.offset_of-at.result c.count_of-count.result) ∙ c.loop-a.invariant.same;
+      fits = omega (arith, c.count_of-count.ensures.is, longer, c.loop-a.invariant.fits);
       left =
-          nodes_step (start (goal.at.loop-a-preserved c).In-loop-a).args.img.now c.axes_of-axes.result c.loop-a.a c.loop-a-test.true c.loop-a.to c.count_of-count.result c.offset_of-at.result c.loop-a.out _
+          nodes_step c.args.img.now c.axes_of-axes.result c.loop-a.a c.loop-a-test.true c.loop-a.to c.count_of-count.result c.offset_of-at.result c.loop-a.out _
           c.count_of-count.ensures.is c.offset_of-at.ensures.is c.read_floats.ensures
           ∙ c.loop-a.invariant.left;
     }
@@ -69,5 +69,3 @@ returns c =
     sym (nodes_end c.args.img.now c.axes_of-axes.result c.loop-a.a c.loop-a.to c.loop-a.out c.loop-a-test.false)
     ∙ c.loop-a.invariant.left
     ∙ ap (λ (k : ℕ). sets c.args.out.now 0 (nodes_from c.args.img.now 0 k)) c.axes_of-axes.ensures.is
-
--- LOST add-to overflow-add-to

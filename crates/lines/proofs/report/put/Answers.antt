@@ -11,6 +11,5 @@ returns-then-out-lt-MOST c = report_left _ _ c.if-out-lt-MOST.true
 pub returns : goal.returns
 unfolding report_of tally_report
 returns c =
-    report_put _ _ c.if-out-lt-MOST.false
-    (then (then c.put_axes-a.ensures.wrote (omega arith) c.put_numbers-b.ensures.wrote) (omega arith) c.put_past.ensures.wrote)
-    (omega (arith, c.put_axes-a.ensures.upper_bound, c.put_numbers-b.ensures.upper_bound, c.put_past.ensures.upper_bound))
+    let all = report_put _ _ c.if-out-lt-MOST.false (then (then c.put_axes-a.ensures.wrote (omega arith) c.put_numbers-b.ensures.wrote) (omega arith) c.put_past.ensures.wrote) (omega (arith, c.put_axes-a.ensures.upper_bound, c.put_numbers-b.ensures.upper_bound, c.put_past.ensures.upper_bound)) in
+    record { value = all.0; upper_bound = all.1 }

@@ -13,11 +13,11 @@ loop-a-init c = join_start _ _ _ _ _
 pub loop-a-preserved : goal.loop-a-preserved
 loop-a-preserved c =
     join_step c.loop-a.invariant c.loop-a-test.true (omega arith)
-    (held_cells c.args.axes c.args.counts c.loop-a.a c.Cells-of.result _ (omega (arith, c.axes_of-n.ensures, c.loop-a-test.true)) c.Cells-of.ensures)
+    (held_cells c.args.axes c.args.counts c.loop-a.a c.cells_of-many.result _ (omega (arith, c.axes_of-n.ensures, c.loop-a-test.true)) c.cells_of-many.ensures)
     c.put_cells-next.ensures.wrote c.put_cells-next.ensures.upper_bound (search rules)
 
 pub returns : goal.returns
 returns c =
     let n : length (held (take c.args.axes c.args.counts)) ≡ c.axes_of-n.result =
     held-length (take c.args.axes c.args.counts) ∙ length-take c.args.axes c.args.counts ∙ ap (min c.args.axes) c.well-formed.1.0.1.0.1 ∙ sym c.axes_of-n.ensures in
-    (rw n (join_end c.loop-a.invariant c.loop-a-test.false), omega arith)
+    record { wrote = rw n (join_end c.loop-a.invariant c.loop-a-test.false); upper_bound = omega arith }

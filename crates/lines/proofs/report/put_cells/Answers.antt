@@ -14,5 +14,4 @@ loop-i-preserved c =
     join_step c.loop-i.invariant c.loop-i-test.true (omega (arith, c.requires.1.1)) refl c.put_cell-next.ensures.wrote c.put_cell-next.ensures.upper_bound (search rules)
 
 pub returns : goal.returns
-returns c =
-    (join_end c.loop-i.invariant c.loop-i-test.false, omega (arith, c.loop-i.invariant.room, c.loop-i.invariant.within, c.requires.1.0))
+returns c = record { wrote = join_end c.loop-i.invariant c.loop-i-test.false; upper_bound = omega (arith, c.loop-i.invariant.room, c.loop-i.invariant.within, c.requires.1.0) }

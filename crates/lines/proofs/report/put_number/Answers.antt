@@ -11,19 +11,17 @@ pub returns-then-count-eq0 : goal.returns-then-count-eq0
 returns-then-count-eq0 c =
     (rw (number_none c.args.number c.args.count c.if-count-eq0.true) (wrote_none c.args.out.now c.args.at), omega arith)
 
-small : (c : goal.Start) → length (decimal c.args.number) + length (decimal c.args.count) + 5 ≤ 17
-small (goal.at.None c).Start = number_most c.args.number c.args.count c.requires.0 (omega arith)
-
 pub put_two-a-requires : goal.put_two-a-requires
-put_two-a-requires c κs = omega (arith, c.requires.1, small (goal.at.put_two-a-requires c).After-slice_known-1)
+put_two-a-requires c =
+    let small : length (decimal c.args.number) + length (decimal c.args.count) + 5 ≤ 17 = number_most c.args.number c.args.count c.requires.0 (omega arith) in
+    omega (arith, c.requires.1, small)
 
 pub put_byte-requires : goal.put_byte-requires
-put_byte-requires c κs =
-    omega (arith, c.requires.1, c.put_two-a.ensures.value, small (goal.at.put_byte-requires c).After-slice_known-1)
+put_byte-requires c =
+    let small : length (decimal c.args.number) + length (decimal c.args.count) + 5 ≤ 17 = number_most c.args.number c.args.count c.requires.0 (omega arith) in
+    omega (arith, c.requires.1, c.put_two-a.ensures.value, small)
 
 pub returns : goal.returns
 returns c =
-    (
-      rw (number_met c.args.number c.args.count c.if-count-eq0.false) (then c.put_two-a.ensures.wrote (omega arith) c.put_byte.ensures),
-      omega (arith, c.put_two-a.ensures.value, c.put_byte.ensures.next, small (goal.at.returns c).After-slice_known-1),
-    )
+    let small : length (decimal c.args.number) + length (decimal c.args.count) + 5 ≤ 17 = number_most c.args.number c.args.count c.requires.0 (omega arith) in
+    record { wrote = rw (number_met c.args.number c.args.count c.if-count-eq0.false) (then c.put_two-a.ensures.wrote (omega arith) c.put_byte.ensures); upper_bound = omega (arith, c.put_two-a.ensures.value, c.put_byte.ensures.next, small) }

@@ -15,4 +15,4 @@ loop-k-preserved c =
     join_step c.loop-k.invariant (omega (arith, c.loop-k-test.true)) (omega (arith, c.requires)) (rw add-one) c.put_number-next.ensures.wrote c.put_number-next.ensures.upper_bound (search rules)
 
 pub returns : goal.returns
-returns c = (join_end c.loop-k.invariant c.loop-k-test.false, omega (arith, c.loop-k.invariant.room, c.loop-k.invariant.within))
+returns c = record { wrote = join_end c.loop-k.invariant c.loop-k-test.false; upper_bound = omega (arith, c.loop-k.invariant.room, c.loop-k.invariant.within) }

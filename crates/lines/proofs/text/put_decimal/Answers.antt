@@ -5,7 +5,7 @@ use borrow.Author.Rules.{rules}
 use Rattle.lines.proofs.text.put_decimal.Goals as goal
 
 pub put_digits-requires : goal.put_digits-requires
-put_digits-requires c κs =
+put_digits-requires c =
     (omega arith, (omega arith, omega (arith, c.requires, c.places_of-k.ensures, decimal-length c.args.n)))
 
 pub returns : goal.returns

@@ -8,11 +8,11 @@ pub loop-i-init : goal.loop-i-init
 loop-i-init c = write_start _ _ _ _ _
 
 pub glyph-requires : goal.glyph-requires
-glyph-requires c κs = omega (arith, mod-lt c.loop-i.left c.requires.0, c.requires.1.0)
+glyph-requires c = omega (arith, mod-lt c.loop-i.left c.requires.0, c.requires.1.0)
 
 pub loop-i-preserved : goal.loop-i-preserved
 loop-i-preserved c =
     write_step c.glyph.result c.loop-i.invariant c.loop-i-test.true c.requires.1.1 c.glyph.ensures
 
 pub returns : goal.returns
-returns c = (write_end c.loop-i.invariant c.loop-i-test.false, omega arith)
+returns c = record { wrote = write_end c.loop-i.invariant c.loop-i-test.false; value = omega arith }

@@ -6,12 +6,15 @@ use Rattle.lookup.proofs.feed.Loops.{Feeding, feed_start, feed_room, feed_step, 
 use Rattle.lookup.proofs.feed.Wholes.{failed_whole, ended_whole}
 use mathlib.Core.Path.{sym}
 use native.Mathlib.Omega.{arith}
-use borrow.Author.Tests.{not-true, not_false}
+use borrow.Author.Tests.{not-true, not-false}
 use borrow.Author.Rules.{rules}
 use Rattle.lookup.proofs.feed.answer_blocks.Goals as goal
 
-abbrev start : goal.After-struct_known-1 → goal.Start
-start (goal.at.None c).After-struct_known-1 = (goal.at.None c).Start
+pub overflow_mul-size : goal.overflow_mul-size
+overflow_mul-size c = omega (arith, four_axes c.requires.table_of)
+
+pub overflow_add-size : goal.overflow_add-size
+overflow_add-size c = omega (arith, four_axes c.requires.table_of)
 
 pub loop-go-init : goal.loop-go-init
 loop-go-init c =
@@ -19,16 +22,28 @@ loop-go-init c =
     feed_start (rule_of s.args.img.now) s.args.buf.now s.args.out.now s.pre.1.0 s.pre.1.1
 
 pub step-n-requires : goal.step-n-requires
-step-n-requires c κs =
-    let t = (start (goal.at.step-n-requires c).After-struct_known-1).pre.0 in
+step-n-requires c =
+    let t = c.requires.table_of in
     (t, feed_room t c.loop-go.invariant)
 
-abbrev looped : goal.After-step-n → goal.In-loop-go
-looped (goal.at.None c).After-step-n = (goal.at.None c).In-loop-go
+pub overflow_add-asked : goal.overflow_add-asked
+overflow_add-asked c =
+    let g = c.loop-go.invariant in
+    omega (arith, g.few, g.long, c.step-n.ensures.stepped.room)
+
+pub overflow_add-read : goal.overflow_add-read
+overflow_add-read c =
+    let g = c.loop-go.invariant in
+    omega (arith, g.filled, g.few, g.long, c.step-n.ensures.stepped.filled, c.step-n.ensures.stepped.room)
+
+pub overflow_add-printed : goal.overflow_add-printed
+overflow_add-printed c =
+    let g = c.loop-go.invariant in
+    omega (arith, g.short, g.wide, c.step-n.ensures.printed_in_bounds)
 
 pub loop-go-smaller : goal.loop-go-smaller
 loop-go-smaller c =
-    turn_fewer c.step-n.ensures.stepped (looped (goal.at.loop-go-smaller c).After-step-n).loop-test.true
+    turn_fewer c.step-n.ensures.stepped c.loop-go-test.true
 
 pub loop-go-preserved : goal.loop-go-preserved
 loop-go-preserved c =
@@ -37,7 +52,7 @@ loop-go-preserved c =
 
 pub returns-then-not-ok : goal.returns-then-not-ok
 returns-then-not-ok c =
-    failed_whole (start (goal.at.returns-then-not-ok c).After-struct_known-1).pre.0 c.loop-go.invariant (not-true _ c.if-not-ok.true-raw)
+    failed_whole c.requires.table_of c.loop-go.invariant (not-true _ c.if-not-ok.true-raw)
 
 pub slice_bounds-end-end : goal.slice_bounds-end-end
 slice_bounds-end-end c = c.loop-go.invariant.holds
@@ -46,22 +61,15 @@ pub slice_bounds-end-end-2 : goal.slice_bounds-end-end-2
 slice_bounds-end-end-2 c = sym (length-take-le _ _ c.loop.invariant.holds)
 
 pub end-last-requires : goal.end-last-requires
-end-last-requires c κs =
+end-last-requires c =
     let g = c.loop.invariant in
-    (omega (arith, g.wide), feed_last g c.loop-test.false (not_false _ c.if1.false))
+    (omega (arith, g.wide), feed_last g c.loop-test.false (not-false _ c.if1.false))
+
+pub overflow_add-all : goal.overflow_add-all
+overflow_add-all c =
+    let g = c.loop.invariant in
+    omega (arith, g.short, g.wide, c.end-last.ensures.bytes_in_bounds)
 
 pub returns : goal.returns
 returns c =
-    ended_whole (start (goal.at.returns c).After-slice_known-2-1).pre.0 c.loop.invariant c.loop-test.false (not_false _ c.if1.false) _ _ c.end-last.ensures.bytes_value
-
--- LOST mul-size overflow-mul-size
-
--- LOST add-size overflow-add-size
-
--- LOST add-asked overflow-add-asked
-
--- LOST add_read overflow-add-read
-
--- LOST add-printed overflow-add-printed
-
--- LOST add-all overflow-add-all
+    ended_whole c.requires.table_of c.loop.invariant c.loop-test.false (not-false _ c.if1.false) _ _ c.end-last.ensures.bytes_value

@@ -5,12 +5,6 @@ use mathlib.Core.Path.{sym}
 use borrow.Author.Rules.{rules}
 use Rattle.lookup.proofs.loaded.answer_image.Goals as goal
 
-abbrev start : goal.After-load-loaded → goal.Start
-start (goal.at.None c).After-load-loaded = (goal.at.None c).Start
-
-abbrev load : goal.After-struct_known-1 → goal.After-load-loaded
-load (goal.at.None c).After-struct_known-1 = (goal.at.None c).After-load-loaded
-
 pub returns-then-answer-ne0 : goal.returns-then-answer-ne0
 returns-then-answer-ne0 c =
     let l = load (goal.at.returns-then-answer-ne0 c).After-struct_known-1 in
@@ -24,7 +18,7 @@ pub slice_bounds-answer_all-end-4 : goal.slice_bounds-answer_all-end-4
 slice_bounds-answer_all-end-4 c = sym (length-take-le _ _ (search rules))
 
 pub answer_all-requires : goal.answer_all-requires
-answer_all-requires c κs =
+answer_all-requires c =
     let l = load (goal.at.answer_all-requires c).After-answer-1 in
     let s = start l in
     image_table (l.load.ensures.0 s.pre.0.0 s.pre.0.1) s.pre.1 c.if1.false

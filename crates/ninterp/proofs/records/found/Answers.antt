@@ -4,7 +4,7 @@ use borrow.Author.Rules.{rules}
 use Rattle.ninterp.proofs.records.found.Goals as goal
 
 pub interpolated-requires : goal.interpolated-requires
-interpolated-requires c κs = c.requires
+interpolated-requires c = c.requires
 
 pub returns-then-kind-lt2 : goal.returns-then-kind-lt2
 returns-then-kind-lt2 c =
@@ -12,8 +12,7 @@ returns-then-kind-lt2 c =
     c.interpolated.ensures ∙ found_linear a.kind a.shape a.nodes.now a.values.now a.point.now c.if-kind-lt2.true
 
 pub stored-requires : goal.stored-requires
-stored-requires c κs =
-    (c.requires, c.requires.four)
+stored-requires c = record { lookup_judged = c.requires; axes_in_bounds = c.requires.four }
 
 pub returns : goal.returns
 returns c =

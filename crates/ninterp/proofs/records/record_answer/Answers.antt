@@ -8,9 +8,9 @@ returns-then-fault-ne0 c =
     record_refused a.shape a.nodes.now a.values.now a.rec.now _ c.length_row-fault.ensures c.if-fault-ne0.true _ c.refuse.ensures
 
 pub whole_answer-requires : goal.whole_answer-requires
-whole_answer-requires c κs =
+whole_answer-requires c =
     let a = c.args in
-    (record { judged = c.whole_table_fault-table.ensures; spaced = c.axes_uniform_fault-uniform.ensures }, record_sized a.shape a.nodes.now a.values.now a.rec.now _ c.length_row-fault.ensures c.if-fault-ne0.false)
+    record { known = record { judged = c.whole_table_fault-table.ensures; spaced = c.axes_uniform_fault-uniform.ensures }; rec_len = record_sized a.shape a.nodes.now a.values.now a.rec.now _ c.length_row-fault.ensures c.if-fault-ne0.false }
 
 pub returns : goal.returns
 returns c = c.whole_answer.ensures

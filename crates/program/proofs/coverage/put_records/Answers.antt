@@ -11,26 +11,14 @@ use Rattle.program.proofs.coverage.Reports.{report_fronted}
 use borrow.Author.Rules.{rules}
 use Rattle.program.proofs.coverage.put_records.Goals as goal
 
-abbrev start : goal.After-count_block-done → goal.Start
-start (goal.at.None c).After-count_block-done = (goal.at.None c).Start
-
-counted : (b : goal.After-count_block-done)
-    → b.count_block.result ≡ block_tally none_read (start b).args.shape (start b).args.nodes.now (start b).args.values.now (start b).args.records.now
-counted (goal.at.None c).After-count_block-done =
-    let a = (start (goal.at.None c).After-count_block-done).args in
-    b.count_block-done.ensures ∙ ap (λ (t : Tally). block_tally t a.shape a.nodes.now a.values.now a.records.now) b.none_read.ensures
-
-inside : (b : goal.After-count_block-done) → b.count_block.result.used ≤ length (start b).args.records.now
-inside (goal.at.None c).After-count_block-done =
-    let a = (start (goal.at.None c).After-count_block-done).args in
-    omega (arith, ap (λ (d : BlockTally). d.used) (counted (goal.at.None c).After-count_block-done), block_used none_read a.shape a.nodes.now a.values.now a.records.now)
+pub slice_bounds-finish-start : goal.slice_bounds-finish-start
+slice_bounds-finish-start c =
+    let counted : c.count_block-done.result ≡ block_tally none_read c.args.shape c.args.nodes.now c.args.values.now c.args.records.now = let a = c.args in c.count_block-done.ensures ∙ ap (λ (t : Tally). block_tally t a.shape a.nodes.now a.values.now a.records.now) c.none_read.ensures in
+    let inside : c.count_block-done.result.used ≤ length c.args.records.now = let a = c.args in omega (arith, ap (λ (d : BlockTally). d.used) (counted), block_used none_read a.shape a.nodes.now a.values.now a.records.now) in
+    inside
 
 pub returns : goal.returns
 returns c =
-    let s = start (goal.at.returns c).After-finish-arg-1 in
-    let a = s.args in (
-      report_fronted a.shape a.nodes.now a.values.now s.pre.0 a.records.now _ (counted (goal.at.returns c).After-finish-arg-1) s.pre.1 c.finish.ensures.value.0 c.finish.ensures.value.1,
-      omega (arith, c.finish.ensures.upper_bound, s.pre.1),
-    )
-
--- LOST part-finish-start slice-bounds-finish-start
+    let counted : c.count_block-done.result ≡ block_tally none_read c.args.shape c.args.nodes.now c.args.values.now c.args.records.now = let a = c.args in
+    let all = c.count_block-done.ensures ∙ ap (λ (t : Tally). block_tally t a.shape a.nodes.now a.values.now a.records.now) c.none_read.ensures in let s = start (goal.at.returns c).After-finish-arg-1 in let a = s.args in ( report_fronted a.shape a.nodes.now a.values.now s.pre.0 a.records.now _ (counted) s.pre.1 c.finish.ensures.value.0 c.finish.ensures.value.1, omega (arith, c.finish.ensures.upper_bound, s.pre.1), ) in
+    record { fronted = all.0; upper_bound = all.1 }

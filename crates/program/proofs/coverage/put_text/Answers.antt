@@ -5,9 +5,6 @@ use Rattle.program.proofs.run.Gives.{line_fronted, text_fronted}
 use borrow.Author.Rules.{rules}
 use Rattle.program.proofs.coverage.put_text.Goals as goal
 
-abbrev start : goal.After-struct_known-1 → goal.Start
-start (goal.at.None c).After-struct_known-1 = (goal.at.None c).Start
-
 pub returns-then-loaded-ne0 : goal.returns-then-loaded-ne0
 returns-then-loaded-ne0 c =
     let s = start (goal.at.returns-then-loaded-ne0 c).After-struct_known-1 in
@@ -17,10 +14,9 @@ returns-then-loaded-ne0 c =
     )
 
 pub put_records-requires : goal.put_records-requires
-put_records-requires c κs =
+put_records-requires c =
     let s = start (goal.at.put_records-requires c).After-struct_known-1 in
     (s.pre.0 c.if-loaded-ne0.false, s.pre.1)
 
 pub returns : goal.returns
-returns c =
-    (text_fronted _ _ c.if-loaded-ne0.false c.put_records.ensures.fronted, c.put_records.ensures.upper_bound)
+returns c = record { fronted = text_fronted _ _ c.if-loaded-ne0.false c.put_records.ensures.fronted; upper_bound = c.put_records.ensures.upper_bound }

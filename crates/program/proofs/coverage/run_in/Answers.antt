@@ -8,9 +8,6 @@ use Rattle.program.proofs.run.Inputs.{run_texted}
 use borrow.Author.Rules.{rules}
 use Rattle.program.proofs.coverage.run_in.Goals as goal
 
-abbrev start : goal.After-load-loaded → goal.Start
-start (goal.at.None c).After-load-loaded = (goal.at.None c).Start
-
 pub slice_bounds-put_text-end-2 : goal.slice_bounds-put_text-end-2
 slice_bounds-put_text-end-2 c = sym (length-take-le _ _ (search rules))
 
@@ -18,7 +15,7 @@ pub slice_bounds-put_text-end-4 : goal.slice_bounds-put_text-end-4
 slice_bounds-put_text-end-4 c = sym (length-take-le _ _ (search rules))
 
 pub put_text-long-requires : goal.put_text-long-requires
-put_text-long-requires c κs =
+put_text-long-requires c =
     let s = start (goal.at.put_text-long-requires c).After-load-loaded in
     (λ z. table_shape ((c.load-loaded.ensures.loads s.pre.0 s.pre.1.0).table z), s.pre.1.1)
 

@@ -5,16 +5,6 @@ use Rattle.program.proofs.run.Gives.{nothing_put, give_refused, give_made}
 use borrow.Author.Rules.{rules}
 use Rattle.program.proofs.run.give_text.Goals as goal
 
-abbrev start : goal.After-put_text-need → goal.Start
-start (goal.at.None c).After-put_text-need = (goal.at.None c).Start
-
--- the first pass left the output as it was
-untouched : (t : goal.After-put_text-need) → t.put_text.new.1.1.1.1.1.1.0 ++ (start t).args.out.now ≡ (start t).args.out.now
-untouched (goal.at.None c).After-put_text-need = nothing_put t.put_text-need.new.1.1.1.1.1.1.0 (start (goal.at.None c).After-put_text-need).args.out.now t.put_text-need.auto.1.1.1.1.1.1.0
-
-abbrev measured : goal.After-room_answer-done → goal.After-put_text-need
-measured (goal.at.None c).After-room_answer-done = (goal.at.None c).After-put_text-need
-
 pub returns-then-done-ne0 : goal.returns-then-done-ne0
 returns-then-done-ne0 c =
     let t = measured (goal.at.returns-then-done-ne0 c).After-room_answer-done in

@@ -13,54 +13,54 @@ use Rattle.program.proofs.run.put_records.Goals as goal
 pub loop-left-init : goal.loop-left-init
 loop-left-init c = walk_start _ most_records _ _ _ c.requires.1
 
-abbrev top : goal.After-put_chunk-done → goal.At-loop-left
-top (goal.at.None c).After-put_chunk-done = (goal.at.None c).At-loop-left
+pub overflow_mul-at : goal.overflow_mul-at
+overflow_mul-at c =
+    let sized : c.args.size ≡ record_size c.args.shape = c.requires.0 in
+    let enough : record_size c.args.shape ≤ length c.args.records.now - c.loop-left.at = let a = c.args in omega (arith, sized, leb-true a.size (length a.records.now - c.loop-left.at) c.if-records-at.true-raw) in
+    let taken : Took (record_rule c.args.shape c.args.nodes.now c.args.values.now) c.args.records.now c.loop-left.at c.loop-left.left c.put_chunk-done.result.count c.put_chunk-done.result.written = took c.loop-left.invariant c.put_chunk-done.ensures.block c.put_chunk-done.auto.1.1.1.1.1.0 c.loop-left-test.true (enough) (omega arith) in
+    let used : c.put_chunk-done.result.count * c.args.size ≡ c.put_chunk-done.result.count * record_size c.args.shape = ap (λ (n : ℕ). c.put_chunk-done.result.count * n) (sized) in
+    let there : c.loop-left.at + c.put_chunk-done.result.count * c.args.size ≤ length c.args.records.now = omega (arith, (taken).bytes, used) in
+    omega (arith, there, c.good.1.1.1.1.0.0)
 
-abbrev start : goal.At-loop-left → goal.Start
-start (goal.at.None c).At-loop-left = (goal.at.None c).Start
+pub overflow_add-at : goal.overflow_add-at
+overflow_add-at c =
+    let sized : c.args.size ≡ record_size c.args.shape = c.requires.0 in
+    let enough : record_size c.args.shape ≤ length c.args.records.now - c.loop-left.at = let a = c.args in omega (arith, sized, leb-true a.size (length a.records.now - c.loop-left.at) c.if-records-at.true-raw) in
+    let taken : Took (record_rule c.args.shape c.args.nodes.now c.args.values.now) c.args.records.now c.loop-left.at c.loop-left.left c.put_chunk-done.result.count c.put_chunk-done.result.written = took c.loop-left.invariant c.put_chunk-done.ensures.block c.put_chunk-done.auto.1.1.1.1.1.0 c.loop-left-test.true (enough) (omega arith) in
+    let used : c.put_chunk-done.result.count * c.args.size ≡ c.put_chunk-done.result.count * record_size c.args.shape = ap (λ (n : ℕ). c.put_chunk-done.result.count * n) (sized) in
+    let there : c.loop-left.at + c.put_chunk-done.result.count * c.args.size ≤ length c.args.records.now = omega (arith, (taken).bytes, used) in
+    omega (arith, there, c.good.1.1.1.1.0.0)
 
--- the size that is lent is the rule's
-sized : (l : goal.At-loop-left) → (start l).args.size ≡ record_size (start l).args.shape
-sized (goal.at.None c).At-loop-left = (start (goal.at.None c).At-loop-left).requires.0
+pub overflow_sub-left : goal.overflow_sub-left
+overflow_sub-left c =
+    let sized : c.args.size ≡ record_size c.args.shape = c.requires.0 in
+    let enough : record_size c.args.shape ≤ length c.args.records.now - c.loop-left.at = let a = c.args in omega (arith, sized, leb-true a.size (length a.records.now - c.loop-left.at) c.if-records-at.true-raw) in
+    let taken : Took (record_rule c.args.shape c.args.nodes.now c.args.values.now) c.args.records.now c.loop-left.at c.loop-left.left c.put_chunk-done.result.count c.put_chunk-done.result.written = took c.loop-left.invariant c.put_chunk-done.ensures.block c.put_chunk-done.auto.1.1.1.1.1.0 c.loop-left-test.true (enough) (omega arith) in
+    (taken).most
 
-enough : (w : goal.After-put_chunk-done) → record_size (start (top w)).args.shape ≤ length (start (top w)).args.records.now - (top w).loop.at
-enough (goal.at.None c).After-put_chunk-done =
-    let a = (start (top (goal.at.None c).After-put_chunk-done)).args in
-    omega (arith, sized (top (goal.at.None c).After-put_chunk-done), leb-true a.size (length a.records.now - (top (goal.at.None c).After-put_chunk-done).loop.at) w.if-records-at.true-raw)
-
-taken : (w : goal.After-put_chunk-done)
-    → Took (record_rule (start (top w)).args.shape (start (top w)).args.nodes.now (start (top w)).args.values.now) (start (top w)).args.records.now (top w).loop.at (top w).loop.left w.put_chunk.result.count w.put_chunk.result.written
-taken (goal.at.None c).After-put_chunk-done =
-    took (top (goal.at.None c).After-put_chunk-done).loop.invariant w.put_chunk-done.ensures.block w.put_chunk-done.auto.1.1.1.1.1.0 w.loop-left-test.true (enough (goal.at.None c).After-put_chunk-done) (omega arith)
-
-used : (w : goal.After-put_chunk-done) → w.put_chunk.result.count * (start (top w)).args.size ≡ w.put_chunk.result.count * record_size (start (top w)).args.shape
-used (goal.at.None c).After-put_chunk-done = ap (λ (n : ℕ). w.put_chunk-done.result.count * n) (sized (top (goal.at.None c).After-put_chunk-done))
-
--- the bytes of the records that were taken lie among those lent
-there : (w : goal.After-put_chunk-done) → (top w).loop.at + w.put_chunk.result.count * (start (top w)).args.size ≤ length (start (top w)).args.records.now
-there (goal.at.None c).After-put_chunk-done = omega (arith, (taken (goal.at.None c).After-put_chunk-done).bytes, used (goal.at.None c).After-put_chunk-done)
+pub overflow_add-total : goal.overflow_add-total
+overflow_add-total c =
+    let sized : c.args.size ≡ record_size c.args.shape = c.requires.0 in
+    let enough : record_size c.args.shape ≤ length c.args.records.now - c.loop-left.at = let a = c.args in omega (arith, sized, leb-true a.size (length a.records.now - c.loop-left.at) c.if-records-at.true-raw) in
+    let taken : Took (record_rule c.args.shape c.args.nodes.now c.args.values.now) c.args.records.now c.loop-left.at c.loop-left.left c.put_chunk-done.result.count c.put_chunk-done.result.written = took c.loop-left.invariant c.put_chunk-done.ensures.block c.put_chunk-done.auto.1.1.1.1.1.0 c.loop-left-test.true (enough) (omega arith) in
+    omega (arith, (taken).short, (taken).most, c.loop-left.invariant.bound)
 
 pub loop-left-smaller : goal.loop-left-smaller
-loop-left-smaller c = omega (arith, (taken (goal.at.loop-left-smaller c).After-put_chunk-done).some, (taken (goal.at.loop-left-smaller c).After-put_chunk-done).most)
+loop-left-smaller c =
+    let sized : c.args.size ≡ record_size c.args.shape = c.requires.0 in
+    let enough : record_size c.args.shape ≤ length c.args.records.now - c.loop-left.at = let a = c.args in omega (arith, sized, leb-true a.size (length a.records.now - c.loop-left.at) c.if-records-at.true-raw) in
+    let taken : Took (record_rule c.args.shape c.args.nodes.now c.args.values.now) c.args.records.now c.loop-left.at c.loop-left.left c.put_chunk-done.result.count c.put_chunk-done.result.written = took c.loop-left.invariant c.put_chunk-done.ensures.block c.put_chunk-done.auto.1.1.1.1.1.0 c.loop-left-test.true (enough) (omega arith) in
+    omega (arith, (taken).some, (taken).most)
 
 pub loop-left-preserved : goal.loop-left-preserved
 loop-left-preserved c =
-    walk_step (top (goal.at.loop-left-preserved c).After-put_chunk-done).loop.invariant c.put_chunk-done.ensures.block c.put_chunk-done.auto.1.1.1.1.1.0 c.loop-left-test.true (enough (goal.at.loop-left-preserved c).After-put_chunk-done) (omega arith) _ (used (goal.at.loop-left-preserved c).After-put_chunk-done) c.put_chunk-done.ensures.placed c.put_chunk-done.auto.1.1.1.1.1.1.0
-
--- the loop ends where no record may come, or no whole one is left
-ended : (c : goal.Left-loop-left) → (c.before.loop.left ≡ 0) ⊎ (length (start c.before).args.records.now - c.before.loop.at < record_size (start c.before).args.shape)
-ended (goal.at.None c).Left-loop-left =
-    let a = (start (goal.at.None c).At-loop-left).args in
-    ⊎_elim (λ e. inr (omega (arith, sized (goal.at.None c).At-loop-left, leb-false a.size (length a.records.now - c.loop-left.at) e.1.left))) (λ e. inl (omega (arith, e.left))) c.loop-left-test.branch
+    let sized : c.args.size ≡ record_size c.args.shape = c.requires.0 in
+    let enough : record_size c.args.shape ≤ length c.args.records.now - c.loop-left.at = let a = c.args in omega (arith, sized, leb-true a.size (length a.records.now - c.loop-left.at) c.if-records-at.true-raw) in
+    let used : c.put_chunk-done.result.count * c.args.size ≡ c.put_chunk-done.result.count * record_size c.args.shape = ap (λ (n : ℕ). c.put_chunk-done.result.count * n) (sized) in
+    walk_step c.loop-left.invariant c.put_chunk-done.ensures.block c.put_chunk-done.auto.1.1.1.1.1.0 c.loop-left-test.true (enough) (omega arith) _ (used) c.put_chunk-done.ensures.placed c.put_chunk-done.auto.1.1.1.1.1.1.0
 
 pub returns : goal.returns
 returns c =
-    walk_end c.loop-left.invariant refl (ended (goal.at.returns c).Left-loop-left) c.put_end.ensures.placed c.put_end.auto.1.1.1.0
-
--- LOST mul_at overflow-mul-at
-
--- LOST add_at overflow-add-at
-
--- LOST sub-left overflow-sub-left
-
--- LOST add_total overflow-add-total
+    let sized : c.args.size ≡ record_size c.args.shape = c.requires.0 in
+    let ended : (c.loop-left.left ≡ 0) ⊎ (length c.args.records.now - c.loop-left.at < record_size c.args.shape) = let a = c.args in ⊎_elim (λ e. inr (omega (arith, sized, leb-false a.size (length a.records.now - c.loop-left.at) e.1.left))) (λ e. inl (omega (arith, e.left))) c.loop-left-test.branch in
+    walk_end c.loop-left.invariant refl (ended) c.put_end.ensures.placed c.put_end.auto.1.1.1.0

@@ -11,7 +11,7 @@ returns-then-got-lt-HEADER c =
     (c.read_head-got.ensures.1, head_read _ _ c.read_head-got.ensures.0)
 
 pub read_rest-requires : goal.read_rest-requires
-read_rest-requires c κs =
+read_rest-requires c =
     let w = size_within _ _ c.image_size-size.ensures in
     (omega (arith, w.0), omega (arith, w.1, c.read_head.auto.0, c.if1.false))
 

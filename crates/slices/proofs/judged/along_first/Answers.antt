@@ -43,8 +43,15 @@ module _ (b : goal.After-location_by-location) where
       part_index s.pre.0 0 _ (none s.args.shape.counts) (ends _) _
       (subst (λ (l : AxisLocation). upper_of l < length part) (sym by_rule) (location_fits part s.args.point good s.pre.1.finite_point s.args.uniform))
 
+-- the location that was found, in the nodes that are lent
+pub slice_bounds-location_by-end : goal.slice_bounds-location_by-end
+slice_bounds-location_by-end c = axis_ends c.requires.ready 0 _ (none c.args.shape.counts) (ends _)
+
+pub nonzero_div-rest : goal.nonzero_div-rest
+nonzero_div-rest c = omega (arith, some_at c.requires.ready)
+
 pub fill-requires : goal.fill-requires
-fill-requires c κs =
+fill-requires c =
     node_runs (s (goal.at.fill-requires c).After-location_by-location).requires.0 _ (fits (goal.at.fill-requires c).After-location_by-location) _ _ c.in_default.is c.lower_node-node.ensures _ (s (goal.at.fill-requires c).After-location_by-location).requires.1.enough
 
 pub returns-in_default : goal.returns-in_default
@@ -52,13 +59,9 @@ returns-in_default c =
     node_results (s (goal.at.returns-in_default c).After-location_by-location).requires.0 _ (fits (goal.at.returns-in_default c).After-location_by-location) _ _ (found (goal.at.returns-in_default c).After-location_by-location) _ _ c.in_default.is c.lower_node-node.ensures _ _ _ c.no_fault.ensures c.fill.ensures
 
 pub blend_runs-requires : goal.blend_runs-requires
-blend_runs-requires c κs =
+blend_runs-requires c =
     runs_beside (s (goal.at.blend_runs-requires c).After-location_by-location).requires.0 _ (fits (goal.at.blend_runs-requires c).After-location_by-location) _ _ c.in-Between.is _ (s (goal.at.blend_runs-requires c).After-location_by-location).requires.1.enough
 
 pub returns : goal.returns
 returns c =
     between_results (s (goal.at.returns c).After-location_by-location).requires.0 _ (fits (goal.at.returns c).After-location_by-location) _ _ (found (goal.at.returns c).After-location_by-location) _ _ c.in-Between.is c.blend_runs.ensures
-
--- LOST part-location-by-end slice-bounds-location-by-end
-
--- LOST div-rest nonzero-div-rest

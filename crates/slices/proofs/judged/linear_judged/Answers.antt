@@ -4,16 +4,12 @@ use Rattle.slices.proofs.Sliced.{or_kept, or_filled, point_taken}
 use borrow.Author.Rules.{rules}
 use Rattle.slices.proofs.judged.linear_judged.Goals as goal
 
-abbrev start : goal.After-point_fault-fault → goal.Start
-start (goal.at.None c).After-point_fault-fault = (goal.at.None c).Start
-
 pub returns-then-fault-ne0 : goal.returns-then-fault-ne0
 unfolding linear_rest
 returns-then-fault-ne0 c = or_kept _ _ c.point_fault-fault.ensures _ _ _ c.if-fault-ne0.true
 
 pub along_first-requires : goal.along_first-requires
-along_first-requires c κs =
-    ((start (goal.at.along_first-requires c).After-point_fault-fault).requires, point_taken _ _ _ _ _ (passes _ _ c.point_fault-fault.ensures c.if-fault-ne0.false))
+along_first-requires c = record { ready = c.requires; taken = point_taken _ _ _ _ _ (passes _ _ c.point_fault-fault.ensures c.if-fault-ne0.false) }
 
 pub returns : goal.returns
 unfolding linear_rest

@@ -5,15 +5,11 @@ use Rattle.slices.proofs.Sliced.{kept, written, point_taken}
 use borrow.Author.Rules.{rules}
 use Rattle.slices.proofs.judged.pick_judged.Goals as goal
 
-abbrev start : goal.After-point_fault-fault → goal.Start
-start (goal.at.None c).After-point_fault-fault = (goal.at.None c).Start
-
 pub returns-then-fault-ne0 : goal.returns-then-fault-ne0
 returns-then-fault-ne0 c = kept _ _ c.point_fault-fault.ensures _ _ c.if-fault-ne0.true
 
 pub pick_slice-requires : goal.pick_slice-requires
-pick_slice-requires c κs =
-    ((start (goal.at.pick_slice-requires c).After-point_fault-fault).requires, point_taken _ _ _ _ _ (passes _ _ c.point_fault-fault.ensures c.if-fault-ne0.false))
+pick_slice-requires c = record { ready = c.requires; taken = point_taken _ _ _ _ _ (passes _ _ c.point_fault-fault.ensures c.if-fault-ne0.false) }
 
 pub returns : goal.returns
 returns c =

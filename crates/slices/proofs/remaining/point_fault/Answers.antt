@@ -9,41 +9,32 @@ use Rattle.slices.proofs.Slices.{few_before, some_at, axis_ends, axis_lies, slic
 use borrow.Author.Rules.{rules}
 use Rattle.slices.proofs.remaining.point_fault.Goals as goal
 
-abbrev start : goal.After-struct_known-1 → goal.Start
-start (goal.at.None c).After-struct_known-1 = (goal.at.None c).Start
-
 pub returns-then-fault-ne0 : goal.returns-then-fault-ne0
 unfolding point_fault
 returns-then-fault-ne0 c = or_stops _ _ c.reading_fault-fault.ensures _ c.if-fault-ne0.true
 
 pub bounds-counts-axis : goal.bounds-counts-axis
-bounds-counts-axis c = let r = (start (goal.at.bounds-counts-axis c).After-struct_known-1).requires in omega (arith, r.within, r.four)
+bounds-counts-axis c = let r = c.requires in omega (arith, r.within, r.four)
 
 pub axis_start-start-requires : goal.axis_start-start-requires
-axis_start-start-requires c κs = let r = (start (goal.at.axis_start-start-requires c).After-struct_known-1).requires in (omega (arith, r.within, r.four), few_before r)
+axis_start-start-requires c = let r = c.requires in (omega (arith, r.within, r.four), few_before r)
 
--- 11 of the axis, whose nodes are lent
-range_told : (g : goal.After-range_fault-fault) → let s = start g.before.before.before.before.before in g.range_fault.result ≡ range_fault s.args.axis (axis_of s.args.shape s.args.nodes.now s.args.axis) s.args.point
-range_told (goal.at.None c).After-range_fault-fault =
-    let s = start (goal.at.None c).After-struct_known-1 in
-    g.range_fault-fault.ensures ∙ ap (λ xs. range_fault s.args.axis xs s.args.point) (axis_lies s.pre _ _ g.axis_start-start.ensures.value refl)
+pub overflow_add-end : goal.overflow_add-end
+overflow_add-end c = omega (arith, axis_ends c.requires _ _ c.axis_start-start.ensures.value refl)
+
+pub slice_bounds-range_fault-end : goal.slice_bounds-range_fault-end
+slice_bounds-range_fault-end c = axis_ends c.requires _ _ c.axis_start-start.ensures.value refl
 
 pub returns-then-fault-ne0-2 : goal.returns-then-fault-ne0-2
 unfolding point_fault
 returns-then-fault-ne0-2 c =
-    or_goes_on _ _ c.reading_fault-fault.ensures _ _ c.if-fault-ne0.false (or_stops _ _ (range_told (goal.at.returns-then-fault-ne0-2 c).After-range_fault-fault) _ c.if-fault-ne0-2.true)
+    let range_told : let s = start (goal.at.returns-then-fault-ne0-2 c).After-struct_known-1 in c.range_fault-fault.result ≡ range_fault s.args.axis (axis_of s.args.shape s.args.nodes.now s.args.axis) s.args.point = let s = start (goal.at.returns-then-fault-ne0-2 c).After-struct_known-1 in c.range_fault-fault.ensures ∙ ap (λ xs. range_fault s.args.axis xs s.args.point) (axis_lies s.pre _ _ c.axis_start-start.ensures.value refl) in
+    or_goes_on _ _ c.reading_fault-fault.ensures _ _ c.if-fault-ne0.false (or_stops _ _ (range_told) _ c.if-fault-ne0-2.true)
 
 pub returns : goal.returns
 unfolding point_fault
 returns c =
+    let range_told : let s = start (goal.at.returns c).After-struct_known-1 in c.range_fault-fault.result ≡ range_fault s.args.axis (axis_of s.args.shape s.args.nodes.now s.args.axis) s.args.point = let s = start (goal.at.returns c).After-struct_known-1 in c.range_fault-fault.ensures ∙ ap (λ xs. range_fault s.args.axis xs s.args.point) (axis_lies s.pre _ _ c.axis_start-start.ensures.value refl) in
     let s = start (goal.at.returns c).After-struct_known-1 in
     or_goes_on _ _ c.reading_fault-fault.ensures _ _ c.if-fault-ne0.false
-    (or_goes_on _ _ (range_told (goal.at.returns c).After-range_fault-fault) _ _ c.if-fault-ne0-2.false (c.room_fault.ensures ∙ ap (λ (m : ℕ). room_fault 1 m s.args.room) (slice_count s.pre)))
-
--- LOST mul-n overflow-mul-n
-
--- LOST add-end overflow-add-end
-
--- LOST part-range-fault-end slice-bounds-range-fault-end
-
--- LOST div-room-fault nonzero-div-room-fault
+    (or_goes_on _ _ (range_told) _ _ c.if-fault-ne0-2.false (c.room_fault.ensures ∙ ap (λ (m : ℕ). room_fault 1 m s.args.room) (slice_count s.pre)))

@@ -13,9 +13,6 @@ use Rattle.slices.proofs.Alongs.{into_blends, length-blends}
 use borrow.Author.Rules.{rules}
 use Rattle.slices.proofs.written.blend_runs.Goals as goal
 
-abbrev start : goal.After-blend_fault-fault → goal.Start
-start (goal.at.None c).After-blend_fault-fault = (goal.at.None c).Start
-
 -- a run of r values from place k on, as it is lent
 cut : (k r : ℕ) → k + r - k ≡ r
 cut k r = omega arith
@@ -23,26 +20,21 @@ cut k r = omega arith
 run_length : (values : List Float) (k r : ℕ) → k + r ≤ length values → length (take r (drop k values)) ≡ r
 run_length values k r h = length-take-le r (drop k values) (omega (arith, length-drop k values, h))
 
--- what the blends were judged to be
-told : (f : goal.After-blend_fault-fault) → f.blend_fault.result ≡ results_fault (blended_runs (start f).args.frac (start f).args.lower (start f).args.rest (start f).args.values.now)
-told (goal.at.None c).After-blend_fault-fault =
-    let s = start (goal.at.None c).After-blend_fault-fault in
-    let r = s.args.rest in
-    f.blend_fault-fault.ensures
-    ∙ ap₂ (λ (i j : ℕ). results_fault (blends s.args.frac (take i (drop (s.args.lower * r) s.args.values.now)) (take j (drop (s.args.lower * r + r) s.args.values.now)))) (cut (s.args.lower * r) r) (cut (s.args.lower * r + r) r)
-
 pub returns-then-fault-ne0 : goal.returns-then-fault-ne0
-returns-then-fault-ne0 c = kept _ _ (told (goal.at.returns-then-fault-ne0 c).After-blend_fault-fault) _ _ c.if-fault-ne0.true
+returns-then-fault-ne0 c =
+    let told : c.blend_fault-fault.result ≡ results_fault (blended_runs c.args.frac c.args.lower c.args.rest c.args.values.now) = let s = start (goal.at.returns-then-fault-ne0 c).After-blend_fault-fault in let r = s.args.rest in c.blend_fault-fault.ensures ∙ ap₂ (λ (i j : ℕ). results_fault (blends s.args.frac (take i (drop (s.args.lower * r) s.args.values.now)) (take j (drop (s.args.lower * r + r) s.args.values.now)))) (cut (s.args.lower * r) r) (cut (s.args.lower * r + r) r) in
+    kept _ _ (told) _ _ c.if-fault-ne0.true
 
 pub returns : goal.returns
 returns c =
+    let told : c.blend_fault-fault.result ≡ results_fault (blended_runs c.args.frac c.args.lower c.args.rest c.args.values.now) = let s = start (goal.at.returns c).After-blend_fault-fault in let r = s.args.rest in c.blend_fault-fault.ensures ∙ ap₂ (λ (i j : ℕ). results_fault (blends s.args.frac (take i (drop (s.args.lower * r) s.args.values.now)) (take j (drop (s.args.lower * r + r) s.args.values.now)))) (cut (s.args.lower * r) r) (cut (s.args.lower * r + r) r) in
     let s = start (goal.at.returns c).After-blend_fault-fault in
     let r = s.args.rest in
     let from = s.args.lower * r in
     let vs = s.args.values.now in
     let low : length (take r (drop from vs)) ≡ r = run_length vs from r (omega (arith, s.pre.reach)) in
     let high : length (take r (drop (from + r) vs)) ≡ r = run_length vs (from + r) r s.pre.reach in
-    written _ _ (told (goal.at.returns c).After-blend_fault-fault) _ _ c.if-fault-ne0.false r (sym (length-blends s.args.frac _ _ r low high)) _
+    written _ _ (told) _ _ c.if-fault-ne0.false r (sym (length-blends s.args.frac _ _ r low high)) _
     (c.blend_into.ensures
     ∙ ap₂ (λ (i j : ℕ). blended_into s.args.frac (take i (drop from vs)) (take j (drop (from + r) vs)) s.args.out.now) (cut from r) (cut (from + r) r)
     ∙ into_blends s.args.frac _ _ s.args.out.now r low high s.pre.enough)

@@ -11,7 +11,7 @@ unfolding exact_fault
 returns-then-fault-ne0 c = or_stops _ _ c.axis_fault-fault.ensures _ c.if-fault-ne0.true
 
 pub lower_fault-requires : goal.lower_fault-requires
-lower_fault-requires c κs = let n = (axis_of_lem _ (passes _ _ c.axis_fault-fault.ensures c.if-fault-ne0.false)).enough in omega arith
+lower_fault-requires c = let n = (axis_of_lem _ (passes _ _ c.axis_fault-fault.ensures c.if-fault-ne0.false)).enough in omega arith
 
 pub returns : goal.returns
 unfolding exact_fault

@@ -7,14 +7,17 @@ use native.Mathlib.Omega.{arith}
 use borrow.Author.Rules.{rules}
 use Rattle.writer.proofs.header.header_fields.Goals as goal
 
-abbrev sized : goal.After-offset_in-offset3 → goal.After-sizes-held
-sized (goal.at.None c).After-offset_in-offset3 = (goal.at.None c).After-sizes-held
+pub overflow_mul-length : goal.overflow_mul-length
+overflow_mul-length c =
+    let values : c.sizes-held.result.values ≡ size (counts_of c.args.shape) = holds_values _ c.requires _ c.sizes-held.ensures in
+    let small : c.sizes-held.result.values ≤ 4096 = omega (arith, values, shape_size _ c.requires) in
+    omega (arith, small)
 
-values : (z : goal.After-sizes-held) → z.sizes.result.values ≡ size (counts_of z.before.before.before.before.before.args.shape)
-values (goal.at.None c).After-sizes-held = holds_values _ z.requires _ z.sizes-held.ensures
-
-small : (z : goal.After-sizes-held) → z.sizes.result.values ≤ 4096
-small (goal.at.None c).After-sizes-held = omega (arith, values (goal.at.None c).After-sizes-held, shape_size _ z.requires)
+pub overflow_add-length : goal.overflow_add-length
+overflow_add-length c =
+    let values : c.sizes-held.result.values ≡ size (counts_of c.args.shape) = holds_values _ c.requires _ c.sizes-held.ensures in
+    let small : c.sizes-held.result.values ≤ 4096 = omega (arith, values, shape_size _ c.requires) in
+    omega (arith, small, c.count_in-count3.ensures.few, c.count_in-count2.ensures.few, c.count_in-count1.ensures.few, c.count_in-count0.ensures.few)
 
 pub returns : goal.returns
 returns c =
@@ -29,7 +32,3 @@ returns c =
           n4.before.before.before.count_in_lem.ensures.is n4.before.before.count-in2.ensures.is n4.before.count-in3.ensures.is n4.count-in4.ensures.is
           _ _ _ _ _ (values z) c.offset_in-offset0.ensures c.offset_in-offset1.ensures c.offset_in-offset2.ensures c.offset_in-offset3.ensures;
     }
-
--- LOST mul-length overflow-mul-length
-
--- LOST add-length overflow-add-length

@@ -9,19 +9,22 @@ use lib.ListN.{length, drop, get_or}
 use borrow.Author.Rules.{rules}
 use Rattle.writer.proofs.header.put_fields.Goals as goal
 
-abbrev start : goal.After-shared_slice_known-in-loop-k-2-1 → goal.Start
-start (goal.at.None c).After-shared_slice_known-in-loop-k-2-1 = (goal.at.None c).Start
-
-room : (c : goal.After-shared_slice_known-in-loop-k-2-1) → c.before.before.before.loop.at + get_or (start c).args.widths.now c.before.before.before.loop.k 0 ≤ length c.before.before.before.loop.out
-room (goal.at.None c).After-shared_slice_known-in-loop-k-2-1 =
-    let s = start (goal.at.None c).After-shared_slice_known-in-loop-k-2-1 in
-    omega (arith, sum_more s.args.widths.now s.args.fields.now c.loop-k.k c.loop-k-test.true, c.loop-k.invariant.1.1.0, c.loop-k.invariant.1.0, s.pre.enough)
-
 pub loop-k-init : goal.loop-k-init
 loop-k-init c = (omega arith, (refl, (omega arith, refl)))
 
 pub put_word-requires : goal.put_word-requires
-put_word-requires c κs = omega (arith, room (goal.at.put_word-requires c).After-shared_slice_known-in-loop-k-2-1)
+put_word-requires c =
+    let room : c.loop-k.at + get_or c.args.widths.now c.loop-k.k 0 ≤ length c.loop-k.out = let s = start (goal.at.put_word-requires c).After-shared_slice_known-in-loop-k-2-1 in omega (arith, sum_more s.args.widths.now s.args.fields.now c.loop-k.k c.loop-k-test.true, c.loop-k.invariant.1.1.0, c.loop-k.invariant.1.0, s.pre.enough) in
+    omega (arith, room)
+
+pub overflow_add-at : goal.overflow_add-at
+overflow_add-at c =
+    let room : c.loop-k.at + get_or c.args.widths.now c.loop-k.k 0 ≤ length c.loop-k.out = let s = start (goal.at.overflow_add-at c).After-shared_slice_known-in-loop-k-2-1 in omega (arith, sum_more s.args.widths.now s.args.fields.now c.loop-k.k c.loop-k-test.true, c.loop-k.invariant.1.1.0, c.loop-k.invariant.1.0, s.pre.enough) in
+    omega (arith, room, c.well-formed.0.0, c.loop-k.invariant.1.0)
+
+pub overflow_add-k : goal.overflow_add-k
+overflow_add-k c =
+    omega (arith, c.loop-k-test.true, c.well-formed.1.0.0)
 
 pub loop-k-smaller : goal.loop-k-smaller
 loop-k-smaller c =
@@ -45,7 +48,3 @@ loop-k-preserved c =
 pub returns : goal.returns
 returns c =
     sym (fields_end c.args.widths.now c.args.fields.now c.loop-k.k c.loop-k.out c.loop-k.at c.loop-k-test.false) ∙ c.loop-k.invariant.1.1.1
-
--- LOST add_at overflow-add-at
-
--- LOST add-k overflow-add-k

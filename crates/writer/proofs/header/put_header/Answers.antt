@@ -7,10 +7,10 @@ use borrow.Author.Rules.{rules}
 use Rattle.writer.proofs.header.put_header.Goals as goal
 
 pub header_fields-fields-requires : goal.header_fields-fields-requires
-header_fields-fields-requires c κs = c.requires.judged
+header_fields-fields-requires c = c.requires.judged
 
 pub put_fields-requires : goal.put_fields-requires
-put_fields-requires c κs = record { same = sym c.header_fields-fields.ensures.long; enough = c.requires.enough }
+put_fields-requires c = record { same = sym c.header_fields-fields.ensures.long; enough = c.requires.enough }
 
 pub returns : goal.returns
 returns c =

@@ -6,9 +6,6 @@ use Rattle.ninterp.proofs.RecordLines.{record_there, block_turn, block_most, blo
 use borrow.Author.Rules.{rules}
 use Rattle.ninterp.proofs.records.block.answer_records.Goals as goal
 
-abbrev start : goal.At-loop-count → goal.Start
-start (goal.at.None c).At-loop-count = (goal.at.None c).Start
-
 pub loop-count-init : goal.loop-count-init
 loop-count-init c =
     let a = c.args in
@@ -27,7 +24,7 @@ returns-then-out-written-lt-LONGEST c =
     block_full a.shape a.nodes.now a.values.now a.size s.pre.1 c.loop-count.invariant c.if-out-written-lt-LONGEST.true
 
 pub put_answer-written-requires : goal.put_answer-written-requires
-put_answer-written-requires c κs =
+put_answer-written-requires c =
     let s = start (goal.at.put_answer-written-requires c).At-loop-count in
     let a = s.args in
     (s.pre.0, (record_there a.shape a.nodes.now a.values.now a.size s.pre.1 a.records.now c.loop-count.at c.if-records-at.false, omega (arith, c.if-out-written-lt-LONGEST.false)))
@@ -43,7 +40,3 @@ returns c =
     let s = start (goal.at.returns c).At-loop-count in
     let a = s.args in
     block_most a.shape a.nodes.now a.values.now a.size s.pre.1 c.loop-count.invariant c.loop-count-test.false
-
--- LOST sub-if1 overflow-sub-if1
-
--- LOST sub-if2 overflow-sub-if2

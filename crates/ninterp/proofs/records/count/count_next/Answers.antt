@@ -7,7 +7,7 @@ use Rattle.tally.specs.Scaffolding.{tally_of}
 use Rattle.ninterp.proofs.records.count.count_next.Goals as goal
 
 pub outcome-o-requires : goal.outcome-o-requires
-outcome-o-requires c κs = ap (λ (a : Answer). a.number) c.whole_answer-a.ensures
+outcome-o-requires c = ap (λ (a : Answer). a.number) c.whole_answer-a.ensures
 
 pub returns : goal.returns
 returns c =

@@ -8,34 +8,39 @@ use Rattle.ninterp.proofs.RecordLines.{record_there}
 use Rattle.ninterp.proofs.CountBlocks.{Counting, counting_begin, counting_again, counting_most, counting_short}
 use Rattle.ninterp.proofs.records.count.count_records.Goals as goal
 
-abbrev start : goal.At-loop-read → goal.Start
-start (goal.at.None c).At-loop-read = (goal.at.None c).Start
-
 pub loop-read-init : goal.loop-read-init
 loop-read-init c =
     let a = c.args in
     counting_begin a.shape a.nodes.now a.values.now a.t a.records.now
 
--- a whole record is there
-there : (i : goal.Then-records-at)
-    → (start i.before.before).args.size ≤ length (start i.before.before).args.records.now - i.before.before.loop.at
-there (goal.at.None c).Then-records-at = leb-true _ _ i.if-records-at.true-raw
+pub overflow_add-end : goal.overflow_add-end
+overflow_add-end c =
+    let there : c.args.size ≤ length c.args.records.now - c.loop-read.at = leb-true _ _ c.if-records-at.true-raw in
+    omega (arith, there, c.loop-read.invariant.whole)
+
+pub slice_bounds-count_next-end : goal.slice_bounds-count_next-end
+slice_bounds-count_next-end c =
+    let there : c.args.size ≤ length c.args.records.now - c.loop-read.at = leb-true _ _ c.if-records-at.true-raw in
+    omega (arith, there, c.loop-read.invariant.whole)
 
 pub count_next-read-requires : goal.count_next-read-requires
-count_next-read-requires c κs =
+count_next-read-requires c =
+    let there : c.args.size ≤ length c.args.records.now - c.loop-read.at = leb-true _ _ c.if-records-at.true-raw in
     let s = start (goal.at.count_next-read-requires c).At-loop-read in
     let a = s.args in
-    (s.pre.0, record_there a.shape a.nodes.now a.values.now a.size s.pre.1 a.records.now c.loop-read.at (there (goal.at.count_next-read-requires c).Then-records-at))
+    (s.pre.0, record_there a.shape a.nodes.now a.values.now a.size s.pre.1 a.records.now c.loop-read.at (there))
 
 pub loop-read-smaller : goal.loop-read-smaller
 loop-read-smaller c =
-    omega (arith, there (goal.at.loop-read-smaller c).Then-records-at, (start (goal.at.loop-read-smaller c).At-loop-read).requires.1)
+    let there : c.args.size ≤ length c.args.records.now - c.loop-read.at = leb-true _ _ c.if-records-at.true-raw in
+    omega (arith, there, c.requires.1)
 
 pub loop-read-preserved : goal.loop-read-preserved
 loop-read-preserved c =
+    let there : c.args.size ≤ length c.args.records.now - c.loop-read.at = leb-true _ _ c.if-records-at.true-raw in
     let s = start (goal.at.loop-read-preserved c).At-loop-read in
     let a = s.args in
-    counting_again a.shape a.nodes.now a.values.now a.t a.records.now a.size s.pre.1 _ c.loop-read.at c.loop-read.invariant _ c.loop-read-test.true (there (goal.at.loop-read-preserved c).Then-records-at) c.count_next-read.ensures
+    counting_again a.shape a.nodes.now a.values.now a.t a.records.now a.size s.pre.1 _ c.loop-read.at c.loop-read.invariant _ c.loop-read-test.true (there) c.count_next-read.ensures
 
 pub returns-else-records-at : goal.returns-else-records-at
 returns-else-records-at c =
@@ -48,7 +53,3 @@ returns-after-loop-read c =
     let s = start (goal.at.returns-after-loop-read c).At-loop-read in
     let a = s.args in
     counting_most a.shape a.nodes.now a.values.now a.t a.records.now a.size s.pre.1 _ c.loop-read.at c.loop-read.invariant c.loop-read-test.false
-
--- LOST add-end overflow-add-end
-
--- LOST part-count-next-end slice-bounds-count-next-end

@@ -6,7 +6,7 @@ use Rattle.ninterp.specs.Counting.{counted_record}
 use Rattle.ninterp.proofs.records.count.counted_record.Goals as goal
 
 pub outcome-o-requires : goal.outcome-o-requires
-outcome-o-requires c κs = ap (λ (a : Answer). a.number) c.record_answer-a.ensures
+outcome-o-requires c = ap (λ (a : Answer). a.number) c.record_answer-a.ensures
 
 pub returns : goal.returns
 unfolding counted_record

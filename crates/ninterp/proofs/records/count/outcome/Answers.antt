@@ -6,9 +6,9 @@ returns-then-number-ne0 c =
     outcome_refused c.args.shape c.args.nodes.now c.args.values.now c.args.rec.now c.args.number c.requires c.if-number-ne0.true
 
 pub cells_of-cells-requires : goal.cells_of-cells-requires
-cells_of-cells-requires c κs =
+cells_of-cells-requires c =
     outcome_flat c.args.shape c.args.nodes.now c.args.values.now c.args.rec.now c.args.number c.requires c.if-number-ne0.false
 
 pub returns : goal.returns
 returns c =
-    outcome_accepted c.args.shape c.args.nodes.now c.args.values.now c.args.rec.now c.args.number c.requires _ c.if-number-ne0.false c.Cells-of.ensures
+    outcome_accepted c.args.shape c.args.nodes.now c.args.values.now c.args.rec.now c.args.number c.requires _ c.if-number-ne0.false c.cells_of-cells.ensures

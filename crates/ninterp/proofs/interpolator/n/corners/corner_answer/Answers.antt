@@ -21,12 +21,6 @@ use Rattle.axis.proofs.Located.{lower_upper}
 use borrow.Author.Rules.{rules}
 use Rattle.ninterp.proofs.interpolator.n.corners.corner_answer.Goals as goal
 
-long_l : (s : goal.Start) → s.args.shape.axes ≤ length s.args.locations
-long_l (goal.at.None c).Start = omega (arith, s.well-formed.1.1.0.1.0.1, s.requires.four)
-
-long_c : (s : goal.Start) → s.args.shape.axes ≤ length s.args.shape.counts
-long_c (goal.at.None c).Start = omega (arith, length_ids s.args.shape.counts s.well-formed.0.1.1.1.0.1.0.1, s.requires.four)
-
 abbrev first : goal.Start → AxisLocation
 first (goal.at.None c).Start = get_or s.args.locations 0 (Exact 0)
 module (goal.at.None c).Start (k : goal.After-rest_places-rest) where
@@ -61,7 +55,7 @@ module (goal.at.None c).Start (k : goal.After-rest_places-rest) where
     stored b = at-node s.args.locations s.args.shape.counts s.args.shape.axes s.pre.some (long_l s) (long_c s) s.pre.within (goal.at.None c).Start refl s.args.values.now node (goal.at.None c).Start (goal.at.None c).Start i (k.rest_places.ensures.each i b) refl
 
 pub gather-vals-requires : goal.gather-vals-requires
-gather-vals-requires c κs =
+gather-vals-requires c =
     record {
       few = omega (arith, eight (goal.at.gather-vals-requires c).After-rest_places-arg-1);
       there = room (goal.at.gather-vals-requires c).After-rest_places-arg-1;

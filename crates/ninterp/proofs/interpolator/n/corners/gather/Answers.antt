@@ -10,6 +10,9 @@ use Rattle.ninterp.proofs.interpolator.n.corners.gather.Goals as goal
 pub loop-i-init : goal.loop-i-init
 loop-i-init c = (omega arith, (refl, λ k b. absurd (omega arith)))
 
+pub overflow_add-vals : goal.overflow_add-vals
+overflow_add-vals c = omega (arith, (c.requires.inside c.loop-i.i c.loop-i-test.true).1)
+
 pub bounds-values-at : goal.bounds-values-at
 bounds-values-at c = (c.requires.inside c.loop-i.i c.loop-i-test.true).1
 
@@ -24,11 +27,3 @@ loop-i-preserved c =
 
 pub returns : goal.returns
 returns c = record { both = λ k b. c.loop-i.invariant.1.1 k (omega (arith, c.loop-i-test.false, b)) }
-
--- LOST add-vals overflow-add-vals
-
--- LOST mul-vals overflow-mul-vals
-
--- LOST add-vals-2 overflow-add-vals-2
-
--- LOST mul-vals-3 overflow-mul-vals-3

@@ -6,17 +6,14 @@ use Rattle.blend.specs.Blend.{linear, computed}
 use Rattle.ninterp.specs.Linears.{interpolated}
 use Rattle.ninterp.proofs.interpolator.n.corners.interpolated.Goals as goal
 
-abbrev start : goal.After-all-locations → goal.Start
-start (goal.at.None c).After-all-locations = (goal.at.None c).Start
-
 pub all-locations-requires : goal.all-locations-requires
-all-locations-requires c κs =
+all-locations-requires c =
     let j = c.requires in
     record { grid = j.grid; four = j.four; read = omega (arith, j.read); finites = j.finites }
 
 pub corner_answer-requires : goal.corner_answer-requires
-corner_answer-requires c κs =
-    let j = (start c).requires in
+corner_answer-requires c =
+    let j = c.requires in
     record { four = j.four; small = j.grid.small; within = c.all-locations.ensures.within; stored = j.stored; some = j.some }
 
 pub returns : goal.returns

@@ -8,6 +8,9 @@ use Rattle.ninterp.proofs.interpolator.n.corners.spread.Goals as goal
 pub loop-i-init : goal.loop-i-init
 loop-i-init c = (omega arith, record { long = refl; done = λ k b. absurd (omega arith); rest = λ k a b. refl })
 
+pub overflow_add-places : goal.overflow_add-places
+overflow_add-places c = omega (arith, c.loop-i.invariant.1.rest c.loop-i.i (omega arith) c.loop-i-test.true, c.requires.small c.loop-i.i c.loop-i-test.true, c.requires.low_few, c.requires.high_few)
+
 pub bounds-places-i-in-loop-i : goal.bounds-places-i-in-loop-i
 bounds-places-i-in-loop-i c = Below-set _ c.loop-i.places c.loop-i.i _ _ (omega (arith, c.loop-i.invariant.1.long, c.requires.room, c.loop-i-test.true))
 
@@ -19,7 +22,3 @@ shape_of-places c = c.loop-i.invariant.1.long
 
 pub returns : goal.returns
 returns c = record { both = λ k b. c.loop-i.invariant.1.done k (omega (arith, c.loop-i-test.false, b)) }
-
--- LOST add-places overflow-add-places
-
--- LOST add-places-2 overflow-add-places-2

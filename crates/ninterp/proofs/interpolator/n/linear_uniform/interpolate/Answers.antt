@@ -8,19 +8,14 @@ use lib.ListN.{length}
 use borrow.Author.Rules.{rules}
 use Rattle.ninterp.proofs.interpolator.n.linear_uniform.interpolate.Goals as goal
 
-abbrev start : goal.Else-fault-ne0 → goal.Start
-start (goal.at.None c).Else-fault-ne0 = (goal.at.None c).Start
-
--- what is known where nothing was refused
-known : (e : goal.Else-fault-ne0) → LookupJudged (start e).args.shape (start e).args.nodes.now (start e).args.values.now (start e).args.point.now
-known (goal.at.None c).Else-fault-ne0 = linear_uniform_judged (start (goal.at.None c).Else-fault-ne0).args.shape (start (goal.at.None c).Else-fault-ne0).args.nodes.now (start (goal.at.None c).Else-fault-ne0).args.values.now (start (goal.at.None c).Else-fault-ne0).args.point.now (passes _ _ e.linear_uniform_fault-fault.ensures e.if-fault-ne0.false)
-
 pub returns-then-fault-ne0 : goal.returns-then-fault-ne0
 unfolding linear_uniform_answer
 returns-then-fault-ne0 c = then_stops _ _ c.linear_uniform_fault-fault.ensures _ _ c.if-fault-ne0.true c.refuse.ensures
 
 pub interpolated-requires : goal.interpolated-requires
-interpolated-requires c κs = known c
+interpolated-requires c =
+    let known : LookupJudged c.args.shape c.args.nodes.now c.args.values.now c.args.point.now = linear_uniform_judged c.args.shape c.args.nodes.now c.args.values.now c.args.point.now (passes _ _ c.linear_uniform_fault-fault.ensures c.if-fault-ne0.false) in
+    known
 
 pub returns : goal.returns
 unfolding linear_uniform_answer

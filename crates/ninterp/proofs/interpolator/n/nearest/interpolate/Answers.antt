@@ -11,22 +11,18 @@ use Rattle.ninterp.proofs.Lookups.{lookup_judged_lem, four_at_lem, picks_nearest
 use borrow.Author.Rules.{rules}
 use Rattle.ninterp.proofs.interpolator.n.nearest.interpolate.Goals as goal
 
-abbrev start : goal.Else-fault-ne0 → goal.Start
-start (goal.at.None c).Else-fault-ne0 = (goal.at.None c).Start
-
--- what is known where nothing was refused
-known : (e : goal.Else-fault-ne0) → LookupJudged (start e).args.shape (start e).args.nodes.now (start e).args.values.now (start e).args.point.now
-known (goal.at.None c).Else-fault-ne0 = lookup_judged_lem (start (goal.at.None c).Else-fault-ne0).args.shape (start (goal.at.None c).Else-fault-ne0).args.nodes.now (start (goal.at.None c).Else-fault-ne0).args.values.now (start (goal.at.None c).Else-fault-ne0).args.point.now (passes _ _ e.lookup_fault-fault.ensures e.if-fault-ne0.false)
-
 pub returns-then-fault-ne0 : goal.returns-then-fault-ne0
 unfolding nearest_answer
 returns-then-fault-ne0 c = then_stops _ _ c.lookup_fault-fault.ensures _ _ c.if-fault-ne0.true c.refuse.ensures
 
 pub stored-requires : goal.stored-requires
-stored-requires c κs = (known (goal.at.stored-requires c).Else-fault-ne0, (known (goal.at.stored-requires c).Else-fault-ne0).four)
+stored-requires c =
+    let known : LookupJudged c.args.shape c.args.nodes.now c.args.values.now c.args.point.now = lookup_judged_lem c.args.shape c.args.nodes.now c.args.values.now c.args.point.now (passes _ _ c.lookup_fault-fault.ensures c.if-fault-ne0.false) in
+    record { lookup_judged = known; axes_in_bounds = (known).four }
 
 pub returns : goal.returns
 unfolding nearest_answer
 returns c =
+    let known : LookupJudged c.args.shape c.args.nodes.now c.args.values.now c.args.point.now = lookup_judged_lem c.args.shape c.args.nodes.now c.args.values.now c.args.point.now (passes _ _ c.lookup_fault-fault.ensures c.if-fault-ne0.false) in
     let s = start (goal.at.returns c).Else-fault-ne0 in
-    then_goes_on _ _ c.lookup_fault-fault.ensures _ _ c.if-fault-ne0.false (c.stored.ensures ∙ ap answered (picks_nearest (four_of 2) (counts_of s.args.shape) s.args.nodes.now s.args.values.now s.args.point.now (λ a l. omega (arith, four_at_lem 2 a (omega (arith, (known (goal.at.returns c).Else-fault-ne0).count, (known (goal.at.returns c).Else-fault-ne0).four))))))
+    then_goes_on _ _ c.lookup_fault-fault.ensures _ _ c.if-fault-ne0.false (c.stored.ensures ∙ ap answered (picks_nearest (four_of 2) (counts_of s.args.shape) s.args.nodes.now s.args.values.now s.args.point.now (λ a l. omega (arith, four_at_lem 2 a (omega (arith, (known).count, (known).four))))))

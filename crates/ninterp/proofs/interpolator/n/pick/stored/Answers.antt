@@ -7,20 +7,15 @@ use Rattle.ninterp.proofs.Lookups.{stored_at}
 use borrow.Author.Rules.{rules}
 use Rattle.ninterp.proofs.interpolator.n.pick.stored.Goals as goal
 
-abbrev start : goal.After-pick_place-at → goal.Start
-start (goal.at.None c).After-pick_place-at = (goal.at.None c).Start
-
 pub pick_place-at-requires : goal.pick_place-at-requires
-pick_place-at-requires c κs =
+pick_place-at-requires c =
     let j = c.requires.lookup_judged in
     (record { grid = j.grid; four = j.four; read = omega (arith, j.read); finites = j.finites }, c.requires.axes_in_bounds)
 
 pub bounds-values-at : goal.bounds-values-at
-bounds-values-at c = omega (arith, c.pick_place-at.ensures.below, (start (goal.at.bounds-values-at c).After-pick_place-at).requires.0.stored)
+bounds-values-at c = omega (arith, c.pick_place-at.ensures.below, c.requires.lookup_judged.stored)
 
 pub returns : goal.returns
 returns c =
     let s = start (goal.at.returns c).After-pick_place-at in
     c.succeed.ensures ∙ ap answered (stored_at (pick_rule s.args.picks.now) (counts_of s.args.shape) s.args.nodes.now s.args.values.now s.args.point.now _ c.pick_place-at.ensures.same)
-
--- LOST mul-succeed overflow-mul-succeed

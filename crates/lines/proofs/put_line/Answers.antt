@@ -12,7 +12,8 @@ use Rattle.lines.proofs.put_line.Goals as goal
 
 pub returns-then-not-within : goal.returns-then-not-within
 returns-then-not-within c =
-    line_left c.args.a c.args.out.now c.args.at (sym c.within.ensures ∙ not-true c.within.result c.if-not-within.true-raw)
+    let all = line_left c.args.a c.args.out.now c.args.at (sym c.within.ensures ∙ not-true c.within.result c.if-not-within.true-raw) in
+    record { value = all.0; upper_bound = all.1 }
 
 pub put_ok-requires : goal.put_ok-requires
 put_ok-requires c =
@@ -31,11 +32,13 @@ put_no-requires c =
 pub returns-then-a-eq0 : goal.returns-then-a-eq0
 returns-then-a-eq0 c =
     let fits : leb (c.args.at + longest) (length c.args.out.now) ≡ true = sym c.within.ensures ∙ not-false c.within.result c.if-not-within.false-raw in
-    let small : length (line_of c.args.a) ≤ longest = let a = c.args.a in line_fits a (omega arith) (omega arith) (omega arith) in
-    line-put c.args.a c.args.out.now c.args.at (fits) (small) (rw (line_ok c.args.a c.if-a-eq0.true) c.put_ok.ensures)
+    let small : length (line_of c.args.a) ≤ longest = let a = c.args.a in
+    let all = line_fits a (omega arith) (omega arith) (omega arith) in line-put c.args.a c.args.out.now c.args.at (fits) (small) (rw (line_ok c.args.a c.if-a-eq0.true) c.put_ok.ensures) in
+    record { value = all.0; upper_bound = all.1 }
 
 pub returns-else-a-eq0 : goal.returns-else-a-eq0
 returns-else-a-eq0 c =
     let fits : leb (c.args.at + longest) (length c.args.out.now) ≡ true = sym c.within.ensures ∙ not-false c.within.result c.if-not-within.false-raw in
-    let small : length (line_of c.args.a) ≤ longest = let a = c.args.a in line_fits a (omega arith) (omega arith) (omega arith) in
-    line-put c.args.a c.args.out.now c.args.at (fits) (small) (rw (line_no c.args.a c.if-a-eq0.false) c.put_no.ensures)
+    let small : length (line_of c.args.a) ≤ longest = let a = c.args.a in
+    let all = line_fits a (omega arith) (omega arith) (omega arith) in line-put c.args.a c.args.out.now c.args.at (fits) (small) (rw (line_no c.args.a c.if-a-eq0.false) c.put_no.ensures) in
+    record { value = all.0; upper_bound = all.1 }

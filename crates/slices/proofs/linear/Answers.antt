@@ -14,7 +14,8 @@ use Rattle.slices.proofs.linear.Goals as goal
 pub returns-then-fault-ne0 : goal.returns-then-fault-ne0
 unfolding linear_slice linear_sliced linear_slice_fault
 returns-then-fault-ne0 c =
-    sliced _ _ _ (or_kept _ _ c.linear_front-fault.ensures _ _ _ c.if-fault-ne0.true) _ (answer_refused _ _ _ c.if-fault-ne0.true _ c.refused_slice.ensures)
+    let all = sliced _ _ _ (or_kept _ _ c.linear_front-fault.ensures _ _ _ c.if-fault-ne0.true) _ (answer_refused _ _ _ c.if-fault-ne0.true _ c.refused_slice.ensures) in
+    record { value = all.0; out_after = all.1 }
 
 pub linear_judged-fault-requires : goal.linear_judged-fault-requires
 linear_judged-fault-requires c =

@@ -14,7 +14,8 @@ use Rattle.slices.proofs.linear_uniform.Goals as goal
 pub returns-then-fault-ne0 : goal.returns-then-fault-ne0
 unfolding linear_uniform_slice linear_uniform_sliced linear_uniform_slice_fault
 returns-then-fault-ne0 c =
-    sliced _ _ _ (or_kept _ _ c.linear_uniform_front-fault.ensures _ _ _ c.if-fault-ne0.true) _ (answer_refused _ _ _ c.if-fault-ne0.true _ c.refused_slice.ensures)
+    let all = sliced _ _ _ (or_kept _ _ c.linear_uniform_front-fault.ensures _ _ _ c.if-fault-ne0.true) _ (answer_refused _ _ _ c.if-fault-ne0.true _ c.refused_slice.ensures) in
+    record { value = all.0; out_after = all.1 }
 
 pub linear_judged-fault-requires : goal.linear_judged-fault-requires
 linear_judged-fault-requires c =

@@ -13,7 +13,8 @@ use Rattle.slices.proofs.nearest.Goals as goal
 pub returns-then-fault-ne0 : goal.returns-then-fault-ne0
 unfolding nearest_slice nearest_sliced nearest_slice_fault
 returns-then-fault-ne0 c =
-    sliced _ _ _ (or_kept _ _ c.nearest_front-fault.ensures _ _ _ c.if-fault-ne0.true) _ (answer_refused _ _ _ c.if-fault-ne0.true _ c.refused_slice.ensures)
+    let all = sliced _ _ _ (or_kept _ _ c.nearest_front-fault.ensures _ _ _ c.if-fault-ne0.true) _ (answer_refused _ _ _ c.if-fault-ne0.true _ c.refused_slice.ensures) in
+    record { value = all.0; out_after = all.1 }
 
 pub pick_judged-fault-requires : goal.pick_judged-fault-requires
 pick_judged-fault-requires c =

@@ -16,7 +16,8 @@ use Rattle.slices.proofs.step.Goals as goal
 pub returns-then-fault-ne0 : goal.returns-then-fault-ne0
 unfolding step_slice step_sliced step_slice_fault
 returns-then-fault-ne0 c =
-    sliced _ _ _ (or_kept _ _ c.step_front-fault.ensures _ _ _ c.if-fault-ne0.true) _ (answer_refused _ _ _ c.if-fault-ne0.true _ c.refused_slice.ensures)
+    let all = sliced _ _ _ (or_kept _ _ c.step_front-fault.ensures _ _ _ c.if-fault-ne0.true) _ (answer_refused _ _ _ c.if-fault-ne0.true _ c.refused_slice.ensures) in
+    record { value = all.0; out_after = all.1 }
 
 pub bounds-directions-axis : goal.bounds-directions-axis
 bounds-directions-axis c =

@@ -12,7 +12,7 @@ returns-then-t c = cell_below _ _ c.if-t.true
 
 pub truncating_f64_to_u64-whole-requires : goal.truncating_f64_to_u64-whole-requires
 unfolding of_bits
-truncating_f64_to_u64-whole-requires c = (subst T (sym (above_minus_one _ c.if-t.false c.if-t-2.true)) tt, subst T (sym c.if-t-2.true) tt)
+truncating_f64_to_u64-whole-requires c = record { lower_bound = subst T (sym (above_minus_one _ c.if-t.false c.if-t-2.true)) tt; upper_bound = subst T (sym c.if-t-2.true) tt }
 
 pub returns-then-whole-n : goal.returns-then-whole-n
 unfolding of_bits

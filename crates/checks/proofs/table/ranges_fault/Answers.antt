@@ -8,11 +8,8 @@ use mathlib.Core.Path.{ap, ◌∙◌}
 use Rattle.answer.specs.declared.Fault.{Fault}
 use Rattle.checks.specs.Numbers.{range_fault, ranges_fault}
 use Rattle.checks.proofs.table.Axes as axes
+use Rattle.checks.proofs.table.ranges_fault.Invariants.{row_of}
 use Rattle.checks.proofs.table.ranges_fault.Goals as goal
-
--- 11 of one axis, of its reading
-abbrev row_of : List Float → ℕ → List Float → Fault
-row_of readings a nodes = range_fault a nodes (get_or readings a nan)
 
 pub loop-a-init : goal.loop-a-init
 loop-a-init c = axes.begin _ _ _ _ _ _ c.counts_of-counts.ensures c.axes_of-axes.ensures.0

@@ -53,7 +53,7 @@ slice_bounds-end-end-2 c = sym (length-take-le _ _ c.loop.invariant.holds)
 pub end-last-requires : goal.end-last-requires
 end-last-requires c =
     let s = start (goal.at.end-last-requires c).After-slice_known-2-1 in
-    (feed_report s.pre.0 c.loop.invariant, omega (arith, s.pre.1.1))
+    record { reported = feed_report s.pre.0 c.loop.invariant; report_most_in_bounds = omega (arith, s.pre.1.1) }
 
 pub returns : goal.returns
 returns c =

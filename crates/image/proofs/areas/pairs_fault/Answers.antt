@@ -8,11 +8,8 @@ use Rattle.answer.proofs.Orders.{passes, fails, first_step, first_stop, first_en
 use Rattle.image.specs.Scaffolding.{asked_of}
 use Rattle.image.specs.declared.areas.Areas.{Areas}
 use Rattle.image.specs.declared.areas.Asked.TheVariants.{SharedWith}
+use Rattle.image.proofs.areas.pairs_fault.Invariants.{pairs}
 use Rattle.image.proofs.areas.pairs_fault.Goals as goal
-
--- the first of the areas after area i that shares a byte with it
-abbrev pairs : Areas → ℕ → Fault
-pairs areas i = first_fault (asked_of (SharedWith i) areas) (i + 1) (areas.axes - i)
 
 pub loop-i-init : goal.loop-i-init
 loop-i-init c = refl

@@ -10,6 +10,10 @@ use Rattle.image.specs.declared.areas.Areas.{Areas}
 use Rattle.image.specs.declared.areas.Asked.TheVariants.{SharedWith}
 use Rattle.image.proofs.areas.pairs_fault.Given as goal
 
+-- the first of the areas after area i that shares a byte with it
+abbrev pub pairs : Areas → ℕ → Fault
+pairs areas i = first_fault (asked_of (SharedWith i) areas) (i + 1) (areas.axes - i)
+
 abbrev pub invariant-loop-i : goal.invariant-loop-i
 invariant-loop-i l = first_fault (pairs l.areas) 0 (l.areas.axes - 0) ≡ first_fault (pairs l.areas) l.i (l.areas.axes - l.i)
 

@@ -6,7 +6,9 @@ use borrow.Author.Rules.{rules}
 use Rattle.lines.proofs.report.put.Goals as goal
 
 pub returns-then-out-lt-MOST : goal.returns-then-out-lt-MOST
-returns-then-out-lt-MOST c = report_left _ _ c.if-out-lt-MOST.true
+returns-then-out-lt-MOST c =
+    let all = report_left _ _ c.if-out-lt-MOST.true in
+    record { value = all.0; upper_bound = all.1 }
 
 pub returns : goal.returns
 unfolding report_of tally_report

@@ -8,8 +8,7 @@ use borrow.Author.Rules.{rules}
 use Rattle.lines.proofs.report.put_number.Goals as goal
 
 pub returns-then-count-eq0 : goal.returns-then-count-eq0
-returns-then-count-eq0 c =
-    (rw (number_none c.args.number c.args.count c.if-count-eq0.true) (wrote_none c.args.out.now c.args.at), omega arith)
+returns-then-count-eq0 c = record { wrote = rw (number_none c.args.number c.args.count c.if-count-eq0.true) (wrote_none c.args.out.now c.args.at); upper_bound = omega arith }
 
 pub put_two-a-requires : goal.put_two-a-requires
 put_two-a-requires c =

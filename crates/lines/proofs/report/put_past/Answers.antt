@@ -9,8 +9,7 @@ use borrow.Author.Rules.{rules}
 use Rattle.lines.proofs.report.put_past.Goals as goal
 
 pub returns-then-not-past : goal.returns-then-not-past
-returns-then-not-past c =
-    (rw (not-true c.args.past c.if-not-past.true-raw) (wrote_none c.args.out.now c.args.at), omega arith)
+returns-then-not-past c = record { wrote = rw (not-true c.args.past c.if-not-past.true-raw) (wrote_none c.args.out.now c.args.at); upper_bound = omega arith }
 
 pub returns : goal.returns
 returns c =

@@ -24,7 +24,7 @@ loop-go-init c =
 pub step-n-requires : goal.step-n-requires
 step-n-requires c =
     let t = c.requires.table_of in
-    (t, feed_room t c.loop-go.invariant)
+    record { table_of = t; room = feed_room t c.loop-go.invariant }
 
 pub overflow_add-asked : goal.overflow_add-asked
 overflow_add-asked c =

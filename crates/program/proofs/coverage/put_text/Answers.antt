@@ -8,10 +8,8 @@ use Rattle.program.proofs.coverage.put_text.Goals as goal
 pub returns-then-loaded-ne0 : goal.returns-then-loaded-ne0
 returns-then-loaded-ne0 c =
     let s = start (goal.at.returns-then-loaded-ne0 c).After-struct_known-1 in
-    let e = c.put_line.ensures in (
-      line_fronted _ _ c.if-loaded-ne0.true (wrote_fronted (line_wrote s.args.loaded s.args.chunk.now 0 (omega (arith, s.pre.1)) e.0.0 e.0.1)),
-      omega (arith, e.1),
-    )
+    let e = c.put_line.ensures in
+    record { fronted = line_fronted _ _ c.if-loaded-ne0.true (wrote_fronted (line_wrote s.args.loaded s.args.chunk.now 0 (omega (arith, s.pre.1)) e.0.0 e.0.1)); upper_bound = omega (arith, e.1) }
 
 pub put_records-requires : goal.put_records-requires
 put_records-requires c =

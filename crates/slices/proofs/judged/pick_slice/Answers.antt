@@ -14,7 +14,9 @@ pub bounds-counts-axis : goal.bounds-counts-axis
 bounds-counts-axis c = let r = c.requires.ready in omega (arith, r.within, r.four)
 
 pub axis_start-start-requires : goal.axis_start-start-requires
-axis_start-start-requires c = let r = c.requires.ready in (omega (arith, r.within, r.four), few_before r)
+axis_start-start-requires c =
+    let r = c.requires.ready in
+    record { axis_bound = omega (arith, r.within, r.four); by_index = few_before r }
 
 pub overflow_add-end : goal.overflow_add-end
 overflow_add-end c = omega (arith, axis_ends c.requires.ready _ _ c.axis_start-start.ensures.value refl)
@@ -37,7 +39,10 @@ module _ (f : goal.After-pick_index-i) where
 
 -- the index in the nodes of the axis, as they were lent
 pub stride-inner-requires : goal.stride-inner-requires
-stride-inner-requires c = let r = c.requires.ready in (r.four, (r.within, few_at r))
+stride-inner-requires c =
+    let r = c.requires.ready in
+    let all = (r.four, (r.within, few_at r)) in
+    record { axes_bound = all.0; axis_lt_axes = all.1; by_index = all.2 }
 
 pub nonzero_div-count : goal.nonzero_div-count
 nonzero_div-count c = omega (arith, some_at c.requires.ready)

@@ -17,7 +17,9 @@ pub bounds-counts-axis : goal.bounds-counts-axis
 bounds-counts-axis c = let r = c.requires in omega (arith, r.within, r.four)
 
 pub axis_start-start-requires : goal.axis_start-start-requires
-axis_start-start-requires c = let r = c.requires in (omega (arith, r.within, r.four), few_before r)
+axis_start-start-requires c =
+    let r = c.requires in
+    record { axis_bound = omega (arith, r.within, r.four); by_index = few_before r }
 
 pub overflow_add-end : goal.overflow_add-end
 overflow_add-end c = omega (arith, axis_ends c.requires _ _ c.axis_start-start.ensures.value refl)

@@ -27,7 +27,7 @@ pub put_answer-written-requires : goal.put_answer-written-requires
 put_answer-written-requires c =
     let s = start (goal.at.put_answer-written-requires c).At-loop-count in
     let a = s.args in
-    (s.pre.0, (record_there a.shape a.nodes.now a.values.now a.size s.pre.1 a.records.now c.loop-count.at c.if-records-at.false, omega (arith, c.if-out-written-lt-LONGEST.false)))
+    record { known = s.pre.0; rec_len = (record_there a.shape a.nodes.now a.values.now a.size s.pre.1 a.records.now c.loop-count.at c.if-records-at.false, omega (arith, c.if-out-written-lt-LONGEST.false)) }
 
 pub loop-count-preserved : goal.loop-count-preserved
 loop-count-preserved c =

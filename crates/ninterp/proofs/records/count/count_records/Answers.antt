@@ -28,7 +28,7 @@ count_next-read-requires c =
     let there : c.args.size ≤ length c.args.records.now - c.loop-read.at = leb-true _ _ c.if-records-at.true-raw in
     let s = start (goal.at.count_next-read-requires c).At-loop-read in
     let a = s.args in
-    (s.pre.0, record_there a.shape a.nodes.now a.values.now a.size s.pre.1 a.records.now c.loop-read.at (there))
+    record { known = s.pre.0; rec_len = record_there a.shape a.nodes.now a.values.now a.size s.pre.1 a.records.now c.loop-read.at (there) }
 
 pub loop-read-smaller : goal.loop-read-smaller
 loop-read-smaller c =

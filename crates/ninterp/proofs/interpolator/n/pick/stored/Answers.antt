@@ -10,7 +10,7 @@ use Rattle.ninterp.proofs.interpolator.n.pick.stored.Goals as goal
 pub pick_place-at-requires : goal.pick_place-at-requires
 pick_place-at-requires c =
     let j = c.requires.lookup_judged in
-    (record { grid = j.grid; four = j.four; read = omega (arith, j.read); finites = j.finites }, c.requires.axes_in_bounds)
+    record { readable_table = record { grid = j.grid; four = j.four; read = omega (arith, j.read); finites = j.finites }; axes_in_bounds = c.requires.axes_in_bounds }
 
 pub bounds-values-at : goal.bounds-values-at
 bounds-values-at c = omega (arith, c.pick_place-at.ensures.below, c.requires.lookup_judged.stored)

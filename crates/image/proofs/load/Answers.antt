@@ -21,12 +21,12 @@ returns-then-fault-ne0 c =
 
 pub read-requires : goal.read-requires
 read-requires c =
-    let known : good (load_fault c.args.img.now (length c.args.nodes.now) (length c.args.values.now)) ≡ true = passes _ _ c.load_fault-fault.ensures c.if-fault-ne0.false in
+    let known : good (load_fault c.args.img.now (length c.args.nodes.now) (length c.args.values.now)) ≡ true = (passes _ _ c.load_fault-fault.ensures c.if-fault-ne0.false) in
     loaded_rooms _ _ _ (known)
 
 pub returns : goal.returns
 returns c =
-    let known : good (load_fault c.args.img.now (length c.args.nodes.now) (length c.args.values.now)) ≡ true = passes _ _ c.load_fault-fault.ensures c.if-fault-ne0.false in
+    let known : good (load_fault c.args.img.now (length c.args.nodes.now) (length c.args.values.now)) ≡ true = (passes _ _ c.load_fault-fault.ensures c.if-fault-ne0.false) in
     let s = start (goal.at.returns c).After-load_fault-fault in
     let yes = c.if-fault-ne0.false in
     record {

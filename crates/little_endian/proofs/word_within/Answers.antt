@@ -9,12 +9,12 @@ loop-i-init c = reading_start _ _ _
 
 pub overflow_mul-x : goal.overflow_mul-x
 overflow_mul-x c =
-    let room : c.loop-i.x * 256 + c.wide-b.result < 2 ^ 64 = reading_room _ _ _ _ _ _ c.wide-b.ensures.1 c.requires.1 c.loop-i-test.true c.loop-i.invariant c.wide-b.ensures.0 c.requires.0 in
+    let room : c.loop-i.x * 256 + c.wide-b.result < 2 ^ 64 = (reading_room _ _ _ _ _ _ c.wide-b.ensures.1 c.requires.1 c.loop-i-test.true c.loop-i.invariant c.wide-b.ensures.0 c.requires.0) in
     omega (arith, room)
 
 pub overflow_add-x : goal.overflow_add-x
 overflow_add-x c =
-    let room : c.loop-i.x * 256 + c.wide-b.result < 2 ^ 64 = reading_room _ _ _ _ _ _ c.wide-b.ensures.1 c.requires.1 c.loop-i-test.true c.loop-i.invariant c.wide-b.ensures.0 c.requires.0 in
+    let room : c.loop-i.x * 256 + c.wide-b.result < 2 ^ 64 = (reading_room _ _ _ _ _ _ c.wide-b.ensures.1 c.requires.1 c.loop-i-test.true c.loop-i.invariant c.wide-b.ensures.0 c.requires.0) in
     omega (arith, room)
 
 pub loop-i-preserved : goal.loop-i-preserved

@@ -18,12 +18,12 @@ returns-then-fault-ne0 c =
 
 pub pick_judged-fault-requires : goal.pick_judged-fault-requires
 pick_judged-fault-requires c =
-    let known : Ready c.args.shape c.args.nodes.now c.args.values.now c.args.axis = nearest_ready _ _ _ _ (passes _ _ c.nearest_front-fault.ensures c.if-fault-ne0.false) in
+    let known : Ready c.args.shape c.args.nodes.now c.args.values.now c.args.axis = (nearest_ready _ _ _ _ (passes _ _ c.nearest_front-fault.ensures c.if-fault-ne0.false)) in
     known
 
 pub slice_answer-requires : goal.slice_answer-requires
 slice_answer-requires c =
-    let known : Ready c.args.shape c.args.nodes.now c.args.values.now c.args.axis = nearest_ready _ _ _ _ (passes _ _ c.nearest_front-fault.ensures c.if-fault-ne0.false) in
+    let known : Ready c.args.shape c.args.nodes.now c.args.values.now c.args.axis = (nearest_ready _ _ _ _ (passes _ _ c.nearest_front-fault.ensures c.if-fault-ne0.false)) in
     let j = known in
     record { le_axes = omega (arith, j.many); axes_bound = j.four }
 

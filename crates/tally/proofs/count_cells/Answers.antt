@@ -16,11 +16,11 @@ loop-a-preserved c =
     let few : c.least-n.result ≤ 4 = omega (arith, c.least-n.ensures) in (
       omega arith,
       cells_step c.args.found c.least-n.result c.loop-a.a c.loop-a.cells _ _ c.loop-a-test.true
-          (omega (arith, c.well-formed.1.1.0.1.0.1, few)) c.count_cell.ensures c.loop-a.invariant.1,
+          (omega (arith, c.well_formed.1.1.0.1.0.1, few)) c.count_cell.ensures c.loop-a.invariant.1,
     )
 
 pub returns : goal.returns
 returns c =
     cells_done c.args.found c.least-n.result c.loop-a.a c.loop-a.cells _ c.loop-a-test.false c.loop-a.invariant.1
     ∙ ap (cells_more c.args.cells.now 0)
-    (counts_least c.args.found c.least-n.result c.args.axes c.well-formed.1.1.0.1.0.1 c.least-n.ensures)
+    (counts_least c.args.found c.least-n.result c.args.axes c.well_formed.1.1.0.1.0.1 c.least-n.ensures)

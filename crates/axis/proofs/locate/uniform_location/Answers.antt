@@ -7,7 +7,7 @@ use Rattle.axis.proofs.locate.uniform_location.Goals as goal
 pub bounds-grid-lower : goal.bounds-grid-lower
 unfolding gap
 bounds-grid-lower c =
-    let fits : c.uniform_index-lower.result + 1 < length c.args.grid.now = omega (arith, c.uniform_index-lower.ensures, uniform_index_fits (node c.args.grid.now 0) (gap c.args.grid.now 0) (length c.args.grid.now) c.args.point c.requires) in
+    let fits : c.uniform_index-lower.result + 1 < length c.args.grid.now = (omega (arith, c.uniform_index-lower.ensures, uniform_index_fits (node c.args.grid.now 0) (gap c.args.grid.now 0) (length c.args.grid.now) c.args.point c.requires)) in
     omega (arith, fits)
 
 pub returns : goal.returns

@@ -17,11 +17,11 @@ pub loop-d-preserved : goal.loop-d-preserved
 loop-d-preserved c =
     let m = c.least-d in
     let few : m.result ≤ 4 = omega (arith, m.ensures) in
-    (omega arith, c.grow-count.ensures ∙ count-step c.args.locations m.result c.loop-d.d c.loop-d.count few (omega (arith, c.well-formed.0.1.0.1, few)) c.loop-d-test.true c.loop-d.invariant.0 c.loop-d.invariant.1)
+    (omega arith, c.grow-count.ensures ∙ count-step c.args.locations m.result c.loop-d.d c.loop-d.count few (omega (arith, c.well_formed.0.1.0.1, few)) c.loop-d-test.true c.loop-d.invariant.0 c.loop-d.invariant.1)
 
 pub returns : goal.returns
 returns c =
     let z : c.loop-d.d ≡ 0 = omega arith in
     c.loop-d.invariant.1
     ∙ ap (λ (x : ℕ). 2 ^ length (diffs (drop x (take c.least-d.result c.args.locations)))) z
-    ∙ ap (λ (ls : List AxisLocation). 2 ^ length (diffs ls)) (counts_least c.args.locations c.least-d.result c.args.n c.well-formed.0.1.0.1 c.least-d.ensures)
+    ∙ ap (λ (ls : List AxisLocation). 2 ^ length (diffs ls)) (counts_least c.args.locations c.least-d.result c.args.n c.well_formed.0.1.0.1 c.least-d.ensures)

@@ -13,18 +13,18 @@ use borrow.Author.Rules.{rules}
 use Rattle.blend.proofs.fold.fold.Goals as goal
 
 pub loop-d-init : goal.loop-d-init
-loop-d-init c = ((omega arith, c.well-formed.0.1.0.1), record { counted = c.corner_count-half.ensures; same = refl })
+loop-d-init c = ((omega arith, c.well_formed.0.1.0.1), record { counted = c.corner_count-half.ensures; same = refl })
 
 pub merge-requires : goal.merge-requires
 merge-requires c =
     let few : c.least-axes.result ≤ 4 = omega (arith, c.least-axes.ensures) in
-    let z = fold_at c.args.locations c.least-axes.result c.loop-d.d c.loop-d-test.true (omega (arith, c.well-formed.1.0.1.0.1, few)) c.loop-d.invariant.1 in
+    let z = fold_at c.args.locations c.least-axes.result c.loop-d.d c.loop-d-test.true (omega (arith, c.well_formed.1.0.1.0.1, few)) c.loop-d.invariant.1 in
     omega (arith, c.loop-d.invariant.0.1, fold_fits (get_or c.args.locations c.loop-d.d (Exact 0)) (drop (c.loop-d.d + 1) (take c.least-axes.result c.args.locations)) c.loop-d.half c.half_of_lem.result z.counted (count_few c.args.locations c.least-axes.result c.loop-d.d c.loop-d.half few c.loop-d.invariant.1.counted) c.half_of_lem.ensures)
 
 pub loop-d-preserved : goal.loop-d-preserved
 loop-d-preserved c =
     let few : c.least-axes.result ≤ 4 = omega (arith, c.least-axes.ensures) in
-    let z = fold_at c.args.locations c.least-axes.result c.loop-d.d c.loop-d-test.true (omega (arith, c.well-formed.1.0.1.0.1, few)) c.loop-d.invariant.1 in (
+    let z = fold_at c.args.locations c.least-axes.result c.loop-d.d c.loop-d-test.true (omega (arith, c.well_formed.1.0.1.0.1, few)) c.loop-d.invariant.1 in (
       (omega (arith, c.loop-d-test.true), c.merge.auto.1.0 ∙ c.loop-d.invariant.0.1),
       fold_step (get_or c.args.locations c.loop-d.d (Exact 0)) (drop (c.loop-d.d + 1) (take c.least-axes.result c.args.locations)) _ c.loop-d.v _ c.loop-d.half c.half_of_lem.result z c.half_of_lem.ensures c.merge.ensures,
     )
@@ -33,4 +33,4 @@ pub returns : goal.returns
 returns c =
     let m = c.least-axes.result in
     fold_done c.args.locations m c.loop-d.d c.loop-d-test.false c.loop-d.invariant.1
-    ∙ ap (λ (ls : List AxisLocation). butterfly (diffs ls) c.args.vals) (counts_least c.args.locations m c.args.n c.well-formed.1.0.1.0.1 c.least-axes.ensures)
+    ∙ ap (λ (ls : List AxisLocation). butterfly (diffs ls) c.args.vals) (counts_least c.args.locations m c.args.n c.well_formed.1.0.1.0.1 c.least-axes.ensures)

@@ -14,12 +14,12 @@ is_below n = omega (arith, n.is, n.below)
 
 pub five-at-requires : goal.five-at-requires
 five-at-requires c =
-    let five_in : c.axes_of-axes.result < 5 = omega (arith, c.axes_of-axes.ensures.is, axes_four _ c.requires) in
+    let five_in : c.axes_of-axes.result < 5 = (omega (arith, c.axes_of-axes.ensures.is, axes_four _ c.requires)) in
     five_in
 
 pub five-floats-requires : goal.five-floats-requires
 five-floats-requires c =
-    let five_in : c.axes_of-axes.result < 5 = omega (arith, c.axes_of-axes.ensures.is, axes_four _ c.requires) in
+    let five_in : c.axes_of-axes.result < 5 = (omega (arith, c.axes_of-axes.ensures.is, axes_four _ c.requires)) in
     five_in
 
 pub returns : goal.returns

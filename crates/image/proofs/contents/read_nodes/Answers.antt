@@ -25,17 +25,17 @@ loop-a-init c =
 
 pub count_of-count-requires : goal.count_of-count-requires
 count_of-count-requires c =
-    let few : c.loop-a.a ≤ 4 = omega (arith, c.loop-a-test.true, c.axes_of-axes.ensures.is, axes_four _ c.requires.judged) in
+    let few : c.loop-a.a ≤ 4 = (omega (arith, c.loop-a-test.true, c.axes_of-axes.ensures.is, axes_four _ c.requires.judged)) in
     few
 
 pub offset_of-at-requires : goal.offset_of-at-requires
 offset_of-at-requires c =
-    let few : c.loop-a.a ≤ 4 = omega (arith, c.loop-a-test.true, c.axes_of-axes.ensures.is, axes_four _ c.requires.judged) in
+    let few : c.loop-a.a ≤ 4 = (omega (arith, c.loop-a-test.true, c.axes_of-axes.ensures.is, axes_four _ c.requires.judged)) in
     few
 
 pub read_floats-requires : goal.read_floats-requires
 read_floats-requires c =
-    let longer : length (nodes_from c.args.img.now c.loop-a.a (c.axes_of-axes.result - c.loop-a.a)) ≡ count_field c.args.img.now c.loop-a.a + length (nodes_from c.args.img.now (c.loop-a.a + 1) (c.axes_of-axes.result - (c.loop-a.a + 1))) = nodes_length c.args.img.now c.axes_of-axes.result c.loop-a.a c.loop-a-test.true in
+    let longer : length (nodes_from c.args.img.now c.loop-a.a (c.axes_of-axes.result - c.loop-a.a)) ≡ count_field c.args.img.now c.loop-a.a + length (nodes_from c.args.img.now (c.loop-a.a + 1) (c.axes_of-axes.result - (c.loop-a.a + 1))) = (nodes_length c.args.img.now c.axes_of-axes.result c.loop-a.a c.loop-a-test.true) in
     let i = c.loop-a.invariant in
     record {
       area = record { near = c.offset_of-at.ensures.below; few = c.count_of-count.ensures.below };
@@ -44,12 +44,12 @@ read_floats-requires c =
 
 pub overflow_add-to : goal.overflow_add-to
 overflow_add-to c =
-    let longer : length (nodes_from c.args.img.now c.loop-a.a (c.axes_of-axes.result - c.loop-a.a)) ≡ count_field c.args.img.now c.loop-a.a + length (nodes_from c.args.img.now (c.loop-a.a + 1) (c.axes_of-axes.result - (c.loop-a.a + 1))) = nodes_length c.args.img.now c.axes_of-axes.result c.loop-a.a c.loop-a-test.true in
+    let longer : length (nodes_from c.args.img.now c.loop-a.a (c.axes_of-axes.result - c.loop-a.a)) ≡ count_field c.args.img.now c.loop-a.a + length (nodes_from c.args.img.now (c.loop-a.a + 1) (c.axes_of-axes.result - (c.loop-a.a + 1))) = (nodes_length c.args.img.now c.axes_of-axes.result c.loop-a.a c.loop-a-test.true) in
     omega (arith, c.count_of-count.ensures.is, longer, c.loop-a.invariant.fits)
 
 pub loop-a-preserved : goal.loop-a-preserved
 loop-a-preserved c =
-    let longer : length (nodes_from c.args.img.now c.loop-a.a (c.axes_of-axes.result - c.loop-a.a)) ≡ count_field c.args.img.now c.loop-a.a + length (nodes_from c.args.img.now (c.loop-a.a + 1) (c.axes_of-axes.result - (c.loop-a.a + 1))) = nodes_length c.args.img.now c.axes_of-axes.result c.loop-a.a c.loop-a-test.true in
+    let longer : length (nodes_from c.args.img.now c.loop-a.a (c.axes_of-axes.result - c.loop-a.a)) ≡ count_field c.args.img.now c.loop-a.a + length (nodes_from c.args.img.now (c.loop-a.a + 1) (c.axes_of-axes.result - (c.loop-a.a + 1))) = (nodes_length c.args.img.now c.axes_of-axes.result c.loop-a.a c.loop-a-test.true) in
     record {
       on = omega (arith, c.loop-a-test.true);
       same = ap length c.read_floats.ensures ∙ length-sets c.loop-a.out c.loop-a.to (floats_at c.args.img.now c.offset_of-at.result c.count_of-count.result) ∙ c.loop-a.invariant.same;

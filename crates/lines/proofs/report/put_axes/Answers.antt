@@ -19,5 +19,5 @@ loop-a-preserved c =
 pub returns : goal.returns
 returns c =
     let n : length (held (take c.args.axes c.args.counts)) ≡ c.axes_of-n.result =
-    held-length (take c.args.axes c.args.counts) ∙ length-take c.args.axes c.args.counts ∙ ap (min c.args.axes) c.well-formed.1.0.1.0.1 ∙ sym c.axes_of-n.ensures in
+    held-length (take c.args.axes c.args.counts) ∙ length-take c.args.axes c.args.counts ∙ ap (min c.args.axes) c.well_formed.1.0.1.0.1 ∙ sym c.axes_of-n.ensures in
     record { wrote = rw n (join_end c.loop-a.invariant c.loop-a-test.false); upper_bound = omega arith }

@@ -14,26 +14,26 @@ returns-then-fault-ne0 c =
 
 pub slice_bounds-readings-end : goal.slice_bounds-readings-end
 slice_bounds-readings-end c =
-    let own : take c.args.shape.axes c.readings_of-readings.result ≡ record_readings c.args.shape c.args.rec.now = let s = start (goal.at.slice_bounds-readings-end c).After-kind_fault-fault in let a = s.args in read_four a.shape a.rec.now c.readings_of-readings.result c.readings_of-readings.ensures (whole_four a.shape (four s) a.nodes.now a.values.now a.rec.now a.table a.uniform s.pre.0.judged s.pre.0.spaced s.pre.1 _ c.kind_fault-fault.ensures c.if-fault-ne0.false) in
+    let own : take c.args.shape.axes c.readings_of-readings.result ≡ record_readings c.args.shape c.args.rec.now = (let s = start (goal.at.slice_bounds-readings-end c).After-kind_fault-fault in let a = s.args in read_four a.shape a.rec.now c.readings_of-readings.result c.readings_of-readings.ensures (whole_four a.shape (four s) a.nodes.now a.values.now a.rec.now a.table a.uniform s.pre.0.judged s.pre.0.spaced s.pre.1 _ c.kind_fault-fault.ensures c.if-fault-ne0.false)) in
     let a = c.args in
     read_enough a.shape a.rec.now c.readings_of-readings.result (own)
 
 pub slice_bounds-point_answer-end : goal.slice_bounds-point_answer-end
 slice_bounds-point_answer-end c =
-    let own : take c.args.shape.axes c.readings_of-readings.result ≡ record_readings c.args.shape c.args.rec.now = let s = start (goal.at.slice_bounds-point_answer-end c).After-kind_fault-fault in let a = s.args in read_four a.shape a.rec.now c.readings_of-readings.result c.readings_of-readings.ensures (whole_four a.shape (four s) a.nodes.now a.values.now a.rec.now a.table a.uniform s.pre.0.judged s.pre.0.spaced s.pre.1 _ c.kind_fault-fault.ensures c.if-fault-ne0.false) in
+    let own : take c.args.shape.axes c.readings_of-readings.result ≡ record_readings c.args.shape c.args.rec.now = (let s = start (goal.at.slice_bounds-point_answer-end c).After-kind_fault-fault in let a = s.args in read_four a.shape a.rec.now c.readings_of-readings.result c.readings_of-readings.ensures (whole_four a.shape (four s) a.nodes.now a.values.now a.rec.now a.table a.uniform s.pre.0.judged s.pre.0.spaced s.pre.1 _ c.kind_fault-fault.ensures c.if-fault-ne0.false)) in
     let a = c.args in
     sym (ap length (own) ∙ length_readings a.shape a.rec.now)
 
 pub point_answer-requires : goal.point_answer-requires
 point_answer-requires c =
-    let own : take c.args.shape.axes c.readings_of-readings.result ≡ record_readings c.args.shape c.args.rec.now = let s = start (goal.at.point_answer-requires c).After-kind_fault-fault in
+    let own : take c.args.shape.axes c.readings_of-readings.result ≡ record_readings c.args.shape c.args.rec.now = (let s = start (goal.at.point_answer-requires c).After-kind_fault-fault in let a = s.args in read_four a.shape a.rec.now c.readings_of-readings.result c.readings_of-readings.ensures (whole_four a.shape (four s) a.nodes.now a.values.now a.rec.now a.table a.uniform s.pre.0.judged s.pre.0.spaced s.pre.1 _ c.kind_fault-fault.ensures c.if-fault-ne0.false)) in
+    let s = start (goal.at.point_answer-requires c).After-kind_fault-fault in
     let a = s.args in
-    let all = read_four a.shape a.rec.now c.readings_of-readings.result c.readings_of-readings.ensures (whole_four a.shape (four s) a.nodes.now a.values.now a.rec.now a.table a.uniform s.pre.0.judged s.pre.0.spaced s.pre.1 _ c.kind_fault-fault.ensures c.if-fault-ne0.false) in let s = start (goal.at.point_answer-requires c).After-kind_fault-fault in let a = s.args in (whole-table a.shape (four s) a.nodes.now a.values.now a.rec.now a.table a.uniform s.pre.0.judged s.pre.0.spaced s.pre.1 _ c.kind_fault-fault.ensures c.if-fault-ne0.false, ap length (own) ∙ length_readings a.shape a.rec.now) in
-    record { values_value = all.0; point_len = all.1 }
+    record { values_value = whole-table a.shape (four s) a.nodes.now a.values.now a.rec.now a.table a.uniform s.pre.0.judged s.pre.0.spaced s.pre.1 _ c.kind_fault-fault.ensures c.if-fault-ne0.false; point_len = ap length (own) ∙ length_readings a.shape a.rec.now }
 
 pub returns : goal.returns
 returns c =
-    let own : take c.args.shape.axes c.readings_of-readings.result ≡ record_readings c.args.shape c.args.rec.now = let s = start (goal.at.returns c).After-kind_fault-fault in let a = s.args in read_four a.shape a.rec.now c.readings_of-readings.result c.readings_of-readings.ensures (whole_four a.shape (four s) a.nodes.now a.values.now a.rec.now a.table a.uniform s.pre.0.judged s.pre.0.spaced s.pre.1 _ c.kind_fault-fault.ensures c.if-fault-ne0.false) in
+    let own : take c.args.shape.axes c.readings_of-readings.result ≡ record_readings c.args.shape c.args.rec.now = (let s = start (goal.at.returns c).After-kind_fault-fault in let a = s.args in read_four a.shape a.rec.now c.readings_of-readings.result c.readings_of-readings.ensures (whole_four a.shape (four s) a.nodes.now a.values.now a.rec.now a.table a.uniform s.pre.0.judged s.pre.0.spaced s.pre.1 _ c.kind_fault-fault.ensures c.if-fault-ne0.false)) in
     let s = start (goal.at.returns c).After-kind_fault-fault in
     let a = s.args in
     whole_found a.shape (four s) a.nodes.now a.values.now a.rec.now a.table a.uniform s.pre.0.judged s.pre.0.spaced s.pre.1 _ c.kind_fault-fault.ensures c.if-fault-ne0.false _ (own) _ c.point_answer.ensures

@@ -26,4 +26,4 @@ pub returns : goal.returns
 returns c =
     let s = start (goal.at.returns c).After-load-arg-2-1 in
     run_texted coverage_report (c.load.ensures.0 s.pre.0 s.pre.1.0) c.load.ensures.1.0.1
-    (fronted_take c.put-text.ensures.0 (omega (arith, c.put-text.ensures.1, s.pre.1.1))) c.give.ensures
+    (fronted_take c.put_text.ensures.0 (omega (arith, c.put_text.ensures.1, s.pre.1.1))) c.give.ensures

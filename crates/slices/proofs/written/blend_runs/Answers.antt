@@ -22,12 +22,12 @@ run_length values k r h = length-take-le r (drop k values) (omega (arith, length
 
 pub returns-then-fault-ne0 : goal.returns-then-fault-ne0
 returns-then-fault-ne0 c =
-    let told : c.blend_fault-fault.result ≡ results_fault (blended_runs c.args.frac c.args.lower c.args.rest c.args.values.now) = let s = start (goal.at.returns-then-fault-ne0 c).After-blend_fault-fault in let r = s.args.rest in c.blend_fault-fault.ensures ∙ ap₂ (λ (i j : ℕ). results_fault (blends s.args.frac (take i (drop (s.args.lower * r) s.args.values.now)) (take j (drop (s.args.lower * r + r) s.args.values.now)))) (cut (s.args.lower * r) r) (cut (s.args.lower * r + r) r) in
+    let told : c.blend_fault-fault.result ≡ results_fault (blended_runs c.args.frac c.args.lower c.args.rest c.args.values.now) = (let s = start (goal.at.returns-then-fault-ne0 c).After-blend_fault-fault in let r = s.args.rest in c.blend_fault-fault.ensures ∙ ap₂ (λ (i j : ℕ). results_fault (blends s.args.frac (take i (drop (s.args.lower * r) s.args.values.now)) (take j (drop (s.args.lower * r + r) s.args.values.now)))) (cut (s.args.lower * r) r) (cut (s.args.lower * r + r) r)) in
     kept _ _ (told) _ _ c.if-fault-ne0.true
 
 pub returns : goal.returns
 returns c =
-    let told : c.blend_fault-fault.result ≡ results_fault (blended_runs c.args.frac c.args.lower c.args.rest c.args.values.now) = let s = start (goal.at.returns c).After-blend_fault-fault in let r = s.args.rest in c.blend_fault-fault.ensures ∙ ap₂ (λ (i j : ℕ). results_fault (blends s.args.frac (take i (drop (s.args.lower * r) s.args.values.now)) (take j (drop (s.args.lower * r + r) s.args.values.now)))) (cut (s.args.lower * r) r) (cut (s.args.lower * r + r) r) in
+    let told : c.blend_fault-fault.result ≡ results_fault (blended_runs c.args.frac c.args.lower c.args.rest c.args.values.now) = (let s = start (goal.at.returns c).After-blend_fault-fault in let r = s.args.rest in c.blend_fault-fault.ensures ∙ ap₂ (λ (i j : ℕ). results_fault (blends s.args.frac (take i (drop (s.args.lower * r) s.args.values.now)) (take j (drop (s.args.lower * r + r) s.args.values.now)))) (cut (s.args.lower * r) r) (cut (s.args.lower * r + r) r)) in
     let s = start (goal.at.returns c).After-blend_fault-fault in
     let r = s.args.rest in
     let from = s.args.lower * r in

@@ -14,14 +14,14 @@ use Rattle.slices.proofs.written.fill.Goals as goal
 
 pub overflow_mul-skip : goal.overflow_mul-skip
 overflow_mul-skip c =
-    let product_small : (m : ℕ) → m ≤ 64 → m * c.args.inner ≤ 64 * 4096 = λ m h. mul-le-mul h c.requires.small in
-    let skip_small : (c.args.n - 1) * c.args.inner ≤ 262144 = product_small (c.args.n - 1) (omega (arith, c.requires.few)) in
+    let product_small : (m : ℕ) → m ≤ 64 → m * c.args.inner ≤ 64 * 4096 = (λ m h. mul-le-mul h c.requires.small) in
+    let skip_small : (c.args.n - 1) * c.args.inner ≤ 262144 = (product_small (c.args.n - 1) (omega (arith, c.requires.few))) in
     omega (arith, skip_small)
 
 pub overflow_mul-from : goal.overflow_mul-from
 overflow_mul-from c =
-    let product_small : (m : ℕ) → m ≤ 64 → m * c.args.inner ≤ 64 * 4096 = λ m h. mul-le-mul h c.requires.small in
-    let from_small : c.args.i * c.args.inner ≤ 262144 = product_small c.args.i (omega (arith, c.requires.few, c.requires.in_axis)) in
+    let product_small : (m : ℕ) → m ≤ 64 → m * c.args.inner ≤ 64 * 4096 = (λ m h. mul-le-mul h c.requires.small) in
+    let from_small : c.args.i * c.args.inner ≤ 262144 = (product_small c.args.i (omega (arith, c.requires.few, c.requires.in_axis))) in
     omega (arith, from_small)
 
 pub loop-t-init : goal.loop-t-init
@@ -30,22 +30,22 @@ loop-t-init c =
 
 pub bounds-values-from : goal.bounds-values-from
 bounds-values-from c =
-    let from_in : c.loop-t.from < length c.args.values.now = omega (arith, c.loop-t.invariant.at, c.requires.reads c.loop-t.t c.loop-t-test.true) in
+    let from_in : c.loop-t.from < length c.args.values.now = (omega (arith, c.loop-t.invariant.at, c.requires.reads c.loop-t.t c.loop-t-test.true)) in
     from_in
 
 pub next_from-from-requires : goal.next_from-from-requires
 next_from-from-requires c =
-    let j_in : c.loop-t.j < c.args.inner = omega (arith, c.loop-t.invariant.in_run, mod-lt c.loop-t.t c.requires.some) in
-    let from_in : c.loop-t.from < length c.args.values.now = omega (arith, c.loop-t.invariant.at, c.requires.reads c.loop-t.t c.loop-t-test.true) in
-    let from_few : c.loop-t.from < 4096 = omega (arith, from_in, c.requires.stored) in
-    let product_small : (m : ℕ) → m ≤ 64 → m * c.args.inner ≤ 64 * 4096 = λ m h. mul-le-mul h c.requires.small in
-    let skip_small : (c.args.n - 1) * c.args.inner ≤ 262144 = product_small (c.args.n - 1) (omega (arith, c.requires.few)) in
+    let j_in : c.loop-t.j < c.args.inner = (omega (arith, c.loop-t.invariant.in_run, mod-lt c.loop-t.t c.requires.some)) in
+    let from_in : c.loop-t.from < length c.args.values.now = (omega (arith, c.loop-t.invariant.at, c.requires.reads c.loop-t.t c.loop-t-test.true)) in
+    let from_few : c.loop-t.from < 4096 = (omega (arith, from_in, c.requires.stored)) in
+    let product_small : (m : ℕ) → m ≤ 64 → m * c.args.inner ≤ 64 * 4096 = (λ m h. mul-le-mul h c.requires.small) in
+    let skip_small : (c.args.n - 1) * c.args.inner ≤ 262144 = (product_small (c.args.n - 1) (omega (arith, c.requires.few))) in
     let all = (j_in, (omega (arith, from_few), omega (arith, skip_small))) in
     record { j_lt_inner = all.0; from_bound = all.1; skip_bound = all.2 }
 
 pub next_in_run-j-requires : goal.next_in_run-j-requires
 next_in_run-j-requires c =
-    let j_in : c.loop-t.j < c.args.inner = omega (arith, c.loop-t.invariant.in_run, mod-lt c.loop-t.t c.requires.some) in
+    let j_in : c.loop-t.j < c.args.inner = (omega (arith, c.loop-t.invariant.in_run, mod-lt c.loop-t.t c.requires.some)) in
     j_in
 
 pub loop-t-preserved : goal.loop-t-preserved

@@ -9,14 +9,14 @@ use Rattle.writer.proofs.header.header_fields.Goals as goal
 
 pub overflow_mul-length : goal.overflow_mul-length
 overflow_mul-length c =
-    let values : c.sizes-held.result.values ≡ size (counts_of c.args.shape) = holds_values _ c.requires _ c.sizes-held.ensures in
-    let small : c.sizes-held.result.values ≤ 4096 = omega (arith, values, shape_size _ c.requires) in
+    let values : c.sizes-held.result.values ≡ size (counts_of c.args.shape) = (holds_values _ c.requires _ c.sizes-held.ensures) in
+    let small : c.sizes-held.result.values ≤ 4096 = (omega (arith, values, shape_size _ c.requires)) in
     omega (arith, small)
 
 pub overflow_add-length : goal.overflow_add-length
 overflow_add-length c =
-    let values : c.sizes-held.result.values ≡ size (counts_of c.args.shape) = holds_values _ c.requires _ c.sizes-held.ensures in
-    let small : c.sizes-held.result.values ≤ 4096 = omega (arith, values, shape_size _ c.requires) in
+    let values : c.sizes-held.result.values ≡ size (counts_of c.args.shape) = (holds_values _ c.requires _ c.sizes-held.ensures) in
+    let small : c.sizes-held.result.values ≤ 4096 = (omega (arith, values, shape_size _ c.requires)) in
     omega (arith, small, c.count_in-count3.ensures.few, c.count_in-count2.ensures.few, c.count_in-count1.ensures.few, c.count_in-count0.ensures.few)
 
 pub returns : goal.returns

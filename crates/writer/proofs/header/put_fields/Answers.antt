@@ -14,17 +14,17 @@ loop-k-init c = (omega arith, (refl, (omega arith, refl)))
 
 pub put_word-requires : goal.put_word-requires
 put_word-requires c =
-    let room : c.loop-k.at + get_or c.args.widths.now c.loop-k.k 0 ≤ length c.loop-k.out = let s = start (goal.at.put_word-requires c).After-shared_slice_known-in-loop-k-2-1 in omega (arith, sum_more s.args.widths.now s.args.fields.now c.loop-k.k c.loop-k-test.true, c.loop-k.invariant.1.1.0, c.loop-k.invariant.1.0, s.pre.enough) in
+    let room : c.loop-k.at + get_or c.args.widths.now c.loop-k.k 0 ≤ length c.loop-k.out = (let s = start (goal.at.put_word-requires c).After-shared_slice_known-in-loop-k-2-1 in omega (arith, sum_more s.args.widths.now s.args.fields.now c.loop-k.k c.loop-k-test.true, c.loop-k.invariant.1.1.0, c.loop-k.invariant.1.0, s.pre.enough)) in
     omega (arith, room)
 
 pub overflow_add-at : goal.overflow_add-at
 overflow_add-at c =
-    let room : c.loop-k.at + get_or c.args.widths.now c.loop-k.k 0 ≤ length c.loop-k.out = let s = start (goal.at.overflow_add-at c).After-shared_slice_known-in-loop-k-2-1 in omega (arith, sum_more s.args.widths.now s.args.fields.now c.loop-k.k c.loop-k-test.true, c.loop-k.invariant.1.1.0, c.loop-k.invariant.1.0, s.pre.enough) in
-    omega (arith, room, c.well-formed.0.0, c.loop-k.invariant.1.0)
+    let room : c.loop-k.at + get_or c.args.widths.now c.loop-k.k 0 ≤ length c.loop-k.out = (let s = start (goal.at.overflow_add-at c).After-shared_slice_known-in-loop-k-2-1 in omega (arith, sum_more s.args.widths.now s.args.fields.now c.loop-k.k c.loop-k-test.true, c.loop-k.invariant.1.1.0, c.loop-k.invariant.1.0, s.pre.enough)) in
+    omega (arith, room, c.well_formed.0.0, c.loop-k.invariant.1.0)
 
 pub overflow_add-k : goal.overflow_add-k
 overflow_add-k c =
-    omega (arith, c.loop-k-test.true, c.well-formed.1.0.0)
+    omega (arith, c.loop-k-test.true, c.well_formed.1.0.0)
 
 pub loop-k-smaller : goal.loop-k-smaller
 loop-k-smaller c =

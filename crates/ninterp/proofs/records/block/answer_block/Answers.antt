@@ -15,12 +15,12 @@ returns-then-not-is_whole c =
 
 pub overflow_mul-size : goal.overflow_mul-size
 overflow_mul-size c =
-    let whole : record_size c.args.shape ≤ length c.args.records.now = let a = c.args in whole_there a.shape (length a.records.now) _ c.is_whole.ensures c.if-not-is_whole.false-raw in
+    let whole : record_size c.args.shape ≤ length c.args.records.now = (let a = c.args in whole_there a.shape (length a.records.now) _ c.is_whole.ensures c.if-not-is_whole.false-raw) in
     omega (arith, whole)
 
 pub overflow_add-size : goal.overflow_add-size
 overflow_add-size c =
-    let whole : record_size c.args.shape ≤ length c.args.records.now = let a = c.args in whole_there a.shape (length a.records.now) _ c.is_whole.ensures c.if-not-is_whole.false-raw in
+    let whole : record_size c.args.shape ≤ length c.args.records.now = (let a = c.args in whole_there a.shape (length a.records.now) _ c.is_whole.ensures c.if-not-is_whole.false-raw) in
     omega (arith, whole)
 
 pub answer_records-requires : goal.answer_records-requires

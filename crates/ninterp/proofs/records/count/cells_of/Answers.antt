@@ -11,12 +11,12 @@ loop-a-init c =
 
 pub overflow_add-end : goal.overflow_add-end
 overflow_add-end c =
-    let within : c.loop-a.at + get_or c.args.shape.counts c.loop-a.a 0 ≤ length c.args.nodes.now = let s = start (goal.at.overflow_add-end c).At-loop-a in find_within s.args.shape s.args.nodes.now s.args.rec.now s.pre c.loop-a.invariant c.loop-a-test.true in
+    let within : c.loop-a.at + get_or c.args.shape.counts c.loop-a.a 0 ≤ length c.args.nodes.now = (let s = start (goal.at.overflow_add-end c).At-loop-a in find_within s.args.shape s.args.nodes.now s.args.rec.now s.pre c.loop-a.invariant c.loop-a-test.true) in
     omega (arith, within)
 
 pub slice_bounds-lower_index-end : goal.slice_bounds-lower_index-end
 slice_bounds-lower_index-end c =
-    let within : c.loop-a.at + get_or c.args.shape.counts c.loop-a.a 0 ≤ length c.args.nodes.now = let s = start (goal.at.slice_bounds-lower_index-end c).At-loop-a in find_within s.args.shape s.args.nodes.now s.args.rec.now s.pre c.loop-a.invariant c.loop-a-test.true in
+    let within : c.loop-a.at + get_or c.args.shape.counts c.loop-a.a 0 ≤ length c.args.nodes.now = (let s = start (goal.at.slice_bounds-lower_index-end c).At-loop-a in find_within s.args.shape s.args.nodes.now s.args.rec.now s.pre c.loop-a.invariant c.loop-a-test.true) in
     omega (arith, within)
 
 pub loop-a-preserved : goal.loop-a-preserved

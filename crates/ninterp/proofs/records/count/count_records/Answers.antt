@@ -15,29 +15,29 @@ loop-read-init c =
 
 pub overflow_add-end : goal.overflow_add-end
 overflow_add-end c =
-    let there : c.args.size ≤ length c.args.records.now - c.loop-read.at = leb-true _ _ c.if-records-at.true-raw in
+    let there : c.args.size ≤ length c.args.records.now - c.loop-read.at = (leb-true _ _ c.if-records-at.true-raw) in
     omega (arith, there, c.loop-read.invariant.whole)
 
 pub slice_bounds-count_next-end : goal.slice_bounds-count_next-end
 slice_bounds-count_next-end c =
-    let there : c.args.size ≤ length c.args.records.now - c.loop-read.at = leb-true _ _ c.if-records-at.true-raw in
+    let there : c.args.size ≤ length c.args.records.now - c.loop-read.at = (leb-true _ _ c.if-records-at.true-raw) in
     omega (arith, there, c.loop-read.invariant.whole)
 
 pub count_next-read-requires : goal.count_next-read-requires
 count_next-read-requires c =
-    let there : c.args.size ≤ length c.args.records.now - c.loop-read.at = leb-true _ _ c.if-records-at.true-raw in
+    let there : c.args.size ≤ length c.args.records.now - c.loop-read.at = (leb-true _ _ c.if-records-at.true-raw) in
     let s = start (goal.at.count_next-read-requires c).At-loop-read in
     let a = s.args in
     record { known = s.pre.0; rec_len = record_there a.shape a.nodes.now a.values.now a.size s.pre.1 a.records.now c.loop-read.at (there) }
 
 pub loop-read-smaller : goal.loop-read-smaller
 loop-read-smaller c =
-    let there : c.args.size ≤ length c.args.records.now - c.loop-read.at = leb-true _ _ c.if-records-at.true-raw in
+    let there : c.args.size ≤ length c.args.records.now - c.loop-read.at = (leb-true _ _ c.if-records-at.true-raw) in
     omega (arith, there, c.requires.1)
 
 pub loop-read-preserved : goal.loop-read-preserved
 loop-read-preserved c =
-    let there : c.args.size ≤ length c.args.records.now - c.loop-read.at = leb-true _ _ c.if-records-at.true-raw in
+    let there : c.args.size ≤ length c.args.records.now - c.loop-read.at = (leb-true _ _ c.if-records-at.true-raw) in
     let s = start (goal.at.loop-read-preserved c).At-loop-read in
     let a = s.args in
     counting_again a.shape a.nodes.now a.values.now a.t a.records.now a.size s.pre.1 _ c.loop-read.at c.loop-read.invariant _ c.loop-read-test.true (there) c.count_next-read.ensures

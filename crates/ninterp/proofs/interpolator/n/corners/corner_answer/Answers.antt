@@ -59,7 +59,7 @@ gather-vals-requires c =
     record {
       few = omega (arith, eight (goal.at.gather-vals-requires c).After-rest_places-arg-1);
       there = room (goal.at.gather-vals-requires c).After-rest_places-arg-1;
-      inside = λ i b. (omega (arith, under (goal.at.gather-vals-requires c).After-rest_places-arg-1 (location_index (first (s (goal.at.gather-vals-requires c).After-rest_places-arg-1))) i (lower_upper (first (s (goal.at.gather-vals-requires c).After-rest_places-arg-1))) b, c.rest-places.ensures.lower), omega (arith, under (goal.at.gather-vals-requires c).After-rest_places-arg-1 (upper_of (first (s (goal.at.gather-vals-requires c).After-rest_places-arg-1))) i (omega arith) b, c.rest-places.ensures.upper));
+      inside = λ i b. (omega (arith, under (goal.at.gather-vals-requires c).After-rest_places-arg-1 (location_index (first (s (goal.at.gather-vals-requires c).After-rest_places-arg-1))) i (lower_upper (first (s (goal.at.gather-vals-requires c).After-rest_places-arg-1))) b, c.rest_places.ensures.lower), omega (arith, under (goal.at.gather-vals-requires c).After-rest_places-arg-1 (upper_of (first (s (goal.at.gather-vals-requires c).After-rest_places-arg-1))) i (omega arith) b, c.rest_places.ensures.upper));
     }
 
 pub returns : goal.returns
@@ -68,8 +68,8 @@ returns c =
     c.fold_answer.ensures
     ∙ ap computed
     (folded t.args.locations t.args.shape.counts t.args.shape.axes t.pre.some (long_l t) (long_c t) t.pre.within _ refl t.args.values.now c.gather-vals.result (λ i b.
-    let v = c.gather-vals.ensures.both i (omega (arith, c.rest-places.ensures.corners, b)) in
-    let p = get_or c.rest-places.new.1.1.1.0 i 0 in (
-      v.0 ∙ ap (λ (m : ℕ). get_or t.args.values.now (p + m) nan) c.rest-places.ensures.lower ∙ stored (goal.at.returns c).After-rest_places-arg-1 (location_index (first t)) i b,
-      ap (λ (m : ℕ). get_or c.gather-vals.result (i + m) nan) (sym c.rest-places.ensures.corners) ∙ v.1 ∙ ap (λ (m : ℕ). get_or t.args.values.now (p + m) nan) c.rest-places.ensures.upper ∙ stored (goal.at.returns c).After-rest_places-arg-1 (upper_of (first t)) i b,
+    let v = c.gather-vals.ensures.both i (omega (arith, c.rest_places.ensures.corners, b)) in
+    let p = get_or c.rest_places.new.1.1.1.0 i 0 in (
+      v.0 ∙ ap (λ (m : ℕ). get_or t.args.values.now (p + m) nan) c.rest_places.ensures.lower ∙ stored (goal.at.returns c).After-rest_places-arg-1 (location_index (first t)) i b,
+      ap (λ (m : ℕ). get_or c.gather-vals.result (i + m) nan) (sym c.rest_places.ensures.corners) ∙ v.1 ∙ ap (λ (m : ℕ). get_or t.args.values.now (p + m) nan) c.rest_places.ensures.upper ∙ stored (goal.at.returns c).After-rest_places-arg-1 (upper_of (first t)) i b,
     )))

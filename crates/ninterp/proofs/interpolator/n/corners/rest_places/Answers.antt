@@ -19,26 +19,26 @@ loop-d-init c = ((omega arith, (c.requires.blank.sixteen, c.requires.placeable.s
 
 pub overflow_mul-low : goal.overflow_mul-low
 overflow_mul-low c =
-    let long_l : c.args.n ≤ length c.args.locations = omega (arith, c.well-formed.1.0.1.0.1, c.requires.placeable.few) in
-    let long_c : c.args.n ≤ length c.args.counts = omega (arith, c.well-formed.0.1.0.1, c.requires.placeable.few) in
+    let long_l : c.args.n ≤ length c.args.locations = (omega (arith, c.well_formed.1.0.1.0.1, c.requires.placeable.few)) in
+    let long_c : c.args.n ≤ length c.args.counts = (omega (arith, c.well_formed.0.1.0.1, c.requires.placeable.few)) in
     omega (arith, c.lower_node.ensures, lower_small (get_or c.args.locations (c.loop-d.d - 1) (Exact 0)) (drop c.loop-d.d (take c.args.n c.args.locations)) (get_or c.args.counts (c.loop-d.d - 1) 0) (drop c.loop-d.d (take c.args.n c.args.counts)) (within_at c.args.locations c.args.counts c.args.n c.loop-d.d c.requires.placeable.few (long_l) (long_c) c.loop-d-test.true c.loop-d.invariant.0.0 c.requires.placeable.small c.requires.placeable.within) (small_at c.args.locations c.args.counts c.args.n c.loop-d.d c.requires.placeable.few (long_l) (long_c) c.loop-d-test.true c.loop-d.invariant.0.0 c.requires.placeable.small c.requires.placeable.within), ap (λ (x : ℕ). location_index (get_or c.args.locations (c.loop-d.d - 1) (Exact 0)) * x) c.loop-d.invariant.1.strided, ap (λ (x : ℕ). x * c.loop-d.stride) c.lower_node.ensures)
 
 pub upper_node-requires : goal.upper_node-requires
 upper_node-requires c =
-    let long_l : c.args.n ≤ length c.args.locations = omega (arith, c.well-formed.1.0.1.0.1, c.requires.placeable.few) in
-    let long_c : c.args.n ≤ length c.args.counts = omega (arith, c.well-formed.0.1.0.1, c.requires.placeable.few) in
+    let long_l : c.args.n ≤ length c.args.locations = (omega (arith, c.well_formed.1.0.1.0.1, c.requires.placeable.few)) in
+    let long_c : c.args.n ≤ length c.args.counts = (omega (arith, c.well_formed.0.1.0.1, c.requires.placeable.few)) in
     upper_few (get_or c.args.locations (c.loop-d.d - 1) (Exact 0)) (drop c.loop-d.d (take c.args.n c.args.locations)) (get_or c.args.counts (c.loop-d.d - 1) 0) (drop c.loop-d.d (take c.args.n c.args.counts)) (within_at c.args.locations c.args.counts c.args.n c.loop-d.d c.requires.placeable.few (long_l) (long_c) c.loop-d-test.true c.loop-d.invariant.0.0 c.requires.placeable.small c.requires.placeable.within) (small_at c.args.locations c.args.counts c.args.n c.loop-d.d c.requires.placeable.few (long_l) (long_c) c.loop-d-test.true c.loop-d.invariant.0.0 c.requires.placeable.small c.requires.placeable.within)
 
 pub overflow_mul-high : goal.overflow_mul-high
 overflow_mul-high c =
-    let long_l : c.args.n ≤ length c.args.locations = omega (arith, c.well-formed.1.0.1.0.1, c.requires.placeable.few) in
-    let long_c : c.args.n ≤ length c.args.counts = omega (arith, c.well-formed.0.1.0.1, c.requires.placeable.few) in
+    let long_l : c.args.n ≤ length c.args.locations = (omega (arith, c.well_formed.1.0.1.0.1, c.requires.placeable.few)) in
+    let long_c : c.args.n ≤ length c.args.counts = (omega (arith, c.well_formed.0.1.0.1, c.requires.placeable.few)) in
     omega (arith, upper_small (get_or c.args.locations (c.loop-d.d - 1) (Exact 0)) (drop c.loop-d.d (take c.args.n c.args.locations)) (get_or c.args.counts (c.loop-d.d - 1) 0) (drop c.loop-d.d (take c.args.n c.args.counts)) (within_at c.args.locations c.args.counts c.args.n c.loop-d.d c.requires.placeable.few (long_l) (long_c) c.loop-d-test.true c.loop-d.invariant.0.0 c.requires.placeable.small c.requires.placeable.within) (small_at c.args.locations c.args.counts c.args.n c.loop-d.d c.requires.placeable.few (long_l) (long_c) c.loop-d-test.true c.loop-d.invariant.0.0 c.requires.placeable.small c.requires.placeable.within), ap (λ (x : ℕ). upper_of (get_or c.args.locations (c.loop-d.d - 1) (Exact 0)) * x) c.loop-d.invariant.1.strided, ap (λ (x : ℕ). x * c.loop-d.stride) c.upper_node.ensures)
 
 pub spread-requires : goal.spread-requires
 spread-requires c =
-    let long_l : c.args.n ≤ length c.args.locations = omega (arith, c.well-formed.1.0.1.0.1, c.requires.placeable.few) in
-    let long_c : c.args.n ≤ length c.args.counts = omega (arith, c.well-formed.0.1.0.1, c.requires.placeable.few) in
+    let long_l : c.args.n ≤ length c.args.locations = (omega (arith, c.well_formed.1.0.1.0.1, c.requires.placeable.few)) in
+    let long_c : c.args.n ≤ length c.args.counts = (omega (arith, c.well_formed.0.1.0.1, c.requires.placeable.few)) in
     let strided = c.loop-d.invariant.1.strided in
     let low_is = ap (λ (x : ℕ). x * c.loop-d.stride) c.lower_node.ensures ∙ ap (λ (x : ℕ). location_index (get_or c.args.locations (c.loop-d.d - 1) (Exact 0)) * x) strided in
     let high_is = ap (λ (x : ℕ). x * c.loop-d.stride) c.upper_node.ensures ∙ ap (λ (x : ℕ). upper_of (get_or c.args.locations (c.loop-d.d - 1) (Exact 0)) * x) strided in
@@ -51,8 +51,8 @@ spread-requires c =
 
 pub loop-d-preserved : goal.loop-d-preserved
 loop-d-preserved c =
-    let long_l : c.args.n ≤ length c.args.locations = omega (arith, c.well-formed.1.0.1.0.1, c.requires.placeable.few) in
-    let long_c : c.args.n ≤ length c.args.counts = omega (arith, c.well-formed.0.1.0.1, c.requires.placeable.few) in
+    let long_l : c.args.n ≤ length c.args.locations = (omega (arith, c.well_formed.1.0.1.0.1, c.requires.placeable.few)) in
+    let long_c : c.args.n ≤ length c.args.counts = (omega (arith, c.well_formed.0.1.0.1, c.requires.placeable.few)) in
     let z = spread_step (drop c.loop-d.d (take c.args.n c.args.locations)) (get_or c.args.counts (c.loop-d.d - 1) 0) (drop c.loop-d.d (take c.args.n c.args.counts)) c.loop-d.places _ c.loop-d.count c.loop-d.stride c.loop-d.invariant.1 (get_or c.args.locations (c.loop-d.d - 1) (Exact 0)) _ _ c.grow-count.result _ (ap (λ (x : ℕ). x * c.loop-d.stride) c.lower_node.ensures) (ap (λ (x : ℕ). x * c.loop-d.stride) c.upper_node.ensures) c.spread.ensures.both c.grow-count.ensures refl (few_at c.args.locations c.args.counts c.args.n c.loop-d.d c.requires.placeable.few (long_l) (long_c) c.loop-d-test.true c.loop-d.invariant.0.0 c.requires.placeable.small c.requires.placeable.within) in
     ((omega (arith, c.loop-d-test.true), (c.spread.auto.0 ∙ c.loop-d.invariant.0.1.0, omega (arith, c.loop-d-test.true))), closed_at c.args.locations c.args.counts c.args.n c.loop-d.d c.requires.placeable.few (long_l) (long_c) c.loop-d-test.true c.loop-d.invariant.0.0 c.requires.placeable.small c.requires.placeable.within _ c.grow-count.result _ z)
 module _ (t : goal.After-lower_node-2) where
@@ -91,7 +91,7 @@ upper_node-requires-2 c = omega (arith, few c, ap upper_of (here c))
 
 pub overflow_mul-high-2 : goal.overflow_mul-high-2
 overflow_mul-high-2 c =
-    let high_is : c.upper_node-2.result * (l (goal.at.overflow_mul-high-2 c).After-lower_node-2).loop.stride ≡ upper_of (at_first (goal.at.overflow_mul-high-2 c).After-lower_node-2) * under (goal.at.overflow_mul-high-2 c).After-lower_node-2 = ap₂ (λ (x y : ℕ). x * y) (c.upper_node-2.ensures ∙ ap upper_of (here (goal.at.overflow_mul-high-2 c).After-lower_node-2)) (done (goal.at.overflow_mul-high-2 c).After-lower_node-2).strided in
+    let high_is : c.upper_node-2.result * (l (goal.at.overflow_mul-high-2 c).After-lower_node-2).loop.stride ≡ upper_of (at_first (goal.at.overflow_mul-high-2 c).After-lower_node-2) * under (goal.at.overflow_mul-high-2 c).After-lower_node-2 = (ap₂ (λ (x y : ℕ). x * y) (c.upper_node-2.ensures ∙ ap upper_of (here (goal.at.overflow_mul-high-2 c).After-lower_node-2)) (done (goal.at.overflow_mul-high-2 c).After-lower_node-2).strided) in
     omega (arith, high_is, small (goal.at.overflow_mul-high-2 c).After-lower_node-2)
 
 pub shape_of-places : goal.shape_of-places
@@ -99,5 +99,5 @@ shape_of-places c = let k = l (goal.at.shape_of-places c).After-lower_node-2 in 
 
 pub returns : goal.returns
 returns c =
-    let high_is : c.upper_node-2.result * (l (goal.at.returns c).After-lower_node-2).loop.stride ≡ upper_of (at_first (goal.at.returns c).After-lower_node-2) * under (goal.at.returns c).After-lower_node-2 = ap₂ (λ (x y : ℕ). x * y) (c.upper_node-2.ensures ∙ ap upper_of (here (goal.at.returns c).After-lower_node-2)) (done (goal.at.returns c).After-lower_node-2).strided in
+    let high_is : c.upper_node-2.result * (l (goal.at.returns c).After-lower_node-2).loop.stride ≡ upper_of (at_first (goal.at.returns c).After-lower_node-2) * under (goal.at.returns c).After-lower_node-2 = (ap₂ (λ (x y : ℕ). x * y) (c.upper_node-2.ensures ∙ ap upper_of (here (goal.at.returns c).After-lower_node-2)) (done (goal.at.returns c).After-lower_node-2).strided) in
     let z = done (goal.at.returns c).After-lower_node-2 in record { corners = z.counted; lower = low_is (goal.at.returns c).After-lower_node-2; upper = high_is; each = z.placed }

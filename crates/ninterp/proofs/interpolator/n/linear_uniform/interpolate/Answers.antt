@@ -14,7 +14,7 @@ returns-then-fault-ne0 c = then_stops _ _ c.linear_uniform_fault-fault.ensures _
 
 pub interpolated-requires : goal.interpolated-requires
 interpolated-requires c =
-    let known : LookupJudged c.args.shape c.args.nodes.now c.args.values.now c.args.point.now = linear_uniform_judged c.args.shape c.args.nodes.now c.args.values.now c.args.point.now (passes _ _ c.linear_uniform_fault-fault.ensures c.if-fault-ne0.false) in
+    let known : LookupJudged c.args.shape c.args.nodes.now c.args.values.now c.args.point.now = (linear_uniform_judged c.args.shape c.args.nodes.now c.args.values.now c.args.point.now (passes _ _ c.linear_uniform_fault-fault.ensures c.if-fault-ne0.false)) in
     known
 
 pub returns : goal.returns

@@ -14,9 +14,9 @@ returns-then-not-within c = all_left _ _ _ (sym c.within.ensures ∙ not-true c.
 pub put_bytes-requires : goal.put_bytes-requires
 put_bytes-requires c =
     let fits : leb (c.args.at + length c.args.src.now) (length c.args.out.now) ≡ true = (sym c.within.ensures ∙ not-false c.within.result c.if-not-within.false-raw) in
-    leb-true _ _ (fits)
+    leb-true _ _ fits
 
 pub returns : goal.returns
 returns c =
     let fits : leb (c.args.at + length c.args.src.now) (length c.args.out.now) ≡ true = (sym c.within.ensures ∙ not-false c.within.result c.if-not-within.false-raw) in
-    all_put _ _ _ (fits) c.put_bytes.ensures.bytes
+    all_put _ _ _ fits c.put_bytes.ensures.bytes

@@ -16,13 +16,13 @@ pub put_floats-requires : goal.put_floats-requires
 unfolding image_length values_at
 put_floats-requires c =
     let room : 40 + 8 * length c.args.nodes.now + 8 * length c.args.values.now ≤ length c.args.img.now = (omega (arith, c.requires.framed.nodes_long, c.requires.framed.values_long, c.requires.room_enough)) in
-    omega (arith, room, c.put_header.auto.1.0)
+    omega (arith, room, c.put_header.auto.out)
 
 pub put_floats-requires-2 : goal.put_floats-requires-2
 unfolding image_length values_at
 put_floats-requires-2 c =
     let room : 40 + 8 * length c.args.nodes.now + 8 * length c.args.values.now ≤ length c.args.img.now = (omega (arith, c.requires.framed.nodes_long, c.requires.framed.values_long, c.requires.room_enough)) in
-    omega (arith, room, c.put_header.auto.1.0, c.put_floats.auto.1.0)
+    omega (arith, room, c.put_header.auto.out, c.put_floats.auto.out)
 
 pub returns : goal.returns
 returns c =

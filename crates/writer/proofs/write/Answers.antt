@@ -21,21 +21,20 @@ returns-then-fault-ne0 c =
 pub put_image-requires : goal.put_image-requires
 put_image-requires c =
     let known : good (write_fault c.args.shape c.args.nodes.now c.args.values.now (length c.args.img.now)) ≡ true = (passes _ _ c.write_fault-fault.ensures c.if-fault-ne0.false) in
-    written_room_lem _ _ _ _ (known)
+    written_room_lem _ _ _ _ known
 
 pub image_length-requires : goal.image_length-requires
 image_length-requires c =
     let known : good (write_fault c.args.shape c.args.nodes.now c.args.values.now (length c.args.img.now)) ≡ true = (passes _ _ c.write_fault-fault.ensures c.if-fault-ne0.false) in
-    (written_frame _ _ _ _ (known)).judged
+    (written_frame _ _ _ _ known).judged
 
 pub returns : goal.returns
 returns c =
     let known : good (write_fault c.args.shape c.args.nodes.now c.args.values.now (length c.args.img.now)) ≡ true = (passes _ _ c.write_fault-fault.ensures c.if-fault-ne0.false) in
-    let s = start (goal.at.returns c).After-write_fault-fault in
     let yes = c.if-fault-ne0.false in
     record {
       answer = write_made _ _ _ _ _ c.write_fault-fault.ensures yes _ _ c.pass.ensures c.image_length.ensures;
       image_out =
-          out_filled _ _ c.write_fault-fault.ensures (image_of s.args.shape s.args.nodes.now s.args.values.now) s.args.img.now yes _
-          (written_fits _ _ _ _ (known)) c.put_image.ensures;
+          out_filled _ _ c.write_fault-fault.ensures (image_of c.args.shape c.args.nodes.now c.args.values.now) c.args.img.now yes _
+          (written_fits _ _ _ _ known) c.put_image.ensures;
     }

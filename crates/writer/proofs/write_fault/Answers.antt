@@ -11,9 +11,6 @@ use lib.ListN.{length}
 use borrow.Author.Rules.{rules}
 use Rattle.writer.proofs.write_fault.Goals as goal
 
-abbrev frame : goal.After-frame_fault-fault → Fault
-frame (goal.at.None c).After-frame_fault-fault = let s = start (goal.at.None c).After-frame_fault-fault in frame_fault s.args.shape (length s.args.nodes.now) (length s.args.values.now)
-
 pub returns-then-fault-ne0 : goal.returns-then-fault-ne0
 unfolding write_fault
 returns-then-fault-ne0 c = or_stops _ _ c.frame_fault-fault.ensures _ c.if-fault-ne0.true
@@ -21,17 +18,20 @@ returns-then-fault-ne0 c = or_stops _ _ c.frame_fault-fault.ensures _ c.if-fault
 pub returns-then-fault-ne0-2 : goal.returns-then-fault-ne0-2
 unfolding write_fault
 returns-then-fault-ne0-2 c =
-    let past : (x rest : Fault) → x ≡ rest → x ≡ (frame (goal.at.returns-then-fault-ne0-2 c).After-frame_fault-fault or rest) = (λ x rest p. or_goes_on _ _ c.frame_fault-fault.ensures x rest c.if-fault-ne0.false p) in
+    let frame : Fault = (frame_fault c.args.shape (length c.args.nodes.now) (length c.args.values.now)) in
+    let past : (x rest : Fault) → x ≡ rest → x ≡ (frame or rest) = (λ x rest p. or_goes_on _ _ c.frame_fault-fault.ensures x rest c.if-fault-ne0.false p) in
     past _ _ (pair_stops _ _ _ c.stored_fault-fault.ensures _ c.if-fault-ne0-2.true)
 
 pub image_length-requires : goal.image_length-requires
 unfolding frame_fault
 image_length-requires c =
-    let known : good (shape_fault c.args.shape) ≡ true = (first-passed (shape_fault c.args.shape) _ (passes _ (frame (goal.at.image_length-requires c).After-frame_fault-fault) c.frame_fault-fault.ensures c.if-fault-ne0.false)) in
+    let frame : Fault = (frame_fault c.args.shape (length c.args.nodes.now) (length c.args.values.now)) in
+    let known : good (shape_fault c.args.shape) ≡ true = (first-passed (shape_fault c.args.shape) _ (passes _ frame c.frame_fault-fault.ensures c.if-fault-ne0.false)) in
     known
 
 pub returns : goal.returns
 unfolding write_fault
 returns c =
-    let past : (x rest : Fault) → x ≡ rest → x ≡ (frame (goal.at.returns c).After-frame_fault-fault or rest) = (λ x rest p. or_goes_on _ _ c.frame_fault-fault.ensures x rest c.if-fault-ne0.false p) in
+    let frame : Fault = (frame_fault c.args.shape (length c.args.nodes.now) (length c.args.values.now)) in
+    let past : (x rest : Fault) → x ≡ rest → x ≡ (frame or rest) = (λ x rest p. or_goes_on _ _ c.frame_fault-fault.ensures x rest c.if-fault-ne0.false p) in
     past _ _ (pair_goes_on _ _ _ c.stored_fault-fault.ensures _ _ c.if-fault-ne0-2.false (c.room_fault.ensures ∙ ap (λ (k : ℕ). room_fault 2 k c.args.room) c.image_length.ensures))

@@ -17,8 +17,7 @@ overflow_add-size c = omega (arith, four_axes c.requires.table_of)
 
 pub loop-go-init : goal.loop-go-init
 loop-go-init c =
-    let s = start (goal.at.loop-go-init c).After-struct_known-1 in
-    feed_start s.args.shape s.args.nodes.now s.args.values.now s.args.buf.now _ c.none_read-t.ensures s.pre.1.0
+    feed_start c.args.shape c.args.nodes.now c.args.values.now c.args.buf.now _ c.none_read-t.ensures c.requires.buf_len.0
 
 pub step-n-requires : goal.step-n-requires
 step-n-requires c =
@@ -36,13 +35,11 @@ overflow_add-read c =
 
 pub loop-go-smaller : goal.loop-go-smaller
 loop-go-smaller c =
-    let i = looped (goal.at.loop-go-smaller c).After-step-n in
-    turn_fewer c.step-n.ensures i.before.loop.inv i.loop-test.taken
+    turn_fewer c.step-n.ensures c.loop-go.invariant c.loop-go-test.true
 
 pub loop-go-preserved : goal.loop-go-preserved
 loop-go-preserved c =
-    let i = looped (goal.at.loop-go-preserved c).After-step-n in
-    feed_step c.step-n.ensures i.before.loop.inv i.loop-test.taken c.step-n.auto.1.1.1.1.0
+    feed_step c.step-n.ensures c.loop-go.invariant c.loop-go-test.true c.step-n.auto.buf
 
 pub slice_bounds-end-end : goal.slice_bounds-end-end
 slice_bounds-end-end c = c.loop-go.invariant.holds
@@ -51,9 +48,7 @@ pub slice_bounds-end-end-2 : goal.slice_bounds-end-end-2
 slice_bounds-end-end-2 c = sym (length-take-le _ _ c.loop.invariant.holds)
 
 pub end-last-requires : goal.end-last-requires
-end-last-requires c =
-    let s = start (goal.at.end-last-requires c).After-slice_known-2-1 in
-    record { reported = feed_report s.pre.0 c.loop.invariant; report_most_in_bounds = omega (arith, s.pre.1.1) }
+end-last-requires c = record { reported = feed_report c.requires.table_of c.loop.invariant; report_most_in_bounds = omega (arith, c.requires.buf_len.1) }
 
 pub returns : goal.returns
 returns c =

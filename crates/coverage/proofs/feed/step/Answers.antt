@@ -17,10 +17,10 @@ slice_bounds-count_block-end-2 c = sym (length-take-le _ _ (c.fill.ensures (sear
 
 pub overflow_sub-rest : goal.overflow_sub-rest
 overflow_sub-rest c =
-    let done : Done c.args.shape c.args.nodes.now c.args.values.now c.args.size c.args.held c.fill.result c.args.t c.count_block-done.result c.args.buf.now c.fill.new.0 = (let f = filled (goal.at.overflow_sub-rest c).After-count_block-done in let s = start f in record { room = s.pre; filled = f.fill.ensures (search rules); kept = f.fill.kept.0; counted = c.count_block-done.ensures }) in
-    step_used (done)
+    let done : Done c.args.shape c.args.nodes.now c.args.values.now c.args.size c.args.held c.fill.result c.args.t c.count_block-done.result c.args.buf.now c.fill.new.0 = (record { room = c.requires; filled = c.fill.ensures (search rules); kept = c.fill.kept.0; counted = c.count_block-done.ensures }) in
+    step_used done
 
 pub returns : goal.returns
 returns c =
-    let done : Done c.args.shape c.args.nodes.now c.args.values.now c.args.size c.args.held c.fill.result c.args.t c.count_block-done.result c.args.buf.now c.fill.new.0 = (let f = filled (goal.at.returns c).After-count_block-done in let s = start f in record { room = s.pre; filled = f.fill.ensures (search rules); kept = f.fill.kept.0; counted = c.count_block-done.ensures }) in
-    stepped (done) _ c.shift.ensures c.shift.auto.0 _ c.goes_on.ensures
+    let done : Done c.args.shape c.args.nodes.now c.args.values.now c.args.size c.args.held c.fill.result c.args.t c.count_block-done.result c.args.buf.now c.fill.new.0 = (record { room = c.requires; filled = c.fill.ensures (search rules); kept = c.fill.kept.0; counted = c.count_block-done.ensures }) in
+    stepped done _ c.shift.ensures c.shift.auto.buf _ c.goes_on.ensures

@@ -21,12 +21,12 @@ pub returns-then-fault-ne0 : goal.returns-then-fault-ne0
 returns-then-fault-ne0 c =
     let whole : (r : Fault) → r ≡ first_fault (pairs c.args.areas) c.loop-i.i (c.args.areas.axes - c.loop-i.i) → r ≡ first_fault (pairs c.args.areas) 0 c.args.areas.axes = (λ r e. e ∙ sym c.loop-i.invariant ∙ sym (first_begin (pairs c.args.areas) 0 _ _ (omega arith))) in
     let row : c.rows_fault-fault.result ≡ pairs c.args.areas c.loop-i.i = (c.rows_fault-fault.ensures ∙ ap (first_fault (asked_of (SharedWith c.loop-i.i) c.args.areas) (c.loop-i.i + 1)) (omega arith)) in
-    whole _ (row ∙ sym (first_stop _ c.loop-i.i _ c.loop-i-test.true (fails _ _ (row) c.if-fault-ne0.true)))
+    whole _ (row ∙ sym (first_stop _ c.loop-i.i _ c.loop-i-test.true (fails _ _ row c.if-fault-ne0.true)))
 
 pub loop-i-preserved : goal.loop-i-preserved
 loop-i-preserved c =
     let row : c.rows_fault-fault.result ≡ pairs c.args.areas c.loop-i.i = (c.rows_fault-fault.ensures ∙ ap (first_fault (asked_of (SharedWith c.loop-i.i) c.args.areas) (c.loop-i.i + 1)) (omega arith)) in
-    c.loop-i.invariant ∙ first_step _ c.loop-i.i _ c.loop-i-test.true (passes _ _ (row) c.if-fault-ne0.false)
+    c.loop-i.invariant ∙ first_step _ c.loop-i.i _ c.loop-i-test.true (passes _ _ row c.if-fault-ne0.false)
 
 pub returns : goal.returns
 returns c =

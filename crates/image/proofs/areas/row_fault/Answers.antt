@@ -22,7 +22,7 @@ pub shared_fault-requires : goal.shared_fault-requires
 shared_fault-requires c =
     let bounded : (k : ℕ) (r : Area) → k ≤ c.args.areas.axes → r ≡ area_in c.args.areas k → Bounded r.at r.floats = (λ k r l e. subst (λ (x : Area). Bounded x.at x.floats) (sym e) (c.requires.held.bounded k l)) in
     let with_one : c.in-SharedWith.i ≤ c.args.areas.axes = (subst (λ (r : Asked). WithOne r c.args.areas) c.in-SharedWith.is c.requires.with_one) in
-    record { first = bounded _ _ (with_one) c.area_of.ensures; second = bounded _ _ c.requires.there c.area_of-area.ensures }
+    record { first = bounded _ _ with_one c.area_of.ensures; second = bounded _ _ c.requires.there c.area_of-area.ensures }
 
 pub returns-in-Alone : goal.returns-in-Alone
 returns-in-Alone c =

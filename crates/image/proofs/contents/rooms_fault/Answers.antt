@@ -12,10 +12,10 @@ pub returns-then-fault-ne0 : goal.returns-then-fault-ne0
 unfolding rooms_fault
 returns-then-fault-ne0 c =
     let first : c.room_fault-fault.result ≡ room_fault 0 (total (counts_of (shape_of c.args.img.now))) c.args.nodes = (c.room_fault-fault.ensures ∙ ap (λ (k : ℕ). room_fault 0 k c.args.nodes) c.sizes_of-held.ensures.nodes) in
-    or_stops _ _ (first) _ c.if-fault-ne0.true
+    or_stops _ _ first _ c.if-fault-ne0.true
 
 pub returns : goal.returns
 unfolding rooms_fault
 returns c =
     let first : c.room_fault-fault.result ≡ room_fault 0 (total (counts_of (shape_of c.args.img.now))) c.args.nodes = (c.room_fault-fault.ensures ∙ ap (λ (k : ℕ). room_fault 0 k c.args.nodes) c.sizes_of-held.ensures.nodes) in
-    or_goes_on _ _ (first) _ _ c.if-fault-ne0.false (c.room_fault.ensures ∙ ap (λ (k : ℕ). room_fault 1 k c.args.values) c.sizes_of-held.ensures.values)
+    or_goes_on _ _ first _ _ c.if-fault-ne0.false (c.room_fault.ensures ∙ ap (λ (k : ℕ). room_fault 1 k c.args.values) c.sizes_of-held.ensures.values)

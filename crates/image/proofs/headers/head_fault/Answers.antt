@@ -15,76 +15,80 @@ use native.Mathlib.Omega.{arith}
 use borrow.Author.Rules.{rules}
 use Rattle.image.proofs.headers.head_fault.Goals as goal
 
-abbrev img1 : goal.After-start_fault-fault → List ℕ
-img1 (goal.at.None c).After-start_fault-fault = f.args.img.now
-
-abbrev img2 : goal.After-rows_fault-fault → List ℕ
-img2 (goal.at.None c).After-rows_fault-fault = img1 (goal.at.None c).After-start_fault-fault
-
-abbrev img3 : goal.After-shape_fault-fault → List ℕ
-img3 (goal.at.None c).After-shape_fault-fault = img2 (goal.at.None c).After-rows_fault-fault
-
-abbrev img4 : goal.After-rows_fault-fault-2 → List ℕ
-img4 (goal.at.None c).After-rows_fault-fault-2 = img3 (goal.at.None c).After-shape_fault-fault
-
 pub returns-then-fault-ne0 : goal.returns-then-fault-ne0
 unfolding head_fault
 returns-then-fault-ne0 c =
-    let e1 : c.start_fault-fault.result ≡ start_fault (img1 (goal.at.returns-then-fault-ne0 c).After-start_fault-fault) = (c.start_fault-fault.ensures) in
-    or_stops _ _ (e1) _ c.if-fault-ne0.true
+    let img1 : List ℕ = (c.args.img.now) in
+    let e1 : c.start_fault-fault.result ≡ start_fault img1 = (c.start_fault-fault.ensures) in
+    or_stops _ _ e1 _ c.if-fault-ne0.true
 
 pub returns-then-fault-ne0-2 : goal.returns-then-fault-ne0-2
 unfolding head_fault
 returns-then-fault-ne0-2 c =
-    let e1 : c.start_fault-fault.result ≡ start_fault (img1 (goal.at.returns-then-fault-ne0-2 c).After-start_fault-fault) = (c.start_fault-fault.ensures) in
-    let past1 : (x rest : Fault) → x ≡ rest → x ≡ (start_fault (img1 (goal.at.returns-then-fault-ne0-2 c).After-start_fault-fault) or rest) = (λ x rest p. or_goes_on _ _ (e1) x rest c.if-fault-ne0.false p) in
-    let e2 : c.rows_fault-fault.result ≡ first_fault (count_row (img2 (goal.at.returns-then-fault-ne0-2 c).After-rows_fault-fault)) 0 4 = (c.rows_fault-fault.ensures) in
-    past1 _ _ (or_stops _ _ (e2) _ c.if-fault-ne0-2.true)
+    let img1 : List ℕ = (c.args.img.now) in
+    let e1 : c.start_fault-fault.result ≡ start_fault img1 = (c.start_fault-fault.ensures) in
+    let past1 : (x rest : Fault) → x ≡ rest → x ≡ (start_fault img1 or rest) = (λ x rest p. or_goes_on _ _ e1 x rest c.if-fault-ne0.false p) in
+    let img2 : List ℕ = (img1) in
+    let e2 : c.rows_fault-fault.result ≡ first_fault (count_row img2) 0 4 = (c.rows_fault-fault.ensures) in
+    past1 _ _ (or_stops _ _ e2 _ c.if-fault-ne0-2.true)
 
 pub returns-then-fault-ne0-3 : goal.returns-then-fault-ne0-3
 unfolding head_fault
 returns-then-fault-ne0-3 c =
-    let e1 : c.start_fault-fault.result ≡ start_fault (img1 (goal.at.returns-then-fault-ne0-3 c).After-start_fault-fault) = (c.start_fault-fault.ensures) in
-    let past1 : (x rest : Fault) → x ≡ rest → x ≡ (start_fault (img1 (goal.at.returns-then-fault-ne0-3 c).After-start_fault-fault) or rest) = (λ x rest p. or_goes_on _ _ (e1) x rest c.if-fault-ne0.false p) in
-    let e2 : c.rows_fault-fault.result ≡ first_fault (count_row (img2 (goal.at.returns-then-fault-ne0-3 c).After-rows_fault-fault)) 0 4 = (c.rows_fault-fault.ensures) in
-    let past2 : (x rest : Fault) → x ≡ rest → x ≡ (start_fault (img2 (goal.at.returns-then-fault-ne0-3 c).After-rows_fault-fault) or first_fault (count_row (img2 (goal.at.returns-then-fault-ne0-3 c).After-rows_fault-fault)) 0 4 or rest) = (λ x rest p. past1 x _ (or_goes_on _ _ (e2) x rest c.if-fault-ne0-2.false p)) in
-    let axes : good (axes_count_fault (axes_field (img2 (goal.at.returns-then-fault-ne0-3 c).After-rows_fault-fault))) ≡ true = (start_axes _ (passes _ _ (e1) c.if-fault-ne0.false)) in
-    let counts : good (first_fault (count_row (img2 (goal.at.returns-then-fault-ne0-3 c).After-rows_fault-fault)) 0 4) ≡ true = (passes _ _ (e2) c.if-fault-ne0-2.false) in
-    let e3 : c.shape_fault-fault.result ≡ product_fault (shape_of (img3 (goal.at.returns-then-fault-ne0-3 c).After-shape_fault-fault)) = (c.shape_fault-fault.ensures ∙ ap shape_fault c.shape_of.ensures ∙ product_only _ (axes) (counts)) in
-    past2 _ _ (or_stops _ _ (e3) _ c.if-fault-ne0-3.true)
+    let img1 : List ℕ = (c.args.img.now) in
+    let img2 : List ℕ = (img1) in
+    let e1 : c.start_fault-fault.result ≡ start_fault img1 = (c.start_fault-fault.ensures) in
+    let past1 : (x rest : Fault) → x ≡ rest → x ≡ (start_fault img1 or rest) = (λ x rest p. or_goes_on _ _ e1 x rest c.if-fault-ne0.false p) in
+    let e2 : c.rows_fault-fault.result ≡ first_fault (count_row img2) 0 4 = (c.rows_fault-fault.ensures) in
+    let past2 : (x rest : Fault) → x ≡ rest → x ≡ (start_fault img2 or first_fault (count_row img2) 0 4 or rest) = (λ x rest p. past1 x _ (or_goes_on _ _ e2 x rest c.if-fault-ne0-2.false p)) in
+    let img3 : List ℕ = (img2) in
+    let axes : good (axes_count_fault (axes_field img2)) ≡ true = (start_axes _ (passes _ _ e1 c.if-fault-ne0.false)) in
+    let counts : good (first_fault (count_row img2) 0 4) ≡ true = (passes _ _ e2 c.if-fault-ne0-2.false) in
+    let e3 : c.shape_fault-fault.result ≡ product_fault (shape_of img3) = (c.shape_fault-fault.ensures ∙ ap shape_fault c.shape_of.ensures ∙ product_only _ axes counts) in
+    past2 _ _ (or_stops _ _ e3 _ c.if-fault-ne0-3.true)
 
 pub rows_fault-fault-requires-2 : goal.rows_fault-fault-requires-2
 rows_fault-fault-requires-2 c =
-    let e1 : c.start_fault-fault.result ≡ start_fault (img1 (goal.at.rows_fault-fault-requires-2 c).After-start_fault-fault) = (c.start_fault-fault.ensures) in
-    let axes : good (axes_count_fault (axes_field (img2 (goal.at.rows_fault-fault-requires-2 c).After-rows_fault-fault))) ≡ true = (start_axes _ (passes _ _ (e1) c.if-fault-ne0.false)) in
-    let four : axes_field (img2 (goal.at.rows_fault-fault-requires-2 c).After-rows_fault-fault) ≤ 4 = (axes_four _ (axes)) in
+    let img1 : List ℕ = (c.args.img.now) in
+    let img2 : List ℕ = (img1) in
+    let e1 : c.start_fault-fault.result ≡ start_fault img1 = (c.start_fault-fault.ensures) in
+    let axes : good (axes_count_fault (axes_field img2)) ≡ true = (start_axes _ (passes _ _ e1 c.if-fault-ne0.false)) in
+    let four : axes_field img2 ≤ 4 = (axes_four _ axes) in
     omega (arith, c.axes_of.ensures.is, four)
 
 pub returns-then-fault-ne0-4 : goal.returns-then-fault-ne0-4
 unfolding head_fault
 returns-then-fault-ne0-4 c =
-    let e1 : c.start_fault-fault.result ≡ start_fault (img1 (goal.at.returns-then-fault-ne0-4 c).After-start_fault-fault) = (c.start_fault-fault.ensures) in
-    let past1 : (x rest : Fault) → x ≡ rest → x ≡ (start_fault (img1 (goal.at.returns-then-fault-ne0-4 c).After-start_fault-fault) or rest) = (λ x rest p. or_goes_on _ _ (e1) x rest c.if-fault-ne0.false p) in
-    let e2 : c.rows_fault-fault.result ≡ first_fault (count_row (img2 (goal.at.returns-then-fault-ne0-4 c).After-rows_fault-fault)) 0 4 = (c.rows_fault-fault.ensures) in
-    let past2 : (x rest : Fault) → x ≡ rest → x ≡ (start_fault (img2 (goal.at.returns-then-fault-ne0-4 c).After-rows_fault-fault) or first_fault (count_row (img2 (goal.at.returns-then-fault-ne0-4 c).After-rows_fault-fault)) 0 4 or rest) = (λ x rest p. past1 x _ (or_goes_on _ _ (e2) x rest c.if-fault-ne0-2.false p)) in
-    let axes : good (axes_count_fault (axes_field (img2 (goal.at.returns-then-fault-ne0-4 c).After-rows_fault-fault))) ≡ true = (start_axes _ (passes _ _ (e1) c.if-fault-ne0.false)) in
-    let counts : good (first_fault (count_row (img2 (goal.at.returns-then-fault-ne0-4 c).After-rows_fault-fault)) 0 4) ≡ true = (passes _ _ (e2) c.if-fault-ne0-2.false) in
-    let e3 : c.shape_fault-fault.result ≡ product_fault (shape_of (img3 (goal.at.returns-then-fault-ne0-4 c).After-shape_fault-fault)) = (c.shape_fault-fault.ensures ∙ ap shape_fault c.shape_of.ensures ∙ product_only _ (axes) (counts)) in
-    let past3 : (x rest : Fault) → x ≡ rest → x ≡ (start_fault (img3 (goal.at.returns-then-fault-ne0-4 c).After-shape_fault-fault) or first_fault (count_row (img3 (goal.at.returns-then-fault-ne0-4 c).After-shape_fault-fault)) 0 4 or product_fault (shape_of (img3 (goal.at.returns-then-fault-ne0-4 c).After-shape_fault-fault)) or rest) = (λ x rest p. past2 x _ (or_goes_on _ _ (e3) x rest c.if-fault-ne0-3.false p)) in
-    let e4 : c.rows_fault-fault-2.result ≡ first_fault (offset_row (img4 (goal.at.returns-then-fault-ne0-4 c).After-rows_fault-fault-2)) (axes_field (img4 (goal.at.returns-then-fault-ne0-4 c).After-rows_fault-fault-2)) (4 - axes_field (img4 (goal.at.returns-then-fault-ne0-4 c).After-rows_fault-fault-2)) = (c.rows_fault-fault-2.ensures ∙ ap (λ (k : ℕ). first_fault (offset_row (img4 (goal.at.returns-then-fault-ne0-4 c).After-rows_fault-fault-2)) k (4 - k)) c.axes_of.ensures.is) in
-    past3 _ _ (or_stops _ _ (e4) _ c.if-fault-ne0-4.true)
+    let img1 : List ℕ = (c.args.img.now) in
+    let img2 : List ℕ = (img1) in
+    let img3 : List ℕ = (img2) in
+    let e1 : c.start_fault-fault.result ≡ start_fault img1 = (c.start_fault-fault.ensures) in
+    let past1 : (x rest : Fault) → x ≡ rest → x ≡ (start_fault img1 or rest) = (λ x rest p. or_goes_on _ _ e1 x rest c.if-fault-ne0.false p) in
+    let e2 : c.rows_fault-fault.result ≡ first_fault (count_row img2) 0 4 = (c.rows_fault-fault.ensures) in
+    let past2 : (x rest : Fault) → x ≡ rest → x ≡ (start_fault img2 or first_fault (count_row img2) 0 4 or rest) = (λ x rest p. past1 x _ (or_goes_on _ _ e2 x rest c.if-fault-ne0-2.false p)) in
+    let axes : good (axes_count_fault (axes_field img2)) ≡ true = (start_axes _ (passes _ _ e1 c.if-fault-ne0.false)) in
+    let counts : good (first_fault (count_row img2) 0 4) ≡ true = (passes _ _ e2 c.if-fault-ne0-2.false) in
+    let e3 : c.shape_fault-fault.result ≡ product_fault (shape_of img3) = (c.shape_fault-fault.ensures ∙ ap shape_fault c.shape_of.ensures ∙ product_only _ axes counts) in
+    let past3 : (x rest : Fault) → x ≡ rest → x ≡ (start_fault img3 or first_fault (count_row img3) 0 4 or product_fault (shape_of img3) or rest) = (λ x rest p. past2 x _ (or_goes_on _ _ e3 x rest c.if-fault-ne0-3.false p)) in
+    let img4 : List ℕ = (img3) in
+    let e4 : c.rows_fault-fault-2.result ≡ first_fault (offset_row img4) (axes_field img4) (4 - axes_field img4) = (c.rows_fault-fault-2.ensures ∙ ap (λ (k : ℕ). first_fault (offset_row img4) k (4 - k)) c.axes_of.ensures.is) in
+    past3 _ _ (or_stops _ _ e4 _ c.if-fault-ne0-4.true)
 
 pub returns : goal.returns
 unfolding head_fault
 returns c =
-    let e1 : c.start_fault-fault.result ≡ start_fault (img1 (goal.at.returns c).After-start_fault-fault) = (c.start_fault-fault.ensures) in
-    let past1 : (x rest : Fault) → x ≡ rest → x ≡ (start_fault (img1 (goal.at.returns c).After-start_fault-fault) or rest) = (λ x rest p. or_goes_on _ _ (e1) x rest c.if-fault-ne0.false p) in
-    let e2 : c.rows_fault-fault.result ≡ first_fault (count_row (img2 (goal.at.returns c).After-rows_fault-fault)) 0 4 = (c.rows_fault-fault.ensures) in
-    let past2 : (x rest : Fault) → x ≡ rest → x ≡ (start_fault (img2 (goal.at.returns c).After-rows_fault-fault) or first_fault (count_row (img2 (goal.at.returns c).After-rows_fault-fault)) 0 4 or rest) = (λ x rest p. past1 x _ (or_goes_on _ _ (e2) x rest c.if-fault-ne0-2.false p)) in
-    let axes : good (axes_count_fault (axes_field (img2 (goal.at.returns c).After-rows_fault-fault))) ≡ true = (start_axes _ (passes _ _ (e1) c.if-fault-ne0.false)) in
-    let counts : good (first_fault (count_row (img2 (goal.at.returns c).After-rows_fault-fault)) 0 4) ≡ true = (passes _ _ (e2) c.if-fault-ne0-2.false) in
-    let e3 : c.shape_fault-fault.result ≡ product_fault (shape_of (img3 (goal.at.returns c).After-shape_fault-fault)) = (c.shape_fault-fault.ensures ∙ ap shape_fault c.shape_of.ensures ∙ product_only _ (axes) (counts)) in
-    let past3 : (x rest : Fault) → x ≡ rest → x ≡ (start_fault (img3 (goal.at.returns c).After-shape_fault-fault) or first_fault (count_row (img3 (goal.at.returns c).After-shape_fault-fault)) 0 4 or product_fault (shape_of (img3 (goal.at.returns c).After-shape_fault-fault)) or rest) = (λ x rest p. past2 x _ (or_goes_on _ _ (e3) x rest c.if-fault-ne0-3.false p)) in
-    let e4 : c.rows_fault-fault-2.result ≡ first_fault (offset_row (img4 (goal.at.returns c).After-rows_fault-fault-2)) (axes_field (img4 (goal.at.returns c).After-rows_fault-fault-2)) (4 - axes_field (img4 (goal.at.returns c).After-rows_fault-fault-2)) = (c.rows_fault-fault-2.ensures ∙ ap (λ (k : ℕ). first_fault (offset_row (img4 (goal.at.returns c).After-rows_fault-fault-2)) k (4 - k)) c.axes_of.ensures.is) in
-    let past4 : (x rest : Fault) → x ≡ rest → x ≡ (start_fault (img4 (goal.at.returns c).After-rows_fault-fault-2) or first_fault (count_row (img4 (goal.at.returns c).After-rows_fault-fault-2)) 0 4 or product_fault (shape_of (img4 (goal.at.returns c).After-rows_fault-fault-2)) or first_fault (offset_row (img4 (goal.at.returns c).After-rows_fault-fault-2)) (axes_field (img4 (goal.at.returns c).After-rows_fault-fault-2)) (4 - axes_field (img4 (goal.at.returns c).After-rows_fault-fault-2)) or rest) = (λ x rest p. past3 x _ (or_goes_on _ _ (e4) x rest c.if-fault-ne0-4.false p)) in
+    let img1 : List ℕ = (c.args.img.now) in
+    let img2 : List ℕ = (img1) in
+    let img3 : List ℕ = (img2) in
+    let img4 : List ℕ = (img3) in
+    let e1 : c.start_fault-fault.result ≡ start_fault img1 = (c.start_fault-fault.ensures) in
+    let past1 : (x rest : Fault) → x ≡ rest → x ≡ (start_fault img1 or rest) = (λ x rest p. or_goes_on _ _ e1 x rest c.if-fault-ne0.false p) in
+    let e2 : c.rows_fault-fault.result ≡ first_fault (count_row img2) 0 4 = (c.rows_fault-fault.ensures) in
+    let past2 : (x rest : Fault) → x ≡ rest → x ≡ (start_fault img2 or first_fault (count_row img2) 0 4 or rest) = (λ x rest p. past1 x _ (or_goes_on _ _ e2 x rest c.if-fault-ne0-2.false p)) in
+    let axes : good (axes_count_fault (axes_field img2)) ≡ true = (start_axes _ (passes _ _ e1 c.if-fault-ne0.false)) in
+    let counts : good (first_fault (count_row img2) 0 4) ≡ true = (passes _ _ e2 c.if-fault-ne0-2.false) in
+    let e3 : c.shape_fault-fault.result ≡ product_fault (shape_of img3) = (c.shape_fault-fault.ensures ∙ ap shape_fault c.shape_of.ensures ∙ product_only _ axes counts) in
+    let past3 : (x rest : Fault) → x ≡ rest → x ≡ (start_fault img3 or first_fault (count_row img3) 0 4 or product_fault (shape_of img3) or rest) = (λ x rest p. past2 x _ (or_goes_on _ _ e3 x rest c.if-fault-ne0-3.false p)) in
+    let e4 : c.rows_fault-fault-2.result ≡ first_fault (offset_row img4) (axes_field img4) (4 - axes_field img4) = (c.rows_fault-fault-2.ensures ∙ ap (λ (k : ℕ). first_fault (offset_row img4) k (4 - k)) c.axes_of.ensures.is) in
+    let past4 : (x rest : Fault) → x ≡ rest → x ≡ (start_fault img4 or first_fault (count_row img4) 0 4 or product_fault (shape_of img4) or first_fault (offset_row img4) (axes_field img4) (4 - axes_field img4) or rest) = (λ x rest p. past3 x _ (or_goes_on _ _ e4 x rest c.if-fault-ne0-4.false p)) in
     past4 _ _ (c.field_fault.ensures ∙ ap (field_fault 36 0) c.field.ensures.is)

@@ -18,8 +18,7 @@ overflow_add-size c = omega (arith, four_axes c.requires.table_of)
 
 pub loop-go-init : goal.loop-go-init
 loop-go-init c =
-    let s = start c in
-    feed_start (rule_of s.args.img.now) s.args.buf.now s.args.out.now s.pre.1.0 s.pre.1.1
+    feed_start (rule_of c.args.img.now) c.args.buf.now c.args.out.now c.requires.buf_len.0 c.requires.buf_len.1
 
 pub step-n-requires : goal.step-n-requires
 step-n-requires c =
@@ -47,8 +46,7 @@ loop-go-smaller c =
 
 pub loop-go-preserved : goal.loop-go-preserved
 loop-go-preserved c =
-    let i = looped (goal.at.loop-go-preserved c).After-step-n in
-    feed_step c.step-n.ensures.stepped i.before.loop.inv i.loop-test.taken c.step-n.auto.1.1.1.1.1.0 c.step-n.auto.1.1.1.1.1.1.0 c.step-n.ensures.printed_in_bounds
+    feed_step c.step-n.ensures.stepped c.loop-go.invariant c.loop-go-test.true c.step-n.auto.buf c.step-n.auto.out c.step-n.ensures.printed_in_bounds
 
 pub returns-then-not-ok : goal.returns-then-not-ok
 returns-then-not-ok c =

@@ -7,9 +7,7 @@ use Rattle.lookup.proofs.loaded.answer_image.Goals as goal
 
 pub returns-then-answer-ne0 : goal.returns-then-answer-ne0
 returns-then-answer-ne0 c =
-    let l = load (goal.at.returns-then-answer-ne0 c).After-struct_known-1 in
-    let s = start l in
-    c.refuse.ensures s.pre.1 (image_refused (l.load.ensures.0 s.pre.0.0 s.pre.0.1) s.pre.1 c.if-answer-ne0.true) lines_by _
+    c.refuse.ensures c.requires.img_value (image_refused (c.load-loaded.ensures.loads c.requires.nodes_len.0 c.requires.nodes_len.1) c.requires.img_value c.if-answer-ne0.true) lines_by _
 
 pub slice_bounds-answer_all-end-2 : goal.slice_bounds-answer_all-end-2
 slice_bounds-answer_all-end-2 c = sym (length-take-le _ _ (search rules))
@@ -19,6 +17,4 @@ slice_bounds-answer_all-end-4 c = sym (length-take-le _ _ (search rules))
 
 pub answer_all-requires : goal.answer_all-requires
 answer_all-requires c =
-    let l = load (goal.at.answer_all-requires c).After-answer-1 in
-    let s = start l in
-    image_table (l.load.ensures.0 s.pre.0.0 s.pre.0.1) s.pre.1 c.if1.false
+    image_table (c.load.ensures.0 c.requires.nodes_len.0 c.requires.nodes_len.1) c.requires.img_value c.if1.false

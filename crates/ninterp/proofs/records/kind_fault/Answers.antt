@@ -7,18 +7,17 @@ use Rattle.answer.proofs.Orders.{or_stops, or_goes_on, row_stops, row_goes_on}
 use borrow.Author.Rules.{rules}
 use Rattle.ninterp.proofs.records.kind_fault.Goals as goal
 
-abbrev rest : goal.Start → Fault
-rest (goal.at.None c).Start = when (eqb s.args.kind 1) s.args.uniform
-
 pub returns-then-table-ne0 : goal.returns-then-table-ne0
 returns-then-table-ne0 c = or_stops c.args.table c.args.table refl _ c.if-table-ne0.true
 
 pub returns-then-kind-gt4 : goal.returns-then-kind-gt4
 returns-then-kind-gt4 c =
+    let rest : Fault = (when (eqb c.args.kind 1) c.args.uniform) in
     or_goes_on c.args.table c.args.table refl _ _ c.if-table-ne0.false
-    (c.refusal.ensures ∙ row_stops (ltb 4 c.args.kind) 8 0 0 (rest (goal.at.returns-then-kind-gt4 c).Start) (lt-ltb 4 c.args.kind c.if-kind-gt4.true))
+    (c.refusal.ensures ∙ row_stops (ltb 4 c.args.kind) 8 0 0 rest (lt-ltb 4 c.args.kind c.if-kind-gt4.true))
 
 pub returns : goal.returns
 returns c =
+    let rest : Fault = (when (eqb c.args.kind 1) c.args.uniform) in
     or_goes_on c.args.table c.args.table refl _ _ c.if-table-ne0.false
-    (c.uniform_row.ensures ∙ row_goes_on (ltb 4 c.args.kind) 8 0 0 (rest (goal.at.returns c).Start) (le-ltb 4 c.args.kind c.if-kind-gt4.false))
+    (c.uniform_row.ensures ∙ row_goes_on (ltb 4 c.args.kind) 8 0 0 rest (le-ltb 4 c.args.kind c.if-kind-gt4.false))

@@ -7,14 +7,12 @@ use Rattle.program.proofs.coverage.put_text.Goals as goal
 
 pub returns-then-loaded-ne0 : goal.returns-then-loaded-ne0
 returns-then-loaded-ne0 c =
-    let s = start (goal.at.returns-then-loaded-ne0 c).After-struct_known-1 in
     let e = c.put_line.ensures in
-    record { fronted = line_fronted _ _ c.if-loaded-ne0.true (wrote_fronted (line_wrote s.args.loaded s.args.chunk.now 0 (omega (arith, s.pre.1)) e.0.0 e.0.1)); upper_bound = omega (arith, e.1) }
+    record { fronted = line_fronted _ _ c.if-loaded-ne0.true (wrote_fronted (line_wrote c.args.loaded c.args.chunk.now 0 (omega (arith, c.requires.1)) e.0.0 e.0.1)); upper_bound = omega (arith, e.1) }
 
 pub put_records-requires : goal.put_records-requires
 put_records-requires c =
-    let s = start (goal.at.put_records-requires c).After-struct_known-1 in
-    (s.pre.0 c.if-loaded-ne0.false, s.pre.1)
+    (c.requires.0 c.if-loaded-ne0.false, c.requires.1)
 
 pub returns : goal.returns
 returns c = record { fronted = text_fronted _ _ c.if-loaded-ne0.false c.put_records.ensures.fronted; upper_bound = c.put_records.ensures.upper_bound }

@@ -16,14 +16,12 @@ slice_bounds-put_text-end-4 c = sym (length-take-le _ _ (search rules))
 
 pub put_text-long-requires : goal.put_text-long-requires
 put_text-long-requires c =
-    let s = start (goal.at.put_text-long-requires c).After-load-loaded in
-    (λ z. table_shape ((c.load-loaded.ensures.loads s.pre.0 s.pre.1.0).table z), s.pre.1.1)
+    (λ z. table_shape ((c.load-loaded.ensures.loads c.requires.0 c.requires.1.0).table z), c.requires.1.1)
 
 pub slice_bounds-give-end-2 : goal.slice_bounds-give-end-2
 slice_bounds-give-end-2 c = sym (length-take-le _ _ (search rules))
 
 pub returns : goal.returns
 returns c =
-    let s = start (goal.at.returns c).After-load-arg-2-1 in
-    run_texted coverage_report (c.load.ensures.0 s.pre.0 s.pre.1.0) c.load.ensures.1.0.1
-    (fronted_take c.put_text.ensures.0 (omega (arith, c.put_text.ensures.1, s.pre.1.1))) c.give.ensures
+    run_texted coverage_report (c.load.ensures.0 c.requires.0 c.requires.1.0) c.load.ensures.1.0.1
+    (fronted_take c.put_text.ensures.0 (omega (arith, c.put_text.ensures.1, c.requires.1.1))) c.give.ensures

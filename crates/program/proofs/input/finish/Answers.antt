@@ -17,5 +17,5 @@ pub returns : goal.returns
 returns c =
     let told : c.refuse.result ≡ refused (refusal 3 0 2) = (c.refuse.ensures ∙ ap refused c.refusal.ensures) in
     cut_short c.args.rest c.args.left c.args.out.now c.if-left-eq0.false c.if-rest-eq0.false _ _
-    (c.put_line.ensures.value.0 ∙ ap (λ (a : Answer). line_end a c.args.out.now 0) (told))
-    (c.put_line.ensures.value.1 ∙ ap (λ (a : Answer). line_into a c.args.out.now 0) (told))
+    (c.put_line.ensures.value.0 ∙ ap (λ (a : Answer). line_end a c.args.out.now 0) told)
+    (c.put_line.ensures.value.1 ∙ ap (λ (a : Answer). line_into a c.args.out.now 0) told)

@@ -22,28 +22,7 @@ none counts = refl
 
 ends : (n : ℕ) → n ≡ 0 + n
 ends n = omega arith
-module _ (b : goal.After-location_by-location) where
-  abbrev s : goal.Start
-  s = b.before.before.before.before.before.before
 
-  abbrev part : List Float
-  part = take (get_or s.args.shape.counts 0 0 - 0) (drop 0 s.args.nodes.now)
-
-  good : Axis part
-  good = part_axis s.pre.0 0 _ (none s.args.shape.counts) (ends _)
-
-  by_rule : b.location_by.result ≡ location_by s.args.uniform part s.args.point
-  by_rule = b.location_by.ensures ∙ location_found_lem part s.args.point good s.pre.1.finite_point s.args.uniform
-
-  found : b.location_by.result ≡ location_by s.args.uniform (axis_of s.args.shape s.args.nodes.now 0) s.args.point
-  found = by_rule ∙ ap (λ xs. location_by s.args.uniform xs s.args.point) (axis_lies s.pre.0 0 _ (none s.args.shape.counts) (ends _))
-
-  fits : upper_of b.location_by.result < get_or s.args.shape.counts 0 0
-  fits =
-      part_index s.pre.0 0 _ (none s.args.shape.counts) (ends _) _
-      (subst (λ (l : AxisLocation). upper_of l < length part) (sym by_rule) (location_fits part s.args.point good s.pre.1.finite_point s.args.uniform))
-
--- the location that was found, in the nodes that are lent
 pub slice_bounds-location_by-end : goal.slice_bounds-location_by-end
 slice_bounds-location_by-end c = axis_ends c.requires.ready 0 _ (none c.args.shape.counts) (ends _)
 
@@ -52,16 +31,34 @@ nonzero_div-rest c = omega (arith, some_at c.requires.ready)
 
 pub fill-requires : goal.fill-requires
 fill-requires c =
-    node_runs (s (goal.at.fill-requires c).After-location_by-location).requires.0 _ (fits (goal.at.fill-requires c).After-location_by-location) _ _ c.in_default.is c.lower_node-node.ensures _ (s (goal.at.fill-requires c).After-location_by-location).requires.1.enough
+    let part : List Float = (take (get_or c.args.shape.counts 0 0 - 0) (drop 0 c.args.nodes.now)) in
+    let good : Axis part = (part_axis c.requires.ready 0 _ (none c.args.shape.counts) (ends _)) in
+    let by_rule : c.location_by-location.result ≡ location_by c.args.uniform part c.args.point = (c.location_by-location.ensures ∙ location_found_lem part c.args.point good c.requires.taken.finite_point c.args.uniform) in
+    let fits : upper_of c.location_by-location.result < get_or c.args.shape.counts 0 0 = (part_index c.requires.ready 0 _ (none c.args.shape.counts) (ends _) _ (subst (λ (l : AxisLocation). upper_of l < length part) (sym by_rule) (location_fits part c.args.point good c.requires.taken.finite_point c.args.uniform))) in
+    node_runs c.requires.ready _ fits _ _ c.in_default.is c.lower_node-node.ensures _ c.requires.taken.enough
 
 pub returns-in_default : goal.returns-in_default
 returns-in_default c =
-    node_results (s (goal.at.returns-in_default c).After-location_by-location).requires.0 _ (fits (goal.at.returns-in_default c).After-location_by-location) _ _ (found (goal.at.returns-in_default c).After-location_by-location) _ _ c.in_default.is c.lower_node-node.ensures _ _ _ c.no_fault.ensures c.fill.ensures
+    let part : List Float = (take (get_or c.args.shape.counts 0 0 - 0) (drop 0 c.args.nodes.now)) in
+    let good : Axis part = (part_axis c.requires.ready 0 _ (none c.args.shape.counts) (ends _)) in
+    let by_rule : c.location_by-location.result ≡ location_by c.args.uniform part c.args.point = (c.location_by-location.ensures ∙ location_found_lem part c.args.point good c.requires.taken.finite_point c.args.uniform) in
+    let fits : upper_of c.location_by-location.result < get_or c.args.shape.counts 0 0 = (part_index c.requires.ready 0 _ (none c.args.shape.counts) (ends _) _ (subst (λ (l : AxisLocation). upper_of l < length part) (sym by_rule) (location_fits part c.args.point good c.requires.taken.finite_point c.args.uniform))) in
+    let found : c.location_by-location.result ≡ location_by c.args.uniform (axis_of c.args.shape c.args.nodes.now 0) c.args.point = (by_rule ∙ ap (λ xs. location_by c.args.uniform xs c.args.point) (axis_lies c.requires.ready 0 _ (none c.args.shape.counts) (ends _))) in
+    node_results c.requires.ready _ fits _ _ found _ _ c.in_default.is c.lower_node-node.ensures _ _ _ c.no_fault.ensures c.fill.ensures
 
 pub blend_runs-requires : goal.blend_runs-requires
 blend_runs-requires c =
-    runs_beside (s (goal.at.blend_runs-requires c).After-location_by-location).requires.0 _ (fits (goal.at.blend_runs-requires c).After-location_by-location) _ _ c.in-Between.is _ (s (goal.at.blend_runs-requires c).After-location_by-location).requires.1.enough
+    let part : List Float = (take (get_or c.args.shape.counts 0 0 - 0) (drop 0 c.args.nodes.now)) in
+    let good : Axis part = (part_axis c.requires.ready 0 _ (none c.args.shape.counts) (ends _)) in
+    let by_rule : c.location_by-location.result ≡ location_by c.args.uniform part c.args.point = (c.location_by-location.ensures ∙ location_found_lem part c.args.point good c.requires.taken.finite_point c.args.uniform) in
+    let fits : upper_of c.location_by-location.result < get_or c.args.shape.counts 0 0 = (part_index c.requires.ready 0 _ (none c.args.shape.counts) (ends _) _ (subst (λ (l : AxisLocation). upper_of l < length part) (sym by_rule) (location_fits part c.args.point good c.requires.taken.finite_point c.args.uniform))) in
+    runs_beside c.requires.ready _ fits _ _ c.in-Between.is _ c.requires.taken.enough
 
 pub returns : goal.returns
 returns c =
-    between_results (s (goal.at.returns c).After-location_by-location).requires.0 _ (fits (goal.at.returns c).After-location_by-location) _ _ (found (goal.at.returns c).After-location_by-location) _ _ c.in-Between.is c.blend_runs.ensures
+    let part : List Float = (take (get_or c.args.shape.counts 0 0 - 0) (drop 0 c.args.nodes.now)) in
+    let good : Axis part = (part_axis c.requires.ready 0 _ (none c.args.shape.counts) (ends _)) in
+    let by_rule : c.location_by-location.result ≡ location_by c.args.uniform part c.args.point = (c.location_by-location.ensures ∙ location_found_lem part c.args.point good c.requires.taken.finite_point c.args.uniform) in
+    let fits : upper_of c.location_by-location.result < get_or c.args.shape.counts 0 0 = (part_index c.requires.ready 0 _ (none c.args.shape.counts) (ends _) _ (subst (λ (l : AxisLocation). upper_of l < length part) (sym by_rule) (location_fits part c.args.point good c.requires.taken.finite_point c.args.uniform))) in
+    let found : c.location_by-location.result ≡ location_by c.args.uniform (axis_of c.args.shape c.args.nodes.now 0) c.args.point = (by_rule ∙ ap (λ xs. location_by c.args.uniform xs c.args.point) (axis_lies c.requires.ready 0 _ (none c.args.shape.counts) (ends _))) in
+    between_results c.requires.ready _ fits _ _ found _ _ c.in-Between.is c.blend_runs.ensures

@@ -23,21 +23,7 @@ overflow_add-end c = omega (arith, axis_ends c.requires.ready _ _ c.axis_start-s
 
 pub slice_bounds-pick_index-end : goal.slice_bounds-pick_index-end
 slice_bounds-pick_index-end c = axis_ends c.requires.ready _ _ c.axis_start-start.ensures.value refl
-module _ (f : goal.After-pick_index-i) where
-  abbrev s : goal.Start
-  s = start f.before.before.before
-  abbrev from : ℕ
-  from = f.before.before.axis_start.result
-  abbrev part : List Float
-  part = take (from + get_or s.args.shape.counts s.args.axis 0 - from) (drop from s.args.nodes.now)
-  by_rule : f.pick_index.result ≡ pick_index s.args.pick part s.args.point
-  by_rule = f.pick_index.ensures ∙ pick_found_lem part s.args.point (part_axis s.pre.0 _ _ f.before.before.axis_start.ensures.0 refl) s.pre.1.finite_point s.args.pick
-  within : f.pick_index.result < get_or s.args.shape.counts s.args.axis 0
-  within =
-      let e = f.before.before.axis_start.ensures.0 in
-      part_index s.pre.0 _ _ e refl _ (omega (arith, by_rule, pick_fits part s.args.point (part_axis s.pre.0 _ _ e refl) s.pre.1.finite_point s.args.pick))
 
--- the index in the nodes of the axis, as they were lent
 pub stride-inner-requires : goal.stride-inner-requires
 stride-inner-requires c =
     let r = c.requires.ready in
@@ -49,10 +35,15 @@ nonzero_div-count c = omega (arith, some_at c.requires.ready)
 
 pub fill-requires : goal.fill-requires
 fill-requires c =
-    let s = start (goal.at.fill-requires c).After-counts-1 in
-    runs_there s.pre.0 _ c.stride-inner.ensures _ (within (goal.at.fill-requires c).After-pick_index-i) _ s.pre.1.enough
+    let from : ℕ = (c.axis_start-start.result) in
+    let part : List Float = (take (from + get_or c.args.shape.counts c.args.axis 0 - from) (drop from c.args.nodes.now)) in
+    let by_rule : c.pick_index-i.result ≡ pick_index c.args.pick part c.args.point = (c.pick_index-i.ensures ∙ pick_found_lem part c.args.point (part_axis c.requires.ready _ _ c.axis_start-start.ensures.value refl) c.requires.taken.finite_point c.args.pick) in
+    let within : c.pick_index-i.result < get_or c.args.shape.counts c.args.axis 0 = (let e = c.axis_start-start.ensures.value in part_index c.requires.ready _ _ e refl _ (omega (arith, by_rule, pick_fits part c.args.point (part_axis c.requires.ready _ _ e refl) c.requires.taken.finite_point c.args.pick))) in
+    runs_there c.requires.ready _ c.stride-inner.ensures _ within _ c.requires.taken.enough
 
 pub returns : goal.returns
 returns c =
-    let s = start (goal.at.returns c).After-counts-1 in
-    runs_written s.pre.0 _ c.stride-inner.ensures _ _ (by_rule (goal.at.returns c).After-pick_index-i ∙ ap (λ xs. pick_index s.args.pick xs s.args.point) (axis_lies s.pre.0 _ _ c.axis_start-start.ensures.value refl)) _ _ c.fill.ensures
+    let from : ℕ = (c.axis_start-start.result) in
+    let part : List Float = (take (from + get_or c.args.shape.counts c.args.axis 0 - from) (drop from c.args.nodes.now)) in
+    let by_rule : c.pick_index-i.result ≡ pick_index c.args.pick part c.args.point = (c.pick_index-i.ensures ∙ pick_found_lem part c.args.point (part_axis c.requires.ready _ _ c.axis_start-start.ensures.value refl) c.requires.taken.finite_point c.args.pick) in
+    runs_written c.requires.ready _ c.stride-inner.ensures _ _ (by_rule ∙ ap (λ xs. pick_index c.args.pick xs c.args.point) (axis_lies c.requires.ready _ _ c.axis_start-start.ensures.value refl)) _ _ c.fill.ensures

@@ -30,13 +30,12 @@ slice_bounds-range_fault-end c = axis_ends c.requires _ _ c.axis_start-start.ens
 pub returns-then-fault-ne0-2 : goal.returns-then-fault-ne0-2
 unfolding point_fault
 returns-then-fault-ne0-2 c =
-    let range_told : let s = start (goal.at.returns-then-fault-ne0-2 c).After-struct_known-1 in c.range_fault-fault.result ≡ range_fault s.args.axis (axis_of s.args.shape s.args.nodes.now s.args.axis) s.args.point = (let s = start (goal.at.returns-then-fault-ne0-2 c).After-struct_known-1 in c.range_fault-fault.ensures ∙ ap (λ xs. range_fault s.args.axis xs s.args.point) (axis_lies s.pre _ _ c.axis_start-start.ensures.value refl)) in
-    or_goes_on _ _ c.reading_fault-fault.ensures _ _ c.if-fault-ne0.false (or_stops _ _ (range_told) _ c.if-fault-ne0-2.true)
+    let range_told : c.range_fault-fault.result ≡ range_fault c.args.axis (axis_of c.args.shape c.args.nodes.now c.args.axis) c.args.point = (c.range_fault-fault.ensures ∙ ap (λ xs. range_fault c.args.axis xs c.args.point) (axis_lies c.requires _ _ c.axis_start-start.ensures.value refl)) in
+    or_goes_on _ _ c.reading_fault-fault.ensures _ _ c.if-fault-ne0.false (or_stops _ _ range_told _ c.if-fault-ne0-2.true)
 
 pub returns : goal.returns
 unfolding point_fault
 returns c =
-    let range_told : let s = start (goal.at.returns c).After-struct_known-1 in c.range_fault-fault.result ≡ range_fault s.args.axis (axis_of s.args.shape s.args.nodes.now s.args.axis) s.args.point = (let s = start (goal.at.returns c).After-struct_known-1 in c.range_fault-fault.ensures ∙ ap (λ xs. range_fault s.args.axis xs s.args.point) (axis_lies s.pre _ _ c.axis_start-start.ensures.value refl)) in
-    let s = start (goal.at.returns c).After-struct_known-1 in
+    let range_told : c.range_fault-fault.result ≡ range_fault c.args.axis (axis_of c.args.shape c.args.nodes.now c.args.axis) c.args.point = (c.range_fault-fault.ensures ∙ ap (λ xs. range_fault c.args.axis xs c.args.point) (axis_lies c.requires _ _ c.axis_start-start.ensures.value refl)) in
     or_goes_on _ _ c.reading_fault-fault.ensures _ _ c.if-fault-ne0.false
-    (or_goes_on _ _ (range_told) _ _ c.if-fault-ne0-2.false (c.room_fault.ensures ∙ ap (λ (m : ℕ). room_fault 1 m s.args.room) (slice_count s.pre)))
+    (or_goes_on _ _ range_told _ _ c.if-fault-ne0-2.false (c.room_fault.ensures ∙ ap (λ (m : ℕ). room_fault 1 m c.args.room) (slice_count c.requires)))

@@ -22,19 +22,18 @@ run_length values k r h = length-take-le r (drop k values) (omega (arith, length
 
 pub returns-then-fault-ne0 : goal.returns-then-fault-ne0
 returns-then-fault-ne0 c =
-    let told : c.blend_fault-fault.result ≡ results_fault (blended_runs c.args.frac c.args.lower c.args.rest c.args.values.now) = (let s = start (goal.at.returns-then-fault-ne0 c).After-blend_fault-fault in let r = s.args.rest in c.blend_fault-fault.ensures ∙ ap₂ (λ (i j : ℕ). results_fault (blends s.args.frac (take i (drop (s.args.lower * r) s.args.values.now)) (take j (drop (s.args.lower * r + r) s.args.values.now)))) (cut (s.args.lower * r) r) (cut (s.args.lower * r + r) r)) in
-    kept _ _ (told) _ _ c.if-fault-ne0.true
+    let told : c.blend_fault-fault.result ≡ results_fault (blended_runs c.args.frac c.args.lower c.args.rest c.args.values.now) = (let r = c.args.rest in c.blend_fault-fault.ensures ∙ ap₂ (λ (i j : ℕ). results_fault (blends c.args.frac (take i (drop (c.args.lower * r) c.args.values.now)) (take j (drop (c.args.lower * r + r) c.args.values.now)))) (cut (c.args.lower * r) r) (cut (c.args.lower * r + r) r)) in
+    kept _ _ told _ _ c.if-fault-ne0.true
 
 pub returns : goal.returns
 returns c =
-    let told : c.blend_fault-fault.result ≡ results_fault (blended_runs c.args.frac c.args.lower c.args.rest c.args.values.now) = (let s = start (goal.at.returns c).After-blend_fault-fault in let r = s.args.rest in c.blend_fault-fault.ensures ∙ ap₂ (λ (i j : ℕ). results_fault (blends s.args.frac (take i (drop (s.args.lower * r) s.args.values.now)) (take j (drop (s.args.lower * r + r) s.args.values.now)))) (cut (s.args.lower * r) r) (cut (s.args.lower * r + r) r)) in
-    let s = start (goal.at.returns c).After-blend_fault-fault in
-    let r = s.args.rest in
-    let from = s.args.lower * r in
-    let vs = s.args.values.now in
-    let low : length (take r (drop from vs)) ≡ r = run_length vs from r (omega (arith, s.pre.reach)) in
-    let high : length (take r (drop (from + r) vs)) ≡ r = run_length vs (from + r) r s.pre.reach in
-    written _ _ (told) _ _ c.if-fault-ne0.false r (sym (length-blends s.args.frac _ _ r low high)) _
+    let told : c.blend_fault-fault.result ≡ results_fault (blended_runs c.args.frac c.args.lower c.args.rest c.args.values.now) = (let r = c.args.rest in c.blend_fault-fault.ensures ∙ ap₂ (λ (i j : ℕ). results_fault (blends c.args.frac (take i (drop (c.args.lower * r) c.args.values.now)) (take j (drop (c.args.lower * r + r) c.args.values.now)))) (cut (c.args.lower * r) r) (cut (c.args.lower * r + r) r)) in
+    let r = c.args.rest in
+    let from = c.args.lower * r in
+    let vs = c.args.values.now in
+    let low : length (take r (drop from vs)) ≡ r = run_length vs from r (omega (arith, c.requires.reach)) in
+    let high : length (take r (drop (from + r) vs)) ≡ r = run_length vs (from + r) r c.requires.reach in
+    written _ _ told _ _ c.if-fault-ne0.false r (sym (length-blends c.args.frac _ _ r low high)) _
     (c.blend_into.ensures
-    ∙ ap₂ (λ (i j : ℕ). blended_into s.args.frac (take i (drop from vs)) (take j (drop (from + r) vs)) s.args.out.now) (cut from r) (cut (from + r) r)
-    ∙ into_blends s.args.frac _ _ s.args.out.now r low high s.pre.enough)
+    ∙ ap₂ (λ (i j : ℕ). blended_into c.args.frac (take i (drop from vs)) (take j (drop (from + r) vs)) c.args.out.now) (cut from r) (cut (from + r) r)
+    ∙ into_blends c.args.frac _ _ c.args.out.now r low high c.requires.enough)

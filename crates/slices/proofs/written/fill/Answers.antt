@@ -50,17 +50,16 @@ next_in_run-j-requires c =
 
 pub loop-t-preserved : goal.loop-t-preserved
 loop-t-preserved c =
-    let s = start (goal.at.loop-t-preserved c).At-loop-t in
     let w = c.loop-t.invariant in
-    let a = s.args in
+    let a = c.args in
     record {
       on = omega (arith, c.loop-t-test.true);
       long = simp length-set w.long;
-      in_run = c.next_in_run-j.ensures ∙ next_j c.loop-t.t a.inner a.n a.i s.pre.some s.pre.in_axis c.loop-t.from c.loop-t.j w.in_run w.at;
-      at = c.next_from-from.ensures ∙ next_place c.loop-t.t a.inner a.n a.i s.pre.some s.pre.in_axis c.loop-t.from c.loop-t.j w.in_run w.at;
+      in_run = c.next_in_run-j.ensures ∙ next_j c.loop-t.t a.inner a.n a.i c.requires.some c.requires.in_axis c.loop-t.from c.loop-t.j w.in_run w.at;
+      at = c.next_from-from.ensures ∙ next_place c.loop-t.t a.inner a.n a.i c.requires.some c.requires.in_axis c.loop-t.from c.loop-t.j w.in_run w.at;
       done =
           ap₂ (λ (xs : List Float) (m : ℕ). set xs c.loop-t.t (get_or a.values.now m nan)) w.done w.at
-          ∙ tabulate-step c.loop-t.t (λ (m : ℕ). get_or a.values.now (run_place a.n a.inner a.i m) nan) a.out.now (omega (arith, c.loop-t-test.true, s.pre.enough));
+          ∙ tabulate-step c.loop-t.t (λ (m : ℕ). get_or a.values.now (run_place a.n a.inner a.i m) nan) a.out.now (omega (arith, c.loop-t-test.true, c.requires.enough));
     }
 
 pub returns : goal.returns

@@ -21,14 +21,12 @@ overflow_add-length c =
 
 pub returns : goal.returns
 returns c =
-    let z = sized c in
-    let n4 = z.before in
-    let s = n4.before.before.before.before in
+    let values : c.sizes-held.result.values ≡ size (counts_of c.args.shape) = (holds_values _ c.requires _ c.sizes-held.ensures) in
     record {
       long = refl;
       told =
-          fields_made s.args.shape s.pre
-          n4.before.before.before.count_in_lem.result n4.before.before.count-in2.result n4.before.count-in3.result n4.count-in4.result
-          n4.before.before.before.count_in_lem.ensures.is n4.before.before.count-in2.ensures.is n4.before.count-in3.ensures.is n4.count-in4.ensures.is
-          _ _ _ _ _ (values z) c.offset_in-offset0.ensures c.offset_in-offset1.ensures c.offset_in-offset2.ensures c.offset_in-offset3.ensures;
+          fields_made c.args.shape c.requires
+          c.count_in-count0.result c.count_in-count1.result c.count_in-count2.result c.count_in-count3.result
+          c.count_in-count0.ensures.is c.count_in-count1.ensures.is c.count_in-count2.ensures.is c.count_in-count3.ensures.is
+          _ _ _ _ _ values c.offset_in-offset0.ensures c.offset_in-offset1.ensures c.offset_in-offset2.ensures c.offset_in-offset3.ensures;
     }

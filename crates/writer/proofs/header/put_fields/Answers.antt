@@ -14,12 +14,12 @@ loop-k-init c = (omega arith, (refl, (omega arith, refl)))
 
 pub put_word-requires : goal.put_word-requires
 put_word-requires c =
-    let room : c.loop-k.at + get_or c.args.widths.now c.loop-k.k 0 ≤ length c.loop-k.out = (let s = start (goal.at.put_word-requires c).After-shared_slice_known-in-loop-k-2-1 in omega (arith, sum_more s.args.widths.now s.args.fields.now c.loop-k.k c.loop-k-test.true, c.loop-k.invariant.1.1.0, c.loop-k.invariant.1.0, s.pre.enough)) in
+    let room : c.loop-k.at + get_or c.args.widths.now c.loop-k.k 0 ≤ length c.loop-k.out = (omega (arith, sum_more c.args.widths.now c.args.fields.now c.loop-k.k c.loop-k-test.true, c.loop-k.invariant.1.1.0, c.loop-k.invariant.1.0, c.requires.enough)) in
     omega (arith, room)
 
 pub overflow_add-at : goal.overflow_add-at
 overflow_add-at c =
-    let room : c.loop-k.at + get_or c.args.widths.now c.loop-k.k 0 ≤ length c.loop-k.out = (let s = start (goal.at.overflow_add-at c).After-shared_slice_known-in-loop-k-2-1 in omega (arith, sum_more s.args.widths.now s.args.fields.now c.loop-k.k c.loop-k-test.true, c.loop-k.invariant.1.1.0, c.loop-k.invariant.1.0, s.pre.enough)) in
+    let room : c.loop-k.at + get_or c.args.widths.now c.loop-k.k 0 ≤ length c.loop-k.out = (omega (arith, sum_more c.args.widths.now c.args.fields.now c.loop-k.k c.loop-k-test.true, c.loop-k.invariant.1.1.0, c.loop-k.invariant.1.0, c.requires.enough)) in
     omega (arith, room, c.well_formed.0.0, c.loop-k.invariant.1.0)
 
 pub overflow_add-k : goal.overflow_add-k
@@ -32,14 +32,13 @@ loop-k-smaller c =
 
 pub loop-k-preserved : goal.loop-k-preserved
 loop-k-preserved c =
-    let s = start (goal.at.loop-k-preserved c).After-shared_slice_known-in-loop-k-2-1 in
-    let m = sum_more s.args.widths.now s.args.fields.now c.loop-k.k c.loop-k-test.true in (
+    let m = sum_more c.args.widths.now c.args.fields.now c.loop-k.k c.loop-k-test.true in (
       omega (arith, c.loop-k-test.true),
       (
-        c.put_word.auto.0 ∙ c.loop-k.invariant.1.0,
+        c.put_word.auto.out ∙ c.loop-k.invariant.1.0,
         (
           omega (arith, m, c.loop-k.invariant.1.1.0),
-          fields_step s.args.widths.now s.args.fields.now c.loop-k.k c.loop-k.out _ c.loop-k.at c.loop-k-test.true s.pre.same c.put_word.ensures
+          fields_step c.args.widths.now c.args.fields.now c.loop-k.k c.loop-k.out _ c.loop-k.at c.loop-k-test.true c.requires.same c.put_word.ensures
               ∙ c.loop-k.invariant.1.1.1,
         ),
       ),

@@ -17,7 +17,7 @@ loop-i-preserved c =
     (
       omega (arith, c.loop-i-test.true),
       (
-        c.put_word.auto.0 ∙ c.loop-i.invariant.1.0,
+        c.put_word.auto.out ∙ c.loop-i.invariant.1.0,
         floats_step c.loop-i.out _ c.args.at c.loop-i.i _ c.args.floats.now c.loop-i-test.true c.bits_of_float-bits.ensures c.put_word.ensures ∙ c.loop-i.invariant.1.1,
       ),
     )

@@ -13,30 +13,25 @@ loop-count-init c =
 
 pub returns-then-records-at : goal.returns-then-records-at
 returns-then-records-at c =
-    let s = start (goal.at.returns-then-records-at c).At-loop-count in
-    let a = s.args in
-    block_short a.shape a.nodes.now a.values.now a.size s.pre.1 c.loop-count.invariant c.if-records-at.true
+    let a = c.args in
+    block_short a.shape a.nodes.now a.values.now a.size c.requires.size_value c.loop-count.invariant c.if-records-at.true
 
 pub returns-then-out-written-lt-LONGEST : goal.returns-then-out-written-lt-LONGEST
 returns-then-out-written-lt-LONGEST c =
-    let s = start (goal.at.returns-then-out-written-lt-LONGEST c).At-loop-count in
-    let a = s.args in
-    block_full a.shape a.nodes.now a.values.now a.size s.pre.1 c.loop-count.invariant c.if-out-written-lt-LONGEST.true
+    let a = c.args in
+    block_full a.shape a.nodes.now a.values.now a.size c.requires.size_value c.loop-count.invariant c.if-out-written-lt-LONGEST.true
 
 pub put_answer-written-requires : goal.put_answer-written-requires
 put_answer-written-requires c =
-    let s = start (goal.at.put_answer-written-requires c).At-loop-count in
-    let a = s.args in
-    record { known = s.pre.0; rec_len = (record_there a.shape a.nodes.now a.values.now a.size s.pre.1 a.records.now c.loop-count.at c.if-records-at.false, omega (arith, c.if-out-written-lt-LONGEST.false)) }
+    let a = c.args in
+    record { known = c.requires.known; rec_len = (record_there a.shape a.nodes.now a.values.now a.size c.requires.size_value a.records.now c.loop-count.at c.if-records-at.false, omega (arith, c.if-out-written-lt-LONGEST.false)) }
 
 pub loop-count-preserved : goal.loop-count-preserved
 loop-count-preserved c =
-    let s = start (goal.at.loop-count-preserved c).At-loop-count in
-    let a = s.args in
-    block_turn a.shape a.nodes.now a.values.now a.size s.pre.1 c.loop-count.invariant c.loop-count-test.true c.if-records-at.false c.if-out-written-lt-LONGEST.false c.put_answer-written.ensures.wrote c.put_answer-written.ensures.upper_bound (omega (arith, c.put_answer-written.auto))
+    let a = c.args in
+    block_turn a.shape a.nodes.now a.values.now a.size c.requires.size_value c.loop-count.invariant c.loop-count-test.true c.if-records-at.false c.if-out-written-lt-LONGEST.false c.put_answer-written.ensures.wrote c.put_answer-written.ensures.upper_bound (omega (arith, c.put_answer-written.auto))
 
 pub returns : goal.returns
 returns c =
-    let s = start (goal.at.returns c).At-loop-count in
-    let a = s.args in
-    block_most a.shape a.nodes.now a.values.now a.size s.pre.1 c.loop-count.invariant c.loop-count-test.false
+    let a = c.args in
+    block_most a.shape a.nodes.now a.values.now a.size c.requires.size_value c.loop-count.invariant c.loop-count-test.false

@@ -11,20 +11,18 @@ loop-a-init c =
 
 pub overflow_add-end : goal.overflow_add-end
 overflow_add-end c =
-    let within : c.loop-a.at + get_or c.args.shape.counts c.loop-a.a 0 ≤ length c.args.nodes.now = (let s = start (goal.at.overflow_add-end c).At-loop-a in find_within s.args.shape s.args.nodes.now s.args.rec.now s.pre c.loop-a.invariant c.loop-a-test.true) in
+    let within : c.loop-a.at + get_or c.args.shape.counts c.loop-a.a 0 ≤ length c.args.nodes.now = (find_within c.args.shape c.args.nodes.now c.args.rec.now c.requires c.loop-a.invariant c.loop-a-test.true) in
     omega (arith, within)
 
 pub slice_bounds-lower_index-end : goal.slice_bounds-lower_index-end
 slice_bounds-lower_index-end c =
-    let within : c.loop-a.at + get_or c.args.shape.counts c.loop-a.a 0 ≤ length c.args.nodes.now = (let s = start (goal.at.slice_bounds-lower_index-end c).At-loop-a in find_within s.args.shape s.args.nodes.now s.args.rec.now s.pre c.loop-a.invariant c.loop-a-test.true) in
+    let within : c.loop-a.at + get_or c.args.shape.counts c.loop-a.a 0 ≤ length c.args.nodes.now = (find_within c.args.shape c.args.nodes.now c.args.rec.now c.requires c.loop-a.invariant c.loop-a-test.true) in
     omega (arith, within)
 
 pub loop-a-preserved : goal.loop-a-preserved
 loop-a-preserved c =
-    let s = start (goal.at.loop-a-preserved c).At-loop-a in
-    find_again s.args.shape s.args.nodes.now s.args.rec.now s.pre c.loop-a.invariant c.loop-a-test.true _ c.float-reading.ensures _ c.lower_index-cell.ensures
+    find_again c.args.shape c.args.nodes.now c.args.rec.now c.requires c.loop-a.invariant c.loop-a-test.true _ c.float-reading.ensures _ c.lower_index-cell.ensures
 
 pub returns : goal.returns
 returns c =
-    let s = start (goal.at.returns c).At-loop-a in
-    find_done s.args.shape s.args.nodes.now s.args.rec.now s.pre c.loop-a.invariant c.loop-a-test.false
+    find_done c.args.shape c.args.nodes.now c.args.rec.now c.requires c.loop-a.invariant c.loop-a-test.false

@@ -26,9 +26,8 @@ slice_bounds-count_next-end c =
 pub count_next-read-requires : goal.count_next-read-requires
 count_next-read-requires c =
     let there : c.args.size ≤ length c.args.records.now - c.loop-read.at = (leb-true _ _ c.if-records-at.true-raw) in
-    let s = start (goal.at.count_next-read-requires c).At-loop-read in
-    let a = s.args in
-    record { known = s.pre.0; rec_len = record_there a.shape a.nodes.now a.values.now a.size s.pre.1 a.records.now c.loop-read.at (there) }
+    let a = c.args in
+    record { known = c.requires.0; rec_len = record_there a.shape a.nodes.now a.values.now a.size c.requires.1 a.records.now c.loop-read.at there }
 
 pub loop-read-smaller : goal.loop-read-smaller
 loop-read-smaller c =
@@ -38,18 +37,15 @@ loop-read-smaller c =
 pub loop-read-preserved : goal.loop-read-preserved
 loop-read-preserved c =
     let there : c.args.size ≤ length c.args.records.now - c.loop-read.at = (leb-true _ _ c.if-records-at.true-raw) in
-    let s = start (goal.at.loop-read-preserved c).At-loop-read in
-    let a = s.args in
-    counting_again a.shape a.nodes.now a.values.now a.t a.records.now a.size s.pre.1 _ c.loop-read.at c.loop-read.invariant _ c.loop-read-test.true (there) c.count_next-read.ensures
+    let a = c.args in
+    counting_again a.shape a.nodes.now a.values.now a.t a.records.now a.size c.requires.1 _ c.loop-read.at c.loop-read.invariant _ c.loop-read-test.true there c.count_next-read.ensures
 
 pub returns-else-records-at : goal.returns-else-records-at
 returns-else-records-at c =
-    let s = start (goal.at.returns-else-records-at c).At-loop-read in
-    let a = s.args in
-    counting_short a.shape a.nodes.now a.values.now a.t a.records.now a.size s.pre.1 _ c.loop-read.at c.loop-read.invariant (leb-false _ _ c.if-records-at.false-raw)
+    let a = c.args in
+    counting_short a.shape a.nodes.now a.values.now a.t a.records.now a.size c.requires.1 _ c.loop-read.at c.loop-read.invariant (leb-false _ _ c.if-records-at.false-raw)
 
 pub returns-after-loop-read : goal.returns-after-loop-read
 returns-after-loop-read c =
-    let s = start (goal.at.returns-after-loop-read c).At-loop-read in
-    let a = s.args in
-    counting_most a.shape a.nodes.now a.values.now a.t a.records.now a.size s.pre.1 _ c.loop-read.at c.loop-read.invariant c.loop-read-test.false
+    let a = c.args in
+    counting_most a.shape a.nodes.now a.values.now a.t a.records.now a.size c.requires.1 _ c.loop-read.at c.loop-read.invariant c.loop-read-test.false

@@ -21,55 +21,42 @@ use Rattle.axis.proofs.Located.{lower_upper}
 use borrow.Author.Rules.{rules}
 use Rattle.ninterp.proofs.interpolator.n.corners.corner_answer.Goals as goal
 
-abbrev first : goal.Start → AxisLocation
-first (goal.at.None c).Start = get_or s.args.locations 0 (Exact 0)
-module (goal.at.None c).Start (k : goal.After-rest_places-rest) where
-  abbrev s : goal.Start
-  s = k.before.before.before.before.before
+room : (k : goal.After-rest_places-rest) → k.rest_places.result.count ≤ length k.rest_places.last.1.1.1.0
+room (goal.at.None c).After-rest_places-rest = omega (arith, eight, k.rest_places-rest.kept.1.1.1.0)
+module (goal.at.None c).After-rest_places-rest (node i : ℕ) where
+  abbrev at : ℕ
+  at = get_or k.rest_places.last.1.1.1.0 i 0 + node * size (drop 1 (take (s k).args.shape.axes (s k).args.shape.counts))
 
-  abbrev many : ℕ
-  many = length (diffs (drop 1 (take s.args.shape.axes s.args.locations)))
+  under : node ≤ upper_of (first (s k)) → i < k.rest_places.result.count → at < length (s k).args.values.now
+  under l b =
+      omega (arith, corner_under (s k).args.locations (s k).args.shape.counts (s k).args.shape.axes (s k).pre.some (long_l (s k)) (long_c (s k)) (s k).pre.within (goal.at.None c).After-rest_places-rest refl node (goal.at.None c).After-rest_places-rest (goal.at.None c).After-rest_places-rest i l (k.rest_places.ensures.each i (omega (arith, k.rest_places.ensures.corners, b))) refl, (s k).pre.stored)
 
-  -- three axes are left at most, and so eight corners
-  eight : k.rest_places.result.count ≤ 8
-  eight =
-      let rest = drop 1 (take s.args.shape.axes s.args.locations) in
-      let short : many ≤ 3 = omega (arith, few_diffs rest, length-drop 1 (take s.args.shape.axes s.args.locations), length-take s.args.shape.axes s.args.locations, s.pre.four) in
-      let u : 2 ^ many ≤ 2 ^ 3 = pow-le-pow_right (omega arith) {i = many} {j = 3} short in
-      omega (arith, k.rest_places.ensures.corners, u)
+  stored : i < 2 ^ (many k) → get_or (s k).args.values.now at nan
+      ≡ table (take (s k).args.shape.axes (s k).args.shape.counts) (s k).args.values.now (node ∷ corner_at (drop 1 (take (s k).args.shape.axes (s k).args.locations)) i)
+  stored b = at-node (s k).args.locations (s k).args.shape.counts (s k).args.shape.axes (s k).pre.some (long_l (s k)) (long_c (s k)) (s k).pre.within (goal.at.None c).After-rest_places-rest refl (s k).args.values.now node (goal.at.None c).After-rest_places-rest (goal.at.None c).After-rest_places-rest i (k.rest_places.ensures.each i b) refl
 
-  room : k.rest_places.result.count ≤ length k.rest_places.last.1.1.1.0
-  room = omega (arith, eight, k.rest_places.kept.1.1.1.0)
-
-  -- a node of the first axis, and a corner of the others under it
-  module (goal.at.None c).Start (node i : ℕ) where
-    abbrev at : ℕ
-    at = get_or k.rest_places.last.1.1.1.0 i 0 + node * size (drop 1 (take s.args.shape.axes s.args.shape.counts))
-
-    under : node ≤ upper_of (first s) → i < k.rest_places.result.count → at < length s.args.values.now
-    under l b =
-        omega (arith, corner_under s.args.locations s.args.shape.counts s.args.shape.axes s.pre.some (long_l s) (long_c s) s.pre.within (goal.at.None c).Start refl node (goal.at.None c).Start (goal.at.None c).Start i l (k.rest_places.ensures.each i (omega (arith, k.rest_places.ensures.corners, b))) refl, s.pre.stored)
-
-    stored : i < 2 ^ many → get_or s.args.values.now at nan
-        ≡ table (take s.args.shape.axes s.args.shape.counts) s.args.values.now (node ∷ corner_at (drop 1 (take s.args.shape.axes s.args.locations)) i)
-    stored b = at-node s.args.locations s.args.shape.counts s.args.shape.axes s.pre.some (long_l s) (long_c s) s.pre.within (goal.at.None c).Start refl s.args.values.now node (goal.at.None c).Start (goal.at.None c).Start i (k.rest_places.ensures.each i b) refl
-
+-- a node of the first axis, and a corner of the others under it
 pub gather-vals-requires : goal.gather-vals-requires
 gather-vals-requires c =
+    let many : ℕ = (length (diffs (drop 1 (take c.args.shape.axes c.args.locations)))) in
+    let eight : c.rest_places-rest.result.count ≤ 8 = (let rest = drop 1 (take c.args.shape.axes c.args.locations) in let short : many ≤ 3 = omega (arith, few_diffs rest, length-drop 1 (take c.args.shape.axes c.args.locations), length-take c.args.shape.axes c.args.locations, c.requires.four) in let u : 2 ^ many ≤ 2 ^ 3 = pow-le-pow_right (omega arith) {i = many} {j = 3} short in omega (arith, c.rest_places-rest.ensures.corners, u)) in
+    let first : AxisLocation = (get_or c.args.locations 0 (Exact 0)) in
     record {
-      few = omega (arith, eight (goal.at.gather-vals-requires c).After-rest_places-arg-1);
+      few = omega (arith, eight);
       there = room (goal.at.gather-vals-requires c).After-rest_places-arg-1;
-      inside = λ i b. (omega (arith, under (goal.at.gather-vals-requires c).After-rest_places-arg-1 (location_index (first (s (goal.at.gather-vals-requires c).After-rest_places-arg-1))) i (lower_upper (first (s (goal.at.gather-vals-requires c).After-rest_places-arg-1))) b, c.rest_places.ensures.lower), omega (arith, under (goal.at.gather-vals-requires c).After-rest_places-arg-1 (upper_of (first (s (goal.at.gather-vals-requires c).After-rest_places-arg-1))) i (omega arith) b, c.rest_places.ensures.upper));
+      inside = λ i b. (omega (arith, under (goal.at.gather-vals-requires c).After-rest_places-arg-1 (location_index first) i (lower_upper first) b, c.rest_places.ensures.lower), omega (arith, under (goal.at.gather-vals-requires c).After-rest_places-arg-1 (upper_of first) i (omega arith) b, c.rest_places.ensures.upper));
     }
 
 pub returns : goal.returns
 returns c =
-    let t = s (goal.at.returns c).After-rest_places-arg-1 in
+    let long_l : c.args.shape.axes ≤ length c.args.locations = (omega (arith, c.well_formed.1.1.0.1.0.1, c.requires.four)) in
+    let long_c : c.args.shape.axes ≤ length c.args.shape.counts = (omega (arith, length_ids c.args.shape.counts c.well_formed.0.1.1.1.0.1.0.1, c.requires.four)) in
+    let first : AxisLocation = (get_or c.args.locations 0 (Exact 0)) in
     c.fold_answer.ensures
     ∙ ap computed
-    (folded t.args.locations t.args.shape.counts t.args.shape.axes t.pre.some (long_l t) (long_c t) t.pre.within _ refl t.args.values.now c.gather-vals.result (λ i b.
+    (folded c.args.locations c.args.shape.counts c.args.shape.axes c.requires.some long_l long_c c.requires.within _ refl c.args.values.now c.gather-vals.result (λ i b.
     let v = c.gather-vals.ensures.both i (omega (arith, c.rest_places.ensures.corners, b)) in
     let p = get_or c.rest_places.new.1.1.1.0 i 0 in (
-      v.0 ∙ ap (λ (m : ℕ). get_or t.args.values.now (p + m) nan) c.rest_places.ensures.lower ∙ stored (goal.at.returns c).After-rest_places-arg-1 (location_index (first t)) i b,
-      ap (λ (m : ℕ). get_or c.gather-vals.result (i + m) nan) (sym c.rest_places.ensures.corners) ∙ v.1 ∙ ap (λ (m : ℕ). get_or t.args.values.now (p + m) nan) c.rest_places.ensures.upper ∙ stored (goal.at.returns c).After-rest_places-arg-1 (upper_of (first t)) i b,
+      v.0 ∙ ap (λ (m : ℕ). get_or c.args.values.now (p + m) nan) c.rest_places.ensures.lower ∙ stored (goal.at.returns c).After-rest_places-arg-1 (location_index first) i b,
+      ap (λ (m : ℕ). get_or c.gather-vals.result (i + m) nan) (sym c.rest_places.ensures.corners) ∙ v.1 ∙ ap (λ (m : ℕ). get_or c.args.values.now (p + m) nan) c.rest_places.ensures.upper ∙ stored (goal.at.returns c).After-rest_places-arg-1 (upper_of first) i b,
     )))

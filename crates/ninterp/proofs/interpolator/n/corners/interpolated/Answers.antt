@@ -19,5 +19,4 @@ corner_answer-requires c =
 pub returns : goal.returns
 unfolding interpolated
 returns c =
-    let s = start (goal.at.returns c).After-all-locations in
-    c.corner_answer.ensures ∙ ap (λ ps. computed (linear ps (table (counts_of s.args.shape) s.args.values.now))) c.all-locations.ensures.same
+    c.corner_answer.ensures ∙ ap (λ ps. computed (linear ps (table (counts_of c.args.shape) c.args.values.now))) c.all-locations.ensures.same

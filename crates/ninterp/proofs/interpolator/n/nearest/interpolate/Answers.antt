@@ -18,11 +18,10 @@ returns-then-fault-ne0 c = then_stops _ _ c.lookup_fault-fault.ensures _ _ c.if-
 pub stored-requires : goal.stored-requires
 stored-requires c =
     let known : LookupJudged c.args.shape c.args.nodes.now c.args.values.now c.args.point.now = (lookup_judged_lem c.args.shape c.args.nodes.now c.args.values.now c.args.point.now (passes _ _ c.lookup_fault-fault.ensures c.if-fault-ne0.false)) in
-    record { lookup_judged = known; axes_in_bounds = (known).four }
+    record { lookup_judged = known; axes_in_bounds = known.four }
 
 pub returns : goal.returns
 unfolding nearest_answer
 returns c =
     let known : LookupJudged c.args.shape c.args.nodes.now c.args.values.now c.args.point.now = (lookup_judged_lem c.args.shape c.args.nodes.now c.args.values.now c.args.point.now (passes _ _ c.lookup_fault-fault.ensures c.if-fault-ne0.false)) in
-    let s = start (goal.at.returns c).Else-fault-ne0 in
-    then_goes_on _ _ c.lookup_fault-fault.ensures _ _ c.if-fault-ne0.false (c.stored.ensures ∙ ap answered (picks_nearest (four_of 2) (counts_of s.args.shape) s.args.nodes.now s.args.values.now s.args.point.now (λ a l. omega (arith, four_at_lem 2 a (omega (arith, (known).count, (known).four))))))
+    then_goes_on _ _ c.lookup_fault-fault.ensures _ _ c.if-fault-ne0.false (c.stored.ensures ∙ ap answered (picks_nearest (four_of 2) (counts_of c.args.shape) c.args.nodes.now c.args.values.now c.args.point.now (λ a l. omega (arith, four_at_lem 2 a (omega (arith, known.count, known.four))))))

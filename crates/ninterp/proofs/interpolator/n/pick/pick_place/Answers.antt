@@ -14,52 +14,56 @@ use Rattle.axis.specs.Scaffolding.{pick_rule}
 use Rattle.ninterp.proofs.Picks.{axis_within, axis-next, flat_next, flat_fits, flat_done}
 use Rattle.ninterp.proofs.interpolator.n.pick.pick_place.Goals as goal
 
-abbrev C : goal.Start → List ℕ
-C (goal.at.None c).Start = s.args.shape.counts
-
 pub loop-a-init : goal.loop-a-init
 loop-a-init c = (search rules, (refl, place_start _ _))
 
 pub bounds-counts-a : goal.bounds-counts-a
 bounds-counts-a c =
-    let four : length (C (goal.at.bounds-counts-a c).Start) ≡ 4 = (length_ids (C (goal.at.bounds-counts-a c).Start) c.well_formed.0.1.1.1.0.1.0.1) in
-    let long : c.args.shape.axes ≤ length (C (goal.at.bounds-counts-a c).Start) = (omega (arith, four, c.requires.readable_table.four)) in
+    let C : List ℕ = (c.args.shape.counts) in
+    let four : length C ≡ 4 = (length_ids C c.well_formed.0.1.1.1.0.1.0.1) in
+    let long : c.args.shape.axes ≤ length C = (omega (arith, four, c.requires.readable_table.four)) in
     omega (arith, four, long)
 
 pub overflow_add-end : goal.overflow_add-end
 overflow_add-end c =
-    let four : length (C (goal.at.overflow_add-end c).Start) ≡ 4 = (length_ids (C (goal.at.overflow_add-end c).Start) c.well_formed.0.1.1.1.0.1.0.1) in
-    let long : c.args.shape.axes ≤ length (C (goal.at.overflow_add-end c).Start) = (omega (arith, four, c.requires.readable_table.four)) in
-    omega (arith, axis_within (C (goal.at.overflow_add-end c).Start) c.args.shape.axes c.args.nodes.now c.args.picks.now c.args.point.now c.requires.readable_table.grid (long) c.requires.readable_table.finites c.loop-a.a c.loop-a.at c.loop-a-test.true c.loop-a.invariant.1.0)
+    let C : List ℕ = (c.args.shape.counts) in
+    let four : length C ≡ 4 = (length_ids C c.well_formed.0.1.1.1.0.1.0.1) in
+    let long : c.args.shape.axes ≤ length C = (omega (arith, four, c.requires.readable_table.four)) in
+    omega (arith, axis_within C c.args.shape.axes c.args.nodes.now c.args.picks.now c.args.point.now c.requires.readable_table.grid long c.requires.readable_table.finites c.loop-a.a c.loop-a.at c.loop-a-test.true c.loop-a.invariant.1.0)
 
 pub slice_bounds-pick_index-end : goal.slice_bounds-pick_index-end
 slice_bounds-pick_index-end c =
-    let four : length (C (goal.at.slice_bounds-pick_index-end c).Start) ≡ 4 = (length_ids (C (goal.at.slice_bounds-pick_index-end c).Start) c.well_formed.0.1.1.1.0.1.0.1) in
-    let long : c.args.shape.axes ≤ length (C (goal.at.slice_bounds-pick_index-end c).Start) = (omega (arith, four, c.requires.readable_table.four)) in
-    omega (arith, axis_within (C (goal.at.slice_bounds-pick_index-end c).Start) c.args.shape.axes c.args.nodes.now c.args.picks.now c.args.point.now c.requires.readable_table.grid (long) c.requires.readable_table.finites c.loop-a.a c.loop-a.at c.loop-a-test.true c.loop-a.invariant.1.0)
+    let C : List ℕ = (c.args.shape.counts) in
+    let four : length C ≡ 4 = (length_ids C c.well_formed.0.1.1.1.0.1.0.1) in
+    let long : c.args.shape.axes ≤ length C = (omega (arith, four, c.requires.readable_table.four)) in
+    omega (arith, axis_within C c.args.shape.axes c.args.nodes.now c.args.picks.now c.args.point.now c.requires.readable_table.grid long c.requires.readable_table.finites c.loop-a.a c.loop-a.at c.loop-a-test.true c.loop-a.invariant.1.0)
 
 pub overflow_mul-flat : goal.overflow_mul-flat
 overflow_mul-flat c =
-    let four : length (C (goal.at.overflow_mul-flat c).Start) ≡ 4 = (length_ids (C (goal.at.overflow_mul-flat c).Start) c.well_formed.0.1.1.1.0.1.0.1) in
-    let long : c.args.shape.axes ≤ length (C (goal.at.overflow_mul-flat c).Start) = (omega (arith, four, c.requires.readable_table.four)) in
-    omega (arith, flat_fits (C (goal.at.overflow_mul-flat c).Start) c.args.shape.axes c.args.nodes.now c.args.picks.now c.args.point.now c.requires.readable_table.grid (long) c.requires.readable_table.finites c.loop-a.a c.loop-a.at c.loop-a-test.true c.loop-a.invariant.1.0 c.pick_index-i.result c.pick_index-i.ensures c.loop-a.flat c.loop-a.invariant.1.1)
+    let C : List ℕ = (c.args.shape.counts) in
+    let four : length C ≡ 4 = (length_ids C c.well_formed.0.1.1.1.0.1.0.1) in
+    let long : c.args.shape.axes ≤ length C = (omega (arith, four, c.requires.readable_table.four)) in
+    omega (arith, flat_fits C c.args.shape.axes c.args.nodes.now c.args.picks.now c.args.point.now c.requires.readable_table.grid long c.requires.readable_table.finites c.loop-a.a c.loop-a.at c.loop-a-test.true c.loop-a.invariant.1.0 c.pick_index-i.result c.pick_index-i.ensures c.loop-a.flat c.loop-a.invariant.1.1)
 
 pub overflow_add-flat : goal.overflow_add-flat
 overflow_add-flat c =
-    let four : length (C (goal.at.overflow_add-flat c).Start) ≡ 4 = (length_ids (C (goal.at.overflow_add-flat c).Start) c.well_formed.0.1.1.1.0.1.0.1) in
-    let long : c.args.shape.axes ≤ length (C (goal.at.overflow_add-flat c).Start) = (omega (arith, four, c.requires.readable_table.four)) in
-    omega (arith, flat_fits (C (goal.at.overflow_add-flat c).Start) c.args.shape.axes c.args.nodes.now c.args.picks.now c.args.point.now c.requires.readable_table.grid (long) c.requires.readable_table.finites c.loop-a.a c.loop-a.at c.loop-a-test.true c.loop-a.invariant.1.0 c.pick_index-i.result c.pick_index-i.ensures c.loop-a.flat c.loop-a.invariant.1.1)
+    let C : List ℕ = (c.args.shape.counts) in
+    let four : length C ≡ 4 = (length_ids C c.well_formed.0.1.1.1.0.1.0.1) in
+    let long : c.args.shape.axes ≤ length C = (omega (arith, four, c.requires.readable_table.four)) in
+    omega (arith, flat_fits C c.args.shape.axes c.args.nodes.now c.args.picks.now c.args.point.now c.requires.readable_table.grid long c.requires.readable_table.finites c.loop-a.a c.loop-a.at c.loop-a-test.true c.loop-a.invariant.1.0 c.pick_index-i.result c.pick_index-i.ensures c.loop-a.flat c.loop-a.invariant.1.1)
 
 pub loop-a-preserved : goal.loop-a-preserved
 loop-a-preserved c =
-    let four : length (C (goal.at.loop-a-preserved c).Start) ≡ 4 = (length_ids (C (goal.at.loop-a-preserved c).Start) c.well_formed.0.1.1.1.0.1.0.1) in
-    let long : c.args.shape.axes ≤ length (C (goal.at.loop-a-preserved c).Start) = (omega (arith, four, c.requires.readable_table.four)) in
+    let C : List ℕ = (c.args.shape.counts) in
+    let four : length C ≡ 4 = (length_ids C c.well_formed.0.1.1.1.0.1.0.1) in
+    let long : c.args.shape.axes ≤ length C = (omega (arith, four, c.requires.readable_table.four)) in
     let t = c.loop-a-test.true in
-    (omega (arith, axis_within (C (goal.at.loop-a-preserved c).Start) c.args.shape.axes c.args.nodes.now c.args.picks.now c.args.point.now c.requires.readable_table.grid (long) c.requires.readable_table.finites c.loop-a.a c.loop-a.at t c.loop-a.invariant.1.0), (axis-next (C (goal.at.loop-a-preserved c).Start) c.args.shape.axes c.args.nodes.now c.args.picks.now c.args.point.now c.requires.readable_table.grid (long) c.requires.readable_table.finites c.loop-a.a c.loop-a.at t c.loop-a.invariant.1.0, flat_next (C (goal.at.loop-a-preserved c).Start) c.args.shape.axes c.args.nodes.now c.args.picks.now c.args.point.now c.requires.readable_table.grid (long) c.requires.readable_table.finites c.loop-a.a c.loop-a.at t c.loop-a.invariant.1.0 c.pick_index-i.result c.pick_index-i.ensures c.loop-a.flat c.loop-a.invariant.1.1))
+    (omega (arith, axis_within C c.args.shape.axes c.args.nodes.now c.args.picks.now c.args.point.now c.requires.readable_table.grid long c.requires.readable_table.finites c.loop-a.a c.loop-a.at t c.loop-a.invariant.1.0), (axis-next C c.args.shape.axes c.args.nodes.now c.args.picks.now c.args.point.now c.requires.readable_table.grid long c.requires.readable_table.finites c.loop-a.a c.loop-a.at t c.loop-a.invariant.1.0, flat_next C c.args.shape.axes c.args.nodes.now c.args.picks.now c.args.point.now c.requires.readable_table.grid long c.requires.readable_table.finites c.loop-a.a c.loop-a.at t c.loop-a.invariant.1.0 c.pick_index-i.result c.pick_index-i.ensures c.loop-a.flat c.loop-a.invariant.1.1))
 
 pub returns : goal.returns
 returns c =
-    let four : length (C (goal.at.returns c).Start) ≡ 4 = (length_ids (C (goal.at.returns c).Start) c.well_formed.0.1.1.1.0.1.0.1) in
-    let long : c.args.shape.axes ≤ length (C (goal.at.returns c).Start) = (omega (arith, four, c.requires.readable_table.four)) in
-    let d = flat_done (C (goal.at.returns c).Start) c.args.shape.axes c.args.nodes.now c.args.picks.now c.args.point.now c.requires.readable_table.grid (long) c.requires.readable_table.finites c.loop-a.a c.loop-a.flat c.loop-a-test.false c.loop-a.invariant.1.1 in
+    let C : List ℕ = (c.args.shape.counts) in
+    let four : length C ≡ 4 = (length_ids C c.well_formed.0.1.1.1.0.1.0.1) in
+    let long : c.args.shape.axes ≤ length C = (omega (arith, four, c.requires.readable_table.four)) in
+    let d = flat_done C c.args.shape.axes c.args.nodes.now c.args.picks.now c.args.point.now c.requires.readable_table.grid long c.requires.readable_table.finites c.loop-a.a c.loop-a.flat c.loop-a-test.false c.loop-a.invariant.1.1 in
     record { same = d.0; below = d.1 }

@@ -17,5 +17,4 @@ bounds-values-at c = omega (arith, c.pick_place-at.ensures.below, c.requires.loo
 
 pub returns : goal.returns
 returns c =
-    let s = start (goal.at.returns c).After-pick_place-at in
-    c.succeed.ensures ∙ ap answered (stored_at (pick_rule s.args.picks.now) (counts_of s.args.shape) s.args.nodes.now s.args.values.now s.args.point.now _ c.pick_place-at.ensures.same)
+    c.succeed.ensures ∙ ap answered (stored_at (pick_rule c.args.picks.now) (counts_of c.args.shape) c.args.nodes.now c.args.values.now c.args.point.now _ c.pick_place-at.ensures.same)

@@ -21,15 +21,14 @@ returns-then-fault-ne0 c = then_stops _ _ c.step_fault-fault.ensures _ _ c.if-fa
 pub stored-requires : goal.stored-requires
 stored-requires c =
     let passed : good (step_fault c.args.shape c.args.nodes.now c.args.values.now c.args.point.now c.args.directions.now) ≡ true = (passes _ _ c.step_fault-fault.ensures c.if-fault-ne0.false) in
-    let known : LookupJudged c.args.shape c.args.nodes.now c.args.values.now c.args.point.now = (step_judged c.args.shape c.args.nodes.now c.args.values.now c.args.point.now c.args.directions.now (passed)) in
-    let lent : length c.args.directions.now ≡ c.args.shape.axes = (step_lent c.args.shape c.args.nodes.now c.args.values.now c.args.point.now c.args.directions.now (passed)) in
+    let known : LookupJudged c.args.shape c.args.nodes.now c.args.values.now c.args.point.now = (step_judged c.args.shape c.args.nodes.now c.args.values.now c.args.point.now c.args.directions.now passed) in
+    let lent : length c.args.directions.now ≡ c.args.shape.axes = (step_lent c.args.shape c.args.nodes.now c.args.values.now c.args.point.now c.args.directions.now passed) in
     record { lookup_judged = known; axes_in_bounds = omega (arith, lent) }
 
 pub returns : goal.returns
 unfolding step_answer
 returns c =
     let passed : good (step_fault c.args.shape c.args.nodes.now c.args.values.now c.args.point.now c.args.directions.now) ≡ true = (passes _ _ c.step_fault-fault.ensures c.if-fault-ne0.false) in
-    let known : LookupJudged c.args.shape c.args.nodes.now c.args.values.now c.args.point.now = (step_judged c.args.shape c.args.nodes.now c.args.values.now c.args.point.now c.args.directions.now (passed)) in
-    let s = start (goal.at.returns c).Else-fault-ne0 in
-    let ds = s.args.directions.now in
-    then_goes_on _ _ c.step_fault-fault.ensures _ _ c.if-fault-ne0.false (c.stored.ensures ∙ ap answered (picks_step ds (counts_of s.args.shape) s.args.nodes.now s.args.values.now s.args.point.now ds (λ a l. (refl, step_directions s.args.shape s.args.nodes.now s.args.values.now s.args.point.now ds (passed) a (omega (arith, (known).count))))))
+    let known : LookupJudged c.args.shape c.args.nodes.now c.args.values.now c.args.point.now = (step_judged c.args.shape c.args.nodes.now c.args.values.now c.args.point.now c.args.directions.now passed) in
+    let ds = c.args.directions.now in
+    then_goes_on _ _ c.step_fault-fault.ensures _ _ c.if-fault-ne0.false (c.stored.ensures ∙ ap answered (picks_step ds (counts_of c.args.shape) c.args.nodes.now c.args.values.now c.args.point.now ds (λ a l. (refl, step_directions c.args.shape c.args.nodes.now c.args.values.now c.args.point.now ds passed a (omega (arith, known.count))))))

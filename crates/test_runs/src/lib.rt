@@ -5,10 +5,12 @@
 mod list;
 mod room;
 
-use libc::STDOUT_FILENO;
 use list::Next;
 use program::run::RunAnswer;
 use program::{coverage, run};
+
+// standard output
+const STDOUT_FILENO: i32 = 1;
 
 // The text of an input of the list: at most 20 bytes for 9 of a record, or a report.
 const MOST_TEXT: usize = 98_304;

@@ -1,7 +1,9 @@
 // An output of one byte less than a run writes.
 use answer::Answer;
-use libc::STDOUT_FILENO;
 use program::run::RunAnswer;
+
+// standard output
+const STDOUT_FILENO: i32 = 1;
 
 const MARK: u8 = 165;
 

@@ -28,8 +28,4 @@ returns-then-grid-low c =
     met_above c.args.grid.now c.args.point c.requires.axis c.requires.reading c.loop-low.low c.loop-low.high c.loop-low.invariant c.loop-low-test.false
 
 pub returns-else-low-gt0 : goal.returns-else-low-gt0
-returns-else-low-gt0 c =
-    ⊎_elim
-    (λ w. met_never c.args.grid.now c.args.point c.requires.axis c.requires.reading c.loop-low.low c.loop-low.high c.loop-low.invariant c.loop-low-test.false w.2.left)
-    (λ w. met_first c.args.grid.now c.args.point c.requires.axis c.requires.reading c.loop-low.low c.loop-low.high c.loop-low.invariant c.loop-low-test.false w.left)
-    c.else-low-gt0.branch
+returns-else-low-gt0 c = let h = c.else-low-gt0.branch in ?

@@ -19,14 +19,14 @@ pub merge-requires : goal.merge-requires
 merge-requires c =
     let few : c.least-axes.result ≤ 4 = omega (arith, c.least-axes.ensures) in
     let z = fold_at c.args.locations c.least-axes.result c.loop-d.d c.loop-d-test.true (omega (arith, c.well_formed.1.0.1.0.1, few)) c.loop-d.invariant.1 in
-    omega (arith, c.loop-d.invariant.0.1, fold_fits (get_or c.args.locations c.loop-d.d (Exact 0)) (drop (c.loop-d.d + 1) (take c.least-axes.result c.args.locations)) c.loop-d.half c.half_of_lem.result z.counted (count_few c.args.locations c.least-axes.result c.loop-d.d c.loop-d.half few c.loop-d.invariant.1.counted) c.half_of_lem.ensures)
+    omega (arith, c.loop-d.invariant.0.1, fold_fits (get_or c.args.locations c.loop-d.d (Exact 0)) (drop (c.loop-d.d + 1) (take c.least-axes.result c.args.locations)) c.loop-d.half c.half_of-half.result z.counted (count_few c.args.locations c.least-axes.result c.loop-d.d c.loop-d.half few c.loop-d.invariant.1.counted) c.half_of-half.ensures)
 
 pub loop-d-preserved : goal.loop-d-preserved
 loop-d-preserved c =
     let few : c.least-axes.result ≤ 4 = omega (arith, c.least-axes.ensures) in
     let z = fold_at c.args.locations c.least-axes.result c.loop-d.d c.loop-d-test.true (omega (arith, c.well_formed.1.0.1.0.1, few)) c.loop-d.invariant.1 in (
       (omega (arith, c.loop-d-test.true), c.merge.auto.vals ∙ c.loop-d.invariant.0.1),
-      fold_step (get_or c.args.locations c.loop-d.d (Exact 0)) (drop (c.loop-d.d + 1) (take c.least-axes.result c.args.locations)) _ c.loop-d.v _ c.loop-d.half c.half_of_lem.result z c.half_of_lem.ensures c.merge.ensures,
+      fold_step (get_or c.args.locations c.loop-d.d (Exact 0)) (drop (c.loop-d.d + 1) (take c.least-axes.result c.args.locations)) _ c.loop-d.v _ c.loop-d.half c.half_of-half.result z c.half_of-half.ensures c.merge.ensures,
     )
 
 pub returns : goal.returns

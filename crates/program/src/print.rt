@@ -2,7 +2,9 @@
 // other things it is lent, and tells how long it is.
 ghost use Rattle.std.specs.Prelude.{◌≡◌, length};
 
-use libc::STDOUT_FILENO;
+// standard output
+const STDOUT_FILENO: i32 = 1;
+
 
 // How many bytes were to be printed, and whether they were.
 #[derive(Drop)]

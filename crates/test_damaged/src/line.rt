@@ -2,8 +2,10 @@
 use answer::Answer;
 use image::LoadAnswer;
 use layout::Shape;
-use libc::STDOUT_FILENO;
 use writer::WriteAnswer;
+
+// standard output
+const STDOUT_FILENO: i32 = 1;
 
 // Writes a text and a number.
 fn put(text: &[u8], number: u64) {

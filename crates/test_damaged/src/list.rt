@@ -1,5 +1,7 @@
 // The list: before each image a head of 24 bytes, six little-endian numbers.
-use libc::STDIN_FILENO;
+
+// standard input
+const STDIN_FILENO: i32 = 0;
 
 // How many bytes an image of the list has at most, and the output of the writer: more than an image may have.
 pub(crate) const MOST_BYTES: usize = 40_000;

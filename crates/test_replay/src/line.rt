@@ -4,10 +4,12 @@ ghost use Rattle.std.specs.Prelude.{◌≤◌, length};
 
 use answer::Answer;
 use layout::Shape;
-use libc::STDOUT_FILENO;
 use rust::{AxisLocation, MaybeIndex};
 use slices::SliceAnswer;
 use utils::{AxisAnswer, ExactAnswer, IndexAnswer};
+
+// standard output
+const STDOUT_FILENO: i32 = 1;
 
 fn put(text: &[u8]) {
     io::write_all(STDOUT_FILENO, text);

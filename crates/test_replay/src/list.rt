@@ -1,7 +1,9 @@
 // The list: records with a header of 32 bytes, little-endian.
 ghost use Rattle.std.specs.Prelude.{◌+◌, ◌*◌, ◌≤◌, ◌<◌, length};
 
-use libc::STDIN_FILENO;
+// standard input
+const STDIN_FILENO: i32 = 0;
+
 
 // How many floats are read at once.
 const BLOCK: usize = 128;

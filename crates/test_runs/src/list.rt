@@ -1,5 +1,9 @@
 // The list: before each run its length, four bytes, little-endian.
-use libc::{STDIN_FILENO, STDOUT_FILENO};
+
+// standard input
+const STDIN_FILENO: i32 = 0;
+// standard output
+const STDOUT_FILENO: i32 = 1;
 
 pub(crate) const MOST_BYTES: usize = 40_000;
 

@@ -7,8 +7,7 @@ use layout::Shape;
 use slices::SliceAnswer;
 
 // The slice of a table by Linear, on its first axis.
-#[unsafe(no_mangle)]
-pub extern "C" fn ng_slice_linear(
+pub fn ng_slice_linear(
     shape: Shape,
     nodes: &[f64],
     values: &[f64],
@@ -25,8 +24,7 @@ pub extern "C" fn ng_slice_linear(
 }
 
 // The slice of a table by LinearUniform, on its first axis.
-#[unsafe(no_mangle)]
-pub extern "C" fn ng_slice_linear_uniform(
+pub fn ng_slice_linear_uniform(
     shape: Shape,
     nodes: &[f64],
     values: &[f64],
@@ -43,8 +41,7 @@ pub extern "C" fn ng_slice_linear_uniform(
 }
 
 // The slice of a table by Nearest, on any axis.
-#[unsafe(no_mangle)]
-pub extern "C" fn ng_slice_nearest(
+pub fn ng_slice_nearest(
     shape: Shape,
     nodes: &[f64],
     values: &[f64],
@@ -61,8 +58,7 @@ pub extern "C" fn ng_slice_nearest(
 }
 
 // The slice of a table by Step, on any axis, with the directions of all axes.
-#[unsafe(no_mangle)]
-pub extern "C" fn ng_slice_step(
+pub fn ng_slice_step(
     shape: Shape,
     nodes: &[f64],
     values: &[f64],

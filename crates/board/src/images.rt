@@ -7,8 +7,7 @@ use layout::Shape;
 use writer::WriteAnswer;
 
 // Reads a table out of an image into two outputs, which may be longer.
-#[unsafe(no_mangle)]
-pub extern "C" fn ng_load(img: &[u8], nodes: &mut [f64], values: &mut [f64]) -> LoadAnswer
+pub fn ng_load(img: &[u8], nodes: &mut [f64], values: &mut [f64]) -> LoadAnswer
     ensures { Loaded img.now nodes.old values.old
         nodes.new values.new result }
 {
@@ -16,8 +15,7 @@ pub extern "C" fn ng_load(img: &[u8], nodes: &mut [f64], values: &mut [f64]) -> 
 }
 
 // Writes a table as an image into an output, which may be longer.
-#[unsafe(no_mangle)]
-pub extern "C" fn ng_write(
+pub fn ng_write(
     shape: Shape,
     nodes: &[f64],
     values: &[f64],

@@ -8,8 +8,7 @@ use layout::Shape;
 use ninterp::interpolator::n;
 
 // The lookup by Linear: the blend of the corners of the reading's cell.
-#[unsafe(no_mangle)]
-pub extern "C" fn ng_interpolate_linear(
+pub fn ng_interpolate_linear(
     shape: Shape,
     nodes: &[f64],
     values: &[f64],
@@ -21,8 +20,7 @@ pub extern "C" fn ng_interpolate_linear(
 }
 
 // The lookup by LinearUniform: the same on axes of one step.
-#[unsafe(no_mangle)]
-pub extern "C" fn ng_interpolate_linear_uniform(
+pub fn ng_interpolate_linear_uniform(
     shape: Shape,
     nodes: &[f64],
     values: &[f64],
@@ -34,8 +32,7 @@ pub extern "C" fn ng_interpolate_linear_uniform(
 }
 
 // The lookup by Nearest: the value stored at the nearest node of each axis.
-#[unsafe(no_mangle)]
-pub extern "C" fn ng_interpolate_nearest(
+pub fn ng_interpolate_nearest(
     shape: Shape,
     nodes: &[f64],
     values: &[f64],
@@ -47,8 +44,7 @@ pub extern "C" fn ng_interpolate_nearest(
 }
 
 // The lookup by Step: the value stored at the step index of each axis, by its direction.
-#[unsafe(no_mangle)]
-pub extern "C" fn ng_interpolate_step(
+pub fn ng_interpolate_step(
     shape: Shape,
     nodes: &[f64],
     values: &[f64],

@@ -8,8 +8,7 @@ use ninterp::records::count;
 use tally::Tally;
 
 // Counts a record in a tally that its owner lends: one thin function over the by-value step.
-#[unsafe(no_mangle)]
-pub extern "C" fn ng_count_record(
+pub fn ng_count_record(
     tally: &mut Tally,
     shape: Shape,
     nodes: &[f64],

@@ -1,0 +1,62 @@
+// The four lookups.
+ghost use Rattle.std.specs.Prelude.{◌≡◌};
+ghost use Rattle.ninterp.specs.Linears.{linear_answer, linear_uniform_answer};
+ghost use Rattle.ninterp.specs.Tables.{nearest_answer, step_answer};
+
+use answer::Answer;
+use board::lookups;
+use layout::Shape;
+
+// The lookup by Linear: the blend of the corners of the reading's cell.
+#[unsafe(no_mangle)]
+pub extern "C" fn ng_interpolate_linear(
+    shape: Shape,
+    nodes: &[f64],
+    values: &[f64],
+    point: &[f64],
+) -> Answer
+    ensures { result ≡ linear_answer shape nodes.now values.now point.now }
+{
+    lookups::ng_interpolate_linear(shape, nodes, values, point)
+}
+
+// The lookup by LinearUniform: the same on axes of one step.
+#[unsafe(no_mangle)]
+pub extern "C" fn ng_interpolate_linear_uniform(
+    shape: Shape,
+    nodes: &[f64],
+    values: &[f64],
+    point: &[f64],
+) -> Answer
+    ensures { result ≡ linear_uniform_answer shape nodes.now values.now point.now }
+{
+    lookups::ng_interpolate_linear_uniform(shape, nodes, values, point)
+}
+
+// The lookup by Nearest: the value stored at the nearest node of each axis.
+#[unsafe(no_mangle)]
+pub extern "C" fn ng_interpolate_nearest(
+    shape: Shape,
+    nodes: &[f64],
+    values: &[f64],
+    point: &[f64],
+) -> Answer
+    ensures { result ≡ nearest_answer shape nodes.now values.now point.now }
+{
+    lookups::ng_interpolate_nearest(shape, nodes, values, point)
+}
+
+// The lookup by Step: the value stored at the step index of each axis, by its direction.
+#[unsafe(no_mangle)]
+pub extern "C" fn ng_interpolate_step(
+    shape: Shape,
+    nodes: &[f64],
+    values: &[f64],
+    point: &[f64],
+    directions: &[u8],
+) -> Answer
+    ensures { result ≡ step_answer shape nodes.now values.now point.now
+        directions.now }
+{
+    lookups::ng_interpolate_step(shape, nodes, values, point, directions)
+}

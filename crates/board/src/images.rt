@@ -15,12 +15,7 @@ pub fn ng_load(img: &[u8], nodes: &mut [f64], values: &mut [f64]) -> LoadAnswer
 }
 
 // Writes a table as an image into an output, which may be longer.
-pub fn ng_write(
-    shape: Shape,
-    nodes: &[f64],
-    values: &[f64],
-    img: &mut [u8],
-) -> WriteAnswer
+pub fn ng_write(shape: Shape, nodes: &[f64], values: &[f64], img: &mut [u8]) -> WriteAnswer
     ensures { Written shape nodes.now values.now img.old img.new result }
 {
     writer::write(shape, nodes, values, img)

@@ -8,12 +8,7 @@ use layout::Shape;
 use ninterp::interpolator::n;
 
 // The lookup by Linear: the blend of the corners of the reading's cell.
-pub fn ng_interpolate_linear(
-    shape: Shape,
-    nodes: &[f64],
-    values: &[f64],
-    point: &[f64],
-) -> Answer
+pub fn ng_interpolate_linear(shape: Shape, nodes: &[f64], values: &[f64], point: &[f64]) -> Answer
     ensures { result ≡ linear_answer shape nodes.now values.now point.now }
 {
     n::linear::interpolate(shape, nodes, values, point)
@@ -32,12 +27,7 @@ pub fn ng_interpolate_linear_uniform(
 }
 
 // The lookup by Nearest: the value stored at the nearest node of each axis.
-pub fn ng_interpolate_nearest(
-    shape: Shape,
-    nodes: &[f64],
-    values: &[f64],
-    point: &[f64],
-) -> Answer
+pub fn ng_interpolate_nearest(shape: Shape, nodes: &[f64], values: &[f64], point: &[f64]) -> Answer
     ensures { result ≡ nearest_answer shape nodes.now values.now point.now }
 {
     n::nearest::interpolate(shape, nodes, values, point)

@@ -38,12 +38,7 @@ pub fn ng_exact_index(grid: &[f64], lower: usize, point: f64) -> PlainExact
 }
 
 // The lower node of a reading's cell on a uniform axis, by its first node and its step.
-pub fn ng_locate_lower_index_uniform(
-    first: f64,
-    step: f64,
-    n: usize,
-    point: f64,
-) -> IndexAnswer
+pub fn ng_locate_lower_index_uniform(first: f64, step: f64, n: usize, point: f64) -> IndexAnswer
     ensures { result ≡ locate_lower_index_uniform first step n point }
 {
     utils::locate_lower_index_uniform(first, step, n, point)
@@ -57,11 +52,7 @@ pub fn ng_validate_uniform_grid(grid: &[f64], tolerance: f64) -> Answer
 }
 
 // Whether an axis is uniform within a lent tolerance, or, where lent is 0, the default one.
-pub fn ng_validate_uniform_grid_epsilon(
-    grid: &[f64],
-    lent: u32,
-    tolerance: f64,
-) -> Answer
+pub fn ng_validate_uniform_grid_epsilon(grid: &[f64], lent: u32, tolerance: f64) -> Answer
     ensures { result ≡ validate_uniform_grid_epsilon grid.now (tolerance_by lent tolerance) }
 {
     utils::validate_uniform_grid_epsilon(grid, plain::tolerance_by(lent, tolerance))

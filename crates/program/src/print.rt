@@ -5,7 +5,6 @@ ghost use Rattle.std.specs.Prelude.{◌≡◌, length};
 // standard output
 const STDOUT_FILENO: i32 = 1;
 
-
 // How many bytes were to be printed, and whether they were.
 #[derive(Drop)]
 pub struct Printed {

@@ -4,7 +4,6 @@ ghost use Rattle.std.specs.Prelude.{◌+◌, ◌*◌, ◌≤◌, ◌<◌, length
 // standard input
 const STDIN_FILENO: i32 = 0;
 
-
 // How many floats are read at once.
 const BLOCK: usize = 128;
 

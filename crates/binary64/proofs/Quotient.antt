@@ -5,7 +5,7 @@ use Prim.Native.Nat.{ℕ, zero, suc, ◌*◌, ◌<◌, ◌≤◌}
 use native.Mathlib.Nat.{mul-pos, zero-mul}
 use native.Mathlib.Omega.{arith}
 use lib.IntN.{ℤ, pos}
-use lib.Dec.{T, ltb, eqb, ltb→lt, lt→ltb}
+use lib.Dec.{T, eqb, ltb→lt, lt→ltb}
 use borrow.Author.Tests.{ne_eqb, leb-true, ltb-true}
 use lib.Ieee.{Float, nan, inf, fin, Format, binary64, up, down, round, div, lt, le, eq, unlike}
 use lib.Ieee.Fits.{down_pos, up_pos}

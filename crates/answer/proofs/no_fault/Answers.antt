@@ -1,5 +1,4 @@
 use Rattle.answer.specs.Faults.{no_fault}
-use borrow.Author.Rules.{rules}
 use Rattle.answer.proofs.no_fault.Goals as goal
 
 pub returns : goal.returns

@@ -1,6 +1,5 @@
 use lib.Ieee.{of_bits}
 use Rattle.answer.specs.Answer.{fine}
-use borrow.Author.Rules.{rules}
 use Rattle.answer.proofs.pass.Goals as goal
 
 pub returns : goal.returns

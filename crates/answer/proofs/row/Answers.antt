@@ -1,6 +1,5 @@
 use mathlib.Core.Path.{sym, ◌∙◌}
 use Rattle.answer.proofs.Orders.{when_true, when_false}
-use borrow.Author.Rules.{rules}
 use Rattle.answer.proofs.row.Goals as goal
 
 pub returns-then-met : goal.returns-then-met

@@ -3,7 +3,6 @@ use mathlib.Core.Bool.{Bool, true, false, not}
 use lib.Dec.{T}
 use lib.Ieee.{Float, nan, inf, fin, binary64, to_bits, is_nan, eq}
 use Rattle.binary64.proofs.Order.{clash, eq_refl}
-use borrow.Author.Rules.{rules}
 use Rattle.binary64.proofs.bits_of_float.Goals as goal
 
 -- only a NaN differs from itself

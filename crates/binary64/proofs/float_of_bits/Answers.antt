@@ -4,7 +4,6 @@ use borrow.Author.Tests.{lt-ltb, le-ltb}
 use lib.Dec.{T}
 use lib.Ieee.{Float, nan, inf, fin, binary64, of_bits, is_nan, div}
 use lib.Ieee.Bits.{nan_bits_is, nan_bits_above}
-use borrow.Author.Rules.{rules}
 use Rattle.binary64.proofs.float_of_bits.Goals as goal
 
 is_nan_lem : (x : Float) → is_nan x ≡ true → x ≡ nan

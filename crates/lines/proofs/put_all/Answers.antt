@@ -5,7 +5,6 @@ use lib.Dec.{leb}
 use lib.ListN.{length}
 use borrow.Author.Tests.{not-true, not-false, leb-true}
 use Rattle.lines.proofs.Puts.{all_left, all_put}
-use borrow.Author.Rules.{rules}
 use Rattle.lines.proofs.put_all.Goals as goal
 
 pub returns-then-not-within : goal.returns-then-not-within

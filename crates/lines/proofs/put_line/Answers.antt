@@ -7,7 +7,6 @@ use lib.ListN.{length}
 use borrow.Author.Tests.{not-true, not-false, leb-true}
 use Rattle.lines.specs.Line.{line_of, longest}
 use Rattle.lines.proofs.Shows.{line_ok, line_no, line_left, line-put, line_fits, no_length}
-use borrow.Author.Rules.{rules}
 use Rattle.lines.proofs.put_line.Goals as goal
 
 pub returns-then-not-within : goal.returns-then-not-within

@@ -1,5 +1,4 @@
 use Rattle.lines.specs.Line.{no_line}
-use borrow.Author.Rules.{rules}
 use Rattle.lines.proofs.put_no.Goals as goal
 
 pub returns : goal.returns

@@ -3,7 +3,6 @@ use lib.ListN.{length}
 use native.Mathlib.Omega.{arith}
 use Rattle.lines.specs.Line.{ok_line}
 use Rattle.lines.proofs.Puts.{then}
-use borrow.Author.Rules.{rules}
 use Rattle.lines.proofs.put_ok.Goals as goal
 
 pub returns : goal.returns

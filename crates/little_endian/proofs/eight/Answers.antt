@@ -1,5 +1,4 @@
 use Rattle.little_endian.proofs.Bytes.{word_eight}
-use borrow.Author.Rules.{rules}
 use Rattle.little_endian.proofs.eight.Goals as goal
 
 pub returns : goal.returns

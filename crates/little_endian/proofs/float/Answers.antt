@@ -3,7 +3,6 @@ use borrow.Author.Tests.{leb-true}
 use lib.Ieee.{binary64, of_bits}
 use mathlib.Core.Path.{ap, ◌∙◌}
 use Rattle.little_endian.specs.Words.{float_at}
-use borrow.Author.Rules.{rules}
 use Rattle.little_endian.proofs.float.Goals as goal
 
 pub eight-requires : goal.eight-requires

@@ -1,7 +1,6 @@
-use Rattle.little_endian.proofs.Bytes.{Reading, reading_start, reading_next, reading_room, reading_end}
+use Rattle.little_endian.proofs.Bytes.{reading_start, reading_next, reading_room, reading_end}
 use Prim.Native.Nat.{◌+◌, ◌*◌, ◌^◌, ◌<◌}
 use native.Mathlib.Omega.{arith}
-use borrow.Author.Rules.{rules}
 use Rattle.little_endian.proofs.word_within.Goals as goal
 
 pub loop-i-init : goal.loop-i-init

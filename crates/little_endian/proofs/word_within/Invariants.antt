@@ -1,7 +1,4 @@
-use Rattle.little_endian.proofs.Bytes.{Reading, reading_start, reading_next, reading_room, reading_end}
-use Prim.Native.Nat.{◌+◌, ◌*◌, ◌^◌, ◌<◌}
-use native.Mathlib.Omega.{arith}
-use borrow.Author.Rules.{rules}
+use Rattle.little_endian.proofs.Bytes.{Reading}
 use Rattle.little_endian.proofs.word_within.Given as goal
 
 abbrev pub invariant-loop-i : goal.invariant-loop-i

@@ -1,5 +1,4 @@
 use Rattle.tally.proofs.Steps.{cell_in, cell_out}
-use borrow.Author.Rules.{rules}
 use Rattle.tally.proofs.count_cell.Goals as goal
 
 pub returns-then-cell-lt63 : goal.returns-then-cell-lt63

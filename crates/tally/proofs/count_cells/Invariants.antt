@@ -1,11 +1,7 @@
-use mathlib.Core.Path.{◌≡◌, refl, ap, ◌∙◌}
+use mathlib.Core.Path.{◌≡◌}
 use Prim.Native.Nat.{◌-◌, ◌≤◌}
-use native.Mathlib.Omega.{arith}
 use lib.ListN.{take, drop}
-use borrow.Author.Rules.{rules}
-use Rattle.layout.proofs.Totals.{counts_least}
 use Rattle.tally.specs.Tally.{cells_more}
-use Rattle.tally.proofs.Steps.{cells_step, cells_done}
 use Rattle.tally.proofs.count_cells.Given as goal
 
 abbrev pub invariant-loop-a : goal.invariant-loop-a

@@ -1,5 +1,4 @@
 use Rattle.tally.proofs.Steps.{number_in, number_out}
-use borrow.Author.Rules.{rules}
 use Rattle.tally.proofs.count_number.Goals as goal
 
 pub returns-then-number-lt21 : goal.returns-then-number-lt21

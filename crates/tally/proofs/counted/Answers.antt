@@ -1,4 +1,3 @@
-use borrow.Author.Rules.{rules}
 use Rattle.tally.proofs.Steps.{counts-told}
 use Rattle.tally.proofs.counted.Goals as goal
 

@@ -1,4 +1,3 @@
-use borrow.Author.Rules.{rules}
 use Rattle.answer.specs.Answer.{fine}
 use Rattle.answer.proofs.Answers.{then_stops, then_goes_on}
 use Rattle.tally.proofs.limit_answer.Goals as goal

@@ -1,5 +1,4 @@
 use Rattle.tally.proofs.Steps.{more_below, more-held}
-use borrow.Author.Rules.{rules}
 use Rattle.tally.proofs.more.Goals as goal
 
 pub returns-then-n-lt4294967295 : goal.returns-then-n-lt4294967295

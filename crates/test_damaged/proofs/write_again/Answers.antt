@@ -5,4 +5,4 @@ use Rattle.test_damaged.proofs.write_again.Goals as goal
 
 pub returns : goal.returns
 returns c =
-    omega (arith, told_inside _ _ _ _ _ c.write.ensures.answer, c.write.auto.1.1.1.0)
+    omega (arith, told_inside _ _ _ _ _ c.write-made.ensures.answer, c.write-made.auto.img)

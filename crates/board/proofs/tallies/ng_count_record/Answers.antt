@@ -90,7 +90,6 @@ lent_vals s = (shr_slice_vals s.0, (shr_slice_vals s.1.0, (shr_slice_vals s.1.1.
 
 abbrev counted : Tally → Shape → Lent → TallyAnswer
 counted h p s = counted_record h p s.0.now s.1.0.now s.1.1.0.now
-
 module _ {M : Type 1} {𝓤 : Ura M} (𝓛 : Logic 𝓤) (at_mem : Memory → SProp 𝓤) (run : Routine → Fun 𝓤) where
   -- the contract that the proof cites, and of its `ensured` the clause alone
   abbrev Step : Contract 𝓤
@@ -98,7 +97,6 @@ module _ {M : Type 1} {𝓤 : Ura M} (𝓛 : Logic 𝓤) (at_mem : Memory → SP
 
   step_of : (κs : Lfts 3) (h : Tally) (p : Shape) (s : Lent) (r : TallyAnswer) → ent 𝓤 (ensured 𝓛 step.ended (step.clauses 𝓛 at_mem run) κs (h, (p, s)) tt r) (fact 𝓤 (r ≡ counted h p s))
   step_of κs h p s r = ex_e 𝓤 _ (λ ws. snd∗ 𝓤 (sem 𝓛 (lasts step.ended κs (h, (p, s)) ws)) (fact 𝓤 (r ≡ counted h p s)))
-
 module _ {M : Type 1} {𝓤 : Ura M} (𝓛 : Logic 𝓤) (at_mem : Memory → SProp 𝓤) (run : Routine → Fun 𝓤) (κ : Lft) (κs : Lfts 3) (q : Share) (qs : Shares 3) (b o : ℕ) (γ : GName) (h : Tally) (p : Shape) (s : Lent) (gp : Is S.the_row p (val_s p ∷ [])) where
   open 𝓛 use {H}
 
@@ -172,7 +170,6 @@ module _ {M : Type 1} {𝓤 : Ura M} (𝓛 : Logic 𝓤) (at_mem : Memory → SP
         returns ! (look ! 19 refl) $ forget ! 5 refl $ forget ! 7 refl $ forget ! 9 refl $ forget ! 11 refl $ forget ! 13 refl $ forget ! 15 refl $ forget ! 17 refl $ forget ! 19 refl $
         move ! (19 ∷ 20 ∷ []) $ free1 ! $ move ! (17 ∷ 18 ∷ []) $ free1 ! $ move ! (15 ∷ 16 ∷ []) $ free1 ! $ move ! (13 ∷ 14 ∷ []) $ free1 ! $ move ! (11 ∷ 12 ∷ []) $ free1 ! $ move ! (9 ∷ 10 ∷ []) $ free1 ! $ move ! (7 ∷ 8 ∷ []) $ free1 ! $ move ! (5 ∷ 6 ∷ []) $ free1 ! $ free0 ! $
         keep ! (0 ∷ 1 ∷ 2 ∷ 3 ∷ 4 ∷ []) $ by ! (exits r (LL.owed R.the_type R'.the_laws r _ is).0 e)))))))))))))))
-
 module _ {M : Type 1} {𝓤 : Ura M} (𝓛 : Logic 𝓤) (at_mem : Memory → SProp 𝓤) (run : Routine → Fun 𝓤) where
   open 𝓛 use {H}
 

@@ -1,5 +1,4 @@
 use Rattle.checks.specs.Numbers.{axes_count_fault}
-use borrow.Author.Rules.{rules}
 use Rattle.checks.proofs.counts.axes_count_fault.Goals as goal
 
 pub returns : goal.returns

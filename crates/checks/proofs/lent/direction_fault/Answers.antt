@@ -1,5 +1,4 @@
 use Rattle.checks.specs.Numbers.{direction_fault}
-use borrow.Author.Rules.{rules}
 use Rattle.checks.proofs.lent.direction_fault.Goals as goal
 
 pub returns : goal.returns

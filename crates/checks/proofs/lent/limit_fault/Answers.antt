@@ -1,5 +1,4 @@
 use Rattle.checks.specs.Numbers.{limit_fault}
-use borrow.Author.Rules.{rules}
 use Rattle.checks.proofs.lent.limit_fault.Goals as goal
 
 pub returns : goal.returns

@@ -1,5 +1,4 @@
 use Rattle.checks.specs.Numbers.{room_fault}
-use borrow.Author.Rules.{rules}
 use Rattle.checks.proofs.lent.room_fault.Goals as goal
 
 pub returns : goal.returns

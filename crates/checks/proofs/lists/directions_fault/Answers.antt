@@ -1,8 +1,5 @@
-use Prim.Native.Nat.{◌-◌}
-use Rattle.checks.specs.Numbers.{direction_fault, directions_fault}
-use lib.ListN.{length, get_or}
+use Rattle.checks.specs.Numbers.{directions_fault}
 use native.Mathlib.Omega.{arith}
-use borrow.Author.Rules.{rules}
 use Rattle.answer.proofs.Loops as loops
 use Rattle.checks.proofs.lists.directions_fault.Goals as goal
 

@@ -1,9 +1,5 @@
-use Prim.Native.Nat.{◌-◌}
-use Rattle.checks.specs.Numbers.{reading_fault, readings_fault}
-use lib.Ieee.{nan}
-use lib.ListN.{length, get_or}
+use Rattle.checks.specs.Numbers.{readings_fault}
 use native.Mathlib.Omega.{arith}
-use borrow.Author.Rules.{rules}
 use Rattle.answer.proofs.Loops as loops
 use Rattle.checks.proofs.lists.readings_fault.Goals as goal
 

@@ -1,6 +1,5 @@
 use Rattle.answer.proofs.Orders.{or_stops, or_goes_on}
 use Rattle.checks.specs.Shapes.{axis_fault}
-use borrow.Author.Rules.{rules}
 use Rattle.checks.proofs.nodes.axis_fault.Goals as goal
 
 pub returns-then-fault-ne0 : goal.returns-then-fault-ne0

@@ -1,5 +1,4 @@
 use mathlib.Core.Path.{sym, ◌∙◌}
-use borrow.Author.Rules.{rules}
 use borrow.Author.Tests.{lt-ltb, le-ltb}
 use Rattle.answer.proofs.Orders.{or_stops, or_goes_on, when_true, when_false}
 use Rattle.checks.specs.Numbers.{node_fault}

@@ -1,8 +1,5 @@
-use Prim.Native.Nat.{◌-◌}
-use Rattle.checks.specs.Numbers.{node_fault, nodes_fault}
-use lib.ListN.{length}
+use Rattle.checks.specs.Numbers.{nodes_fault}
 use native.Mathlib.Omega.{arith}
-use borrow.Author.Rules.{rules}
 use Rattle.answer.proofs.Loops as loops
 use Rattle.checks.proofs.nodes.nodes_fault.Goals as goal
 

@@ -1,6 +1,5 @@
 use Rattle.answer.proofs.Orders.{or_by}
 use Rattle.checks.specs.Numbers.{rise_fault}
-use borrow.Author.Rules.{rules}
 use Rattle.checks.proofs.nodes.rise_fault.Goals as goal
 
 pub returns : goal.returns

@@ -1,5 +1,4 @@
 use Rattle.checks.specs.Numbers.{finite_fault}
-use borrow.Author.Rules.{rules}
 use Rattle.checks.proofs.numbers.finite_fault.Goals as goal
 
 pub returns : goal.returns

@@ -1,5 +1,4 @@
 use Rattle.checks.specs.Numbers.{reading_fault}
-use borrow.Author.Rules.{rules}
 use Rattle.checks.proofs.numbers.reading_fault.Goals as goal
 
 pub returns : goal.returns

@@ -1,5 +1,4 @@
 use Rattle.checks.specs.Numbers.{result_fault}
-use borrow.Author.Rules.{rules}
 use Rattle.checks.proofs.numbers.result_fault.Goals as goal
 
 pub returns : goal.returns

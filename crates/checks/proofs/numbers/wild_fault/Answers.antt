@@ -1,7 +1,6 @@
 use mathlib.Core.Path.{ap}
 use mathlib.Core.Bool.{not}
 use Rattle.answer.proofs.Orders.{row_by}
-use borrow.Author.Rules.{rules}
 use Rattle.checks.proofs.numbers.wild_fault.Goals as goal
 
 pub returns : goal.returns

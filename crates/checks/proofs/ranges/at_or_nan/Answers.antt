@@ -5,7 +5,6 @@ use Prim.Native.Nat.{ℕ, zero, suc, ◌≤◌}
 use native.Mathlib.Omega.{arith}
 use lib.ListN.{length, get_or}
 use lib.Ieee.{Float, nan}
-use borrow.Author.Rules.{rules}
 use Rattle.checks.proofs.ranges.at_or_nan.Goals as goal
 
 none : (l : List Float) (i : ℕ) → length l ≤ i → get_or l i nan ≡ nan

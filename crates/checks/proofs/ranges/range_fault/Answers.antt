@@ -4,7 +4,6 @@ use lib.ListN.{get_or}
 use lib.Ieee.{Float, nan, lt}
 use Rattle.answer.proofs.Orders.{row_by, or_by}
 use Rattle.checks.specs.Numbers.{range_fault}
-use borrow.Author.Rules.{rules}
 use Rattle.checks.proofs.ranges.range_fault.Goals as goal
 
 pub returns : goal.returns

@@ -2,8 +2,6 @@ use Prim.Native.Nat.{◌-◌}
 use Rattle.answer.specs.Faults.{first_fault}
 use Rattle.checks.specs.Numbers.{count_fault}
 use lib.ListN.{get_or}
-use native.Mathlib.Omega.{arith}
-use borrow.Author.Rules.{rules}
 use Rattle.answer.proofs.Loops as loops
 use Rattle.checks.proofs.shapes.counts_fault.Given as goal
 

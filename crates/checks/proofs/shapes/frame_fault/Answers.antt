@@ -6,7 +6,6 @@ use Rattle.checks.specs.Scaffolding.{sizes_of}
 use Rattle.checks.specs.declared.shapes.Holding.{Holding}
 use Rattle.checks.proofs.shapes.Frames.{holds_nodes, holds_values}
 use Rattle.checks.specs.Numbers.{length_fault}
-use borrow.Author.Rules.{rules}
 use Rattle.checks.proofs.shapes.frame_fault.Goals as goal
 
 pub returns-then-held-ne0 : goal.returns-then-held-ne0

@@ -1,6 +1,5 @@
 use mathlib.Core.Path.{ap}
 use lib.Dec.{ltb}
-use borrow.Author.Rules.{rules}
 use Rattle.answer.proofs.Orders.{passes, or_stops, or_goes_on, row_by}
 use Rattle.checks.specs.Numbers.{product_fault}
 use Rattle.checks.specs.Shapes.{shape_fault}

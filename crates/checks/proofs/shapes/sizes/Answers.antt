@@ -1,4 +1,3 @@
-use borrow.Author.Rules.{rules}
 use Rattle.answer.proofs.Orders.{passes}
 use Rattle.checks.proofs.shapes.Frames.{shape_counts, refused_sizes, given_sizes}
 use Rattle.checks.proofs.shapes.sizes.Goals as goal

@@ -1,7 +1,3 @@
-use native.Mathlib.Nat.{lt_of_le_of_lt}
-use native.Mathlib.Omega.{arith}
-use lib.Dec.{lit<}
-use borrow.Author.Rules.{rules}
 use Rattle.checks.proofs.shapes.Sums as sums
 use Rattle.checks.proofs.shapes.sums_of.Given as goal
 

@@ -1,5 +1,4 @@
 use mathlib.Core.Path.{ap, ◌∙◌}
-use borrow.Author.Rules.{rules}
 use Rattle.checks.specs.Numbers.{uniform_fault}
 use Rattle.checks.proofs.spacing.default_fault.Goals as goal
 

@@ -1,6 +1,5 @@
 use mathlib.Core.Path.{ap₂}
 use lib.Ieee.{Float, of_bits, binary64, sub, mul}
-use borrow.Author.Rules.{rules}
 use Rattle.checks.specs.Nodes.{gap}
 use Rattle.checks.specs.Numbers.{default_tolerance}
 use Rattle.checks.proofs.spacing.default_tolerance.Goals as goal

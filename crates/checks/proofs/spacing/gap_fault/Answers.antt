@@ -3,7 +3,6 @@ use lib.Ieee.{lt}
 use Rattle.answer.proofs.Orders.{row_by}
 use Rattle.checks.specs.Nodes.{gap}
 use Rattle.checks.specs.Numbers.{gap_fault}
-use borrow.Author.Rules.{rules}
 use Rattle.checks.proofs.spacing.gap_fault.Goals as goal
 
 pub returns : goal.returns

@@ -1,8 +1,5 @@
-use Prim.Native.Nat.{◌+◌, ◌-◌}
-use Rattle.checks.specs.Numbers.{gap_fault, uniform_fault}
-use lib.ListN.{length}
+use Rattle.checks.specs.Numbers.{uniform_fault}
 use native.Mathlib.Omega.{arith}
-use borrow.Author.Rules.{rules}
 use Rattle.answer.proofs.Loops as loops
 use Rattle.checks.proofs.spacing.uniform_fault.Goals as goal
 

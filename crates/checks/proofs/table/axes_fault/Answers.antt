@@ -1,4 +1,3 @@
-use borrow.Author.Rules.{rules}
 use Rattle.checks.specs.Numbers.{axes_fault}
 use Rattle.checks.proofs.table.axes_fault.Goals as goal
 

@@ -1,5 +1,4 @@
 use Prim.Native.Nat.{◌-◌}
-use borrow.Author.Rules.{rules}
 use Rattle.checks.specs.Scaffolding.{axis_row}
 use Rattle.checks.proofs.table.Axes as axes
 use Rattle.checks.proofs.table.axes_row.Given as goal

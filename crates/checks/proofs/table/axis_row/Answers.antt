@@ -1,6 +1,5 @@
 use mathlib.Core.Bool.{Bool}
 use mathlib.Core.Path.{sym, ap, ◌∙◌}
-use borrow.Author.Rules.{rules}
 use Rattle.checks.specs.Scaffolding.{axis_row}
 use Rattle.checks.proofs.table.axis_row.Goals as goal
 

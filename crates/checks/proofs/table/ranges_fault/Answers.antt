@@ -1,14 +1,6 @@
-use Prim.Native.Nat.{◌-◌}
-use borrow.Author.Rules.{rules}
-use lib.ListN.{get_or}
-use lib.Ieee.{Float, nan}
-use mathlib.Core.List.{List}
-use Prim.Native.Nat.{ℕ}
 use mathlib.Core.Path.{ap, ◌∙◌}
-use Rattle.answer.specs.declared.Fault.{Fault}
 use Rattle.checks.specs.Numbers.{range_fault, ranges_fault}
 use Rattle.checks.proofs.table.Axes as axes
-use Rattle.checks.proofs.table.ranges_fault.Invariants.{row_of}
 use Rattle.checks.proofs.table.ranges_fault.Goals as goal
 
 pub loop-a-init : goal.loop-a-init

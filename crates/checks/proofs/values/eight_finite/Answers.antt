@@ -3,7 +3,6 @@ use lib.ListN.{get_or}
 use lib.Ieee.{nan}
 use Prim.Native.Nat.{ℕ}
 use Rattle.checks.proofs.values.Rows.{all_eight}
-use borrow.Author.Rules.{rules}
 use Rattle.checks.proofs.values.eight_finite.Goals as goal
 
 pub returns : goal.returns

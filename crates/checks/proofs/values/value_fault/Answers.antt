@@ -1,5 +1,4 @@
 use Rattle.checks.specs.Numbers.{value_fault}
-use borrow.Author.Rules.{rules}
 use Rattle.checks.proofs.values.value_fault.Goals as goal
 
 pub returns : goal.returns

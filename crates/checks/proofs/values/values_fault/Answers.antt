@@ -1,11 +1,9 @@
-use Prim.Native.Nat.{◌+◌, ◌-◌}
+use Prim.Native.Nat.{◌+◌}
 use native.Mathlib.Omega.{arith}
-use lib.ListN.{length}
-use borrow.Author.Rules.{rules}
 use Rattle.answer.proofs.Loops as loops
 use Rattle.answer.proofs.Tests.{not_false}
 use Rattle.checks.proofs.values.Rows.{value_good}
-use Rattle.checks.specs.Numbers.{value_fault, values_fault}
+use Rattle.checks.specs.Numbers.{values_fault}
 use Rattle.checks.proofs.values.values_fault.Goals as goal
 
 pub loop-i-init : goal.loop-i-init

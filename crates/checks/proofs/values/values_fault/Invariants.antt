@@ -1,10 +1,6 @@
-use Prim.Native.Nat.{◌+◌, ◌-◌}
-use native.Mathlib.Omega.{arith}
+use Prim.Native.Nat.{◌-◌}
 use lib.ListN.{length}
-use borrow.Author.Rules.{rules}
 use Rattle.answer.proofs.Loops as loops
-use Rattle.answer.proofs.Tests.{not_false}
-use Rattle.checks.proofs.values.Rows.{value_good}
 use Rattle.checks.specs.Numbers.{value_fault, values_fault}
 use Rattle.checks.proofs.values.values_fault.Given as goal
 

@@ -1,9 +1,4 @@
-use Prim.Native.Nat.{◌-◌}
-use Rattle.answer.specs.Faults.{first_fault}
-use Rattle.checks.specs.Numbers.{value_fault}
-use lib.ListN.{length}
 use native.Mathlib.Omega.{arith}
-use borrow.Author.Rules.{rules}
 use Rattle.answer.proofs.Loops as loops
 use Rattle.checks.proofs.values.values_fault_from.Goals as goal
 

@@ -45,11 +45,11 @@ pub slice_bounds-end-end : goal.slice_bounds-end-end
 slice_bounds-end-end c = c.loop-go.invariant.holds
 
 pub slice_bounds-end-end-2 : goal.slice_bounds-end-end-2
-slice_bounds-end-end-2 c = sym (length-take-le _ _ c.loop.invariant.holds)
+slice_bounds-end-end-2 c = sym (length-take-le _ _ c.loop-go.invariant.holds)
 
 pub end-last-requires : goal.end-last-requires
-end-last-requires c = record { reported = feed_report c.requires.table_of c.loop.invariant; report_most_in_bounds = omega (arith, c.requires.buf_len.1) }
+end-last-requires c = record { reported = feed_report c.requires.table_of c.loop-go.invariant; report_most_in_bounds = omega (arith, c.requires.buf_len.1) }
 
 pub returns : goal.returns
 returns c =
-    feed_whole c.requires.table_of c.loop.invariant c.loop-test.false _ _ c.end-last.ensures
+    feed_whole c.requires.table_of c.loop-go.invariant c.loop-go-test.false _ _ c.end-last.ensures

@@ -15,10 +15,10 @@ slice_bounds-report-end-2 c = sym (length-take-le _ _ (search rules))
 
 pub report-requires : goal.report-requires
 report-requires c =
-    let put : take c.finish-n.result c.finish-n.new.1.1.1.1.1.0 ≡ last_report c.args.t c.args.shape c.args.nodes.now c.args.values.now c.args.rest.now = (wrote_take (report_wrote _ c.args.out.now c.requires.report_most_in_bounds c.finish-n.ensures.value.0 c.finish-n.ensures.value.1)) in
+    let put : take c.finish-n.result c.finish-n.new.out ≡ last_report c.args.t c.args.shape c.args.nodes.now c.args.values.now c.args.rest.now = (wrote_take (report_wrote _ c.args.out.now c.requires.report_most_in_bounds c.finish-n.ensures.value.0 c.finish-n.ensures.value.1)) in
     subst (λ (x : List ℕ). Reported c.args.img.now c.args.read x) (sym put) c.requires.reported
 
 pub returns : goal.returns
 returns c =
-    let put : take c.finish-n.result c.finish-n.new.1.1.1.1.1.0 ≡ last_report c.args.t c.args.shape c.args.nodes.now c.args.values.now c.args.rest.now = (wrote_take (report_wrote _ c.args.out.now c.requires.report_most_in_bounds c.finish-n.ensures.value.0 c.finish-n.ensures.value.1)) in
+    let put : take c.finish-n.result c.finish-n.new.out ≡ last_report c.args.t c.args.shape c.args.nodes.now c.args.values.now c.args.rest.now = (wrote_take (report_wrote _ c.args.out.now c.requires.report_most_in_bounds c.finish-n.ensures.value.0 c.finish-n.ensures.value.1)) in
     c.report.ensures ∙ ap length put

@@ -17,4 +17,4 @@ slice_bounds-count_all-end-4 c = sym (length-take-le _ _ (search rules))
 
 pub count_all-requires : goal.count_all-requires
 count_all-requires c =
-    image_table (c.load.ensures.0 c.requires.nodes_len.0 c.requires.nodes_len.1) c.requires.img_value c.if1.false
+    image_table (c.load-loaded.ensures.loads c.requires.nodes_len.0 c.requires.nodes_len.1) c.requires.img_value c.if-answer-ne0.false

@@ -8,8 +8,8 @@ pub slice_bounds-stored_fault-end-2 : goal.slice_bounds-stored_fault-end-2
 slice_bounds-stored_fault-end-2 c = sym (length-take-le _ _ (search rules))
 
 pub slice_bounds-stored_fault-end-4 : goal.slice_bounds-stored_fault-end-4
-slice_bounds-stored_fault-end-4 c = sym (length-take-le c.sizes_of.result.values _ (search rules))
+slice_bounds-stored_fault-end-4 c = sym (length-take-le c.sizes_of-held.result.values _ (search rules))
 
 pub returns : goal.returns
 returns c =
-    c.stored_fault.ensures ∙ fronts_judged _ _ _ _ _ _ _ c.shape_of.ensures c.sizes_of.ensures c.requires c.read.ensures
+    c.stored_fault.ensures ∙ fronts_judged _ _ _ _ _ _ _ c.shape_of.ensures c.sizes_of-held.ensures c.requires c.read.ensures

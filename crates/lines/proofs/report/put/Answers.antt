@@ -2,7 +2,6 @@ use native.Mathlib.Omega.{arith}
 use Rattle.lines.specs.Report.{report_of, tally_report}
 use Rattle.lines.proofs.Puts.{then}
 use Rattle.lines.proofs.Reports.{report_left, report_put}
-use borrow.Author.Rules.{rules}
 use Rattle.lines.proofs.report.put.Goals as goal
 
 pub returns-then-out-lt-MOST : goal.returns-then-out-lt-MOST

@@ -1,9 +1,9 @@
 use mathlib.Core.Path.{◌≡◌, sym, ap, ◌∙◌}
-use Prim.Native.Nat.{◌-◌, min}
+use Prim.Native.Nat.{min}
 use native.Mathlib.Omega.{arith}
-use lib.ListN.{length, take, get_or, length-take}
-use Rattle.lines.specs.Report.{cell_line, joined, held, cell_at}
-use Rattle.lines.proofs.Reports.{Joining, join_start, join_step, join_end, held-length, held_cells}
+use lib.ListN.{length, take, length-take}
+use Rattle.lines.specs.Report.{held}
+use Rattle.lines.proofs.Reports.{join_start, join_step, join_end, held-length, held_cells}
 use borrow.Author.Rules.{rules}
 use Rattle.lines.proofs.report.put_axes.Goals as goal
 

@@ -1,10 +1,7 @@
-use mathlib.Core.Path.{◌≡◌, sym, ap, ◌∙◌}
-use Prim.Native.Nat.{◌-◌, min}
-use native.Mathlib.Omega.{arith}
-use lib.ListN.{length, take, get_or, length-take}
+use Prim.Native.Nat.{◌-◌}
+use lib.ListN.{take, get_or}
 use Rattle.lines.specs.Report.{cell_line, joined, held, cell_at}
-use Rattle.lines.proofs.Reports.{Joining, join_start, join_step, join_end, held-length, held_cells}
-use borrow.Author.Rules.{rules}
+use Rattle.lines.proofs.Reports.{Joining}
 use Rattle.lines.proofs.report.put_axes.Given as goal
 
 abbrev pub invariant-loop-a : goal.invariant-loop-a

@@ -4,7 +4,6 @@ use lib.ListN.{length}
 use Rattle.lines.specs.Digit.{decimal}
 use Rattle.lines.specs.Report.{cell_line}
 use Rattle.lines.proofs.Reports.{cell_most}
-use borrow.Author.Rules.{rules}
 use Rattle.lines.proofs.report.put_cell.Goals as goal
 
 pub put_three-requires : goal.put_three-requires

@@ -1,8 +1,6 @@
 use mathlib.Core.Path.{refl}
-use Prim.Native.Nat.{◌-◌}
 use native.Mathlib.Omega.{arith}
-use Rattle.lines.specs.Report.{cell_line, cell_at}
-use Rattle.lines.proofs.Reports.{Joining, join_start, join_step, join_end}
+use Rattle.lines.proofs.Reports.{join_start, join_step, join_end}
 use borrow.Author.Rules.{rules}
 use Rattle.lines.proofs.report.put_cells.Goals as goal
 

@@ -4,7 +4,6 @@ use lib.ListN.{length}
 use Rattle.lines.specs.Digit.{decimal}
 use Rattle.lines.proofs.Puts.{then, wrote_none}
 use Rattle.lines.proofs.Reports.{number_none, number_met, number_most}
-use borrow.Author.Rules.{rules}
 use Rattle.lines.proofs.report.put_number.Goals as goal
 
 pub returns-then-count-eq0 : goal.returns-then-count-eq0

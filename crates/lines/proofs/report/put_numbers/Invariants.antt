@@ -1,10 +1,7 @@
 use Prim.Native.Nat.{suc, ◌-◌}
-use native.Mathlib.Numerals.{add-one}
-use native.Mathlib.Omega.{arith}
 use lib.ListN.{get_or}
 use Rattle.lines.specs.Report.{number_line}
-use Rattle.lines.proofs.Reports.{Joining, join_start, join_step, join_end}
-use borrow.Author.Rules.{rules}
+use Rattle.lines.proofs.Reports.{Joining}
 use Rattle.lines.proofs.report.put_numbers.Given as goal
 
 abbrev pub invariant-loop-k : goal.invariant-loop-k

@@ -5,7 +5,6 @@ use Rattle.answer.specs.Answer.{refused}
 use borrow.Author.Tests.{not-true, not-false}
 use Rattle.lines.proofs.Puts.{wrote_none}
 use Rattle.lines.proofs.Shows.{line_wrote}
-use borrow.Author.Rules.{rules}
 use Rattle.lines.proofs.report.put_past.Goals as goal
 
 pub returns-then-not-past : goal.returns-then-not-past

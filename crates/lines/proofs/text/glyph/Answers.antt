@@ -1,4 +1,3 @@
-use borrow.Author.Rules.{rules}
 use Rattle.lines.proofs.Digits.{glyph_at}
 use Rattle.lines.proofs.text.glyph.Goals as goal
 

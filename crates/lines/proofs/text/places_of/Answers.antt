@@ -1,6 +1,5 @@
 use native.Mathlib.Omega.{arith}
-use borrow.Author.Rules.{rules}
-use Rattle.lines.proofs.Digits.{Counting, count_start, count-step, count_end, count_small}
+use Rattle.lines.proofs.Digits.{count_start, count-step, count_end, count_small}
 use Rattle.lines.proofs.text.places_of.Goals as goal
 
 pub loop-left-init : goal.loop-left-init

@@ -1,6 +1,4 @@
-use native.Mathlib.Omega.{arith}
-use borrow.Author.Rules.{rules}
-use Rattle.lines.proofs.Digits.{Counting, count_start, count-step, count_end, count_small}
+use Rattle.lines.proofs.Digits.{Counting}
 use Rattle.lines.proofs.text.places_of.Given as goal
 
 abbrev pub invariant-loop-left : goal.invariant-loop-left

@@ -1,5 +1,4 @@
 use Rattle.lines.proofs.Puts.{wrote_one}
-use borrow.Author.Rules.{rules}
 use Rattle.lines.proofs.text.put_byte.Goals as goal
 
 pub returns : goal.returns

@@ -1,12 +1,7 @@
-use mathlib.Core.Path.{◌≡◌, refl, ◌∙◌}
+use mathlib.Core.Path.{◌≡◌}
 use Prim.Native.Nat.{◌+◌, ◌-◌, ◌≤◌}
-use native.Mathlib.Nat.{add-zero}
-use native.Mathlib.Omega.{arith}
-use borrow.Author.Rules.{rules}
-use lib.ListN.{length, take, length-set}
-use lib.Seq.{take_all}
+use lib.ListN.{length, take}
 use Rattle.lines.specs.Scaffolding.{Wrote}
-use Rattle.lines.proofs.Puts.{wrote_none, copy_step}
 use Rattle.lines.proofs.text.put_bytes.Given as goal
 
 abbrev pub invariant-loop-i : goal.invariant-loop-i

@@ -1,7 +1,6 @@
 use native.Mathlib.Omega.{arith}
 use Rattle.lines.specs.Digit.{decimal}
 use Rattle.lines.proofs.Digits.{decimal-length}
-use borrow.Author.Rules.{rules}
 use Rattle.lines.proofs.text.put_decimal.Goals as goal
 
 pub put_digits-requires : goal.put_digits-requires

@@ -1,7 +1,6 @@
 use native.Mathlib.Nat.{mod-lt}
 use native.Mathlib.Omega.{arith}
-use borrow.Author.Rules.{rules}
-use Rattle.lines.proofs.Digits.{Writing, write_start, write_step, write_end}
+use Rattle.lines.proofs.Digits.{write_start, write_step, write_end}
 use Rattle.lines.proofs.text.put_digits.Goals as goal
 
 pub loop-i-init : goal.loop-i-init

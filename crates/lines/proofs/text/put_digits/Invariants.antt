@@ -1,7 +1,4 @@
-use native.Mathlib.Nat.{mod-lt}
-use native.Mathlib.Omega.{arith}
-use borrow.Author.Rules.{rules}
-use Rattle.lines.proofs.Digits.{Writing, write_start, write_step, write_end}
+use Rattle.lines.proofs.Digits.{Writing}
 use Rattle.lines.proofs.text.put_digits.Given as goal
 
 abbrev pub invariant-loop-i : goal.invariant-loop-i

@@ -2,7 +2,6 @@ use Prim.Native.Nat.{◌≤◌}
 use lib.ListN.{length}
 use native.Mathlib.Omega.{arith}
 use Rattle.lines.proofs.Puts.{then}
-use borrow.Author.Rules.{rules}
 use Rattle.lines.proofs.text.put_three.Goals as goal
 
 pub returns : goal.returns

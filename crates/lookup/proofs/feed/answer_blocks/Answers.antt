@@ -56,18 +56,18 @@ pub slice_bounds-end-end : goal.slice_bounds-end-end
 slice_bounds-end-end c = c.loop-go.invariant.holds
 
 pub slice_bounds-end-end-2 : goal.slice_bounds-end-end-2
-slice_bounds-end-end-2 c = sym (length-take-le _ _ c.loop.invariant.holds)
+slice_bounds-end-end-2 c = sym (length-take-le _ _ c.loop-go.invariant.holds)
 
 pub end-last-requires : goal.end-last-requires
 end-last-requires c =
-    let g = c.loop.invariant in
-    (omega (arith, g.wide), feed_last g c.loop-test.false (not-false _ c.if1.false))
+    let g = c.loop-go.invariant in
+    (omega (arith, g.wide), feed_last g c.loop-go-test.false (not-false _ c.if-not-ok.false))
 
 pub overflow_add-all : goal.overflow_add-all
 overflow_add-all c =
-    let g = c.loop.invariant in
+    let g = c.loop-go.invariant in
     omega (arith, g.short, g.wide, c.end-last.ensures.bytes_in_bounds)
 
 pub returns : goal.returns
 returns c =
-    ended_whole c.requires.table_of c.loop.invariant c.loop-test.false (not-false _ c.if1.false) _ _ c.end-last.ensures.bytes_value
+    ended_whole c.requires.table_of c.loop-go.invariant c.loop-go-test.false (not-false _ c.if-not-ok.false) _ _ c.end-last.ensures.bytes_value

@@ -17,4 +17,4 @@ slice_bounds-answer_all-end-4 c = sym (length-take-le _ _ (search rules))
 
 pub answer_all-requires : goal.answer_all-requires
 answer_all-requires c =
-    image_table (c.load.ensures.0 c.requires.nodes_len.0 c.requires.nodes_len.1) c.requires.img_value c.if1.false
+    image_table (c.load-loaded.ensures.loads c.requires.nodes_len.0 c.requires.nodes_len.1) c.requires.img_value c.if-answer-ne0.false

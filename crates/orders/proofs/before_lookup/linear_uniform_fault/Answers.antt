@@ -1,6 +1,5 @@
 use Rattle.orders.proofs.stages.Orders.{ordered_by}
 use Rattle.orders.specs.Orders.{linear_uniform_fault}
-use borrow.Author.Rules.{rules}
 use Rattle.orders.proofs.before_lookup.linear_uniform_fault.Goals as goal
 
 pub returns : goal.returns

@@ -1,6 +1,5 @@
 use Rattle.orders.proofs.stages.Orders.{ordered_none}
 use Rattle.orders.specs.Orders.{lookup_fault}
-use borrow.Author.Rules.{rules}
 use Rattle.orders.proofs.before_lookup.lookup_fault.Goals as goal
 
 pub returns : goal.returns

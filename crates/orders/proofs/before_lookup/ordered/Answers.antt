@@ -1,7 +1,6 @@
 use mathlib.Core.Path.{refl, ◌∙◌}
 use Rattle.answer.proofs.Orders.{or_by, pair_stops, pair_goes_on}
 use Rattle.orders.proofs.stages.Orders.{own_last}
-use borrow.Author.Rules.{rules}
 use Rattle.orders.proofs.before_lookup.ordered.Goals as goal
 
 pub returns-then-fault-ne0 : goal.returns-then-fault-ne0

@@ -2,7 +2,6 @@ use mathlib.Core.Path.{◌∙◌}
 use Rattle.answer.proofs.Orders.{or_by}
 use Rattle.orders.proofs.stages.Orders.{ordered_by, two_lent}
 use Rattle.orders.specs.Orders.{step_fault}
-use borrow.Author.Rules.{rules}
 use Rattle.orders.proofs.before_lookup.step_fault.Goals as goal
 
 pub returns : goal.returns

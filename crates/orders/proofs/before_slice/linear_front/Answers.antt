@@ -1,6 +1,5 @@
 use Rattle.orders.proofs.stages.Orders.{table_by}
 use Rattle.orders.specs.Orders.{linear_front}
-use borrow.Author.Rules.{rules}
 use Rattle.orders.proofs.before_slice.linear_front.Goals as goal
 
 pub returns : goal.returns

@@ -1,6 +1,5 @@
 use Rattle.answer.proofs.Orders.{or_by}
 use Rattle.orders.specs.Orders.{linear_uniform_front}
-use borrow.Author.Rules.{rules}
 use Rattle.orders.proofs.before_slice.linear_uniform_front.Goals as goal
 
 pub returns : goal.returns

@@ -1,5 +1,4 @@
 use Rattle.checks.specs.Numbers.{no_axis_fault}
-use borrow.Author.Rules.{rules}
 use Rattle.orders.proofs.before_slice.no_axis_fault.Goals as goal
 
 pub returns : goal.returns

@@ -1,5 +1,4 @@
 use Rattle.checks.specs.Numbers.{not_first_fault}
-use borrow.Author.Rules.{rules}
 use Rattle.orders.proofs.before_slice.not_first_fault.Goals as goal
 
 pub returns : goal.returns

@@ -2,7 +2,6 @@ use mathlib.Core.Path.{◌∙◌}
 use Rattle.answer.proofs.Orders.{or_by}
 use Rattle.orders.proofs.stages.Orders.{table_by, own_last, two_lent}
 use Rattle.orders.specs.Orders.{step_front}
-use borrow.Author.Rules.{rules}
 use Rattle.orders.proofs.before_slice.step_front.Goals as goal
 
 pub returns : goal.returns

@@ -1,5 +1,4 @@
 use Rattle.answer.proofs.Orders.{or_goes_on, or_stops}
-use borrow.Author.Rules.{rules}
 use Rattle.orders.proofs.stages.inside_fault.Goals as goal
 
 pub returns-then-fault-ne0 : goal.returns-then-fault-ne0

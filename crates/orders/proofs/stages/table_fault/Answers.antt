@@ -1,6 +1,5 @@
 use mathlib.Core.Path.{refl}
 use Rattle.answer.proofs.Orders.{or_by, pair_stops, pair_goes_on}
-use borrow.Author.Rules.{rules}
 use Rattle.orders.proofs.stages.table_fault.Goals as goal
 
 pub returns-then-fault-ne0 : goal.returns-then-fault-ne0

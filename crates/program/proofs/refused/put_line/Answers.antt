@@ -15,10 +15,10 @@ slice_bounds-line-end-2 c = sym (length-take-le _ _ (search rules))
 
 pub line-requires : goal.line-requires
 line-requires c =
-    let put : (by : List ℕ → List ℕ → List ℕ) → take c.put_line-end.result c.put_line-end.new.1.0 ≡ run_by by c.args.img.now = (λ by. wrote_take (line_wrote c.args.answer c.args.out.now 0 (omega (arith, c.requires.0)) c.put_line-end.ensures.value.0 c.put_line-end.ensures.value.1) ∙ sym (c.requires.1 by)) in
+    let put : (by : List ℕ → List ℕ → List ℕ) → take c.put_line-end.result c.put_line-end.new.out ≡ run_by by c.args.img.now = (λ by. wrote_take (line_wrote c.args.answer c.args.out.now 0 (omega (arith, c.requires.0)) c.put_line-end.ensures.value.0 c.put_line-end.ensures.value.1) ∙ sym (c.requires.1 by)) in
     put
 
 pub returns : goal.returns
 returns c =
-    let put : (by : List ℕ → List ℕ → List ℕ) → take c.put_line-end.result c.put_line-end.new.1.0 ≡ run_by by c.args.img.now = (λ by. wrote_take (line_wrote c.args.answer c.args.out.now 0 (omega (arith, c.requires.0)) c.put_line-end.ensures.value.0 c.put_line-end.ensures.value.1) ∙ sym (c.requires.1 by)) in
+    let put : (by : List ℕ → List ℕ → List ℕ) → take c.put_line-end.result c.put_line-end.new.out ≡ run_by by c.args.img.now = (λ by. wrote_take (line_wrote c.args.answer c.args.out.now 0 (omega (arith, c.requires.0)) c.put_line-end.ensures.value.0 c.put_line-end.ensures.value.1) ∙ sym (c.requires.1 by)) in
     λ by. c.line.ensures ∙ ap length (put by)

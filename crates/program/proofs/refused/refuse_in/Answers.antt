@@ -6,12 +6,12 @@ use Rattle.program.proofs.refused.refuse_in.Goals as goal
 
 pub returns-then-answer-eq0 : goal.returns-then-answer-eq0
 returns-then-answer-eq0 c =
-    let loads : Loads c.args.img.now c.load-loaded.new.1.0 c.load-loaded.new.1.1.0 c.load-loaded.result = (c.load-loaded.ensures.loads c.requires.0 c.requires.1.0) in
+    let loads : Loads c.args.img.now c.load-loaded.new.nodes c.load-loaded.new.values c.load-loaded.result = (c.load-loaded.ensures.loads c.requires.0 c.requires.1.0) in
     λ e bad by enough. clash _ (image_good loads e c.if-answer-eq0.true) bad
 
 pub put_line-printed-requires : goal.put_line-printed-requires
 put_line-printed-requires c =
-    let loads : Loads c.args.img.now c.load-loaded.new.1.0 c.load-loaded.new.1.1.0 c.load-loaded.result = (c.load-loaded.ensures.loads c.requires.0 c.requires.1.0) in
+    let loads : Loads c.args.img.now c.load-loaded.new.nodes c.load-loaded.new.values c.load-loaded.result = (c.load-loaded.ensures.loads c.requires.0 c.requires.1.0) in
     (c.requires.1.1, front_line loads c.if-answer-eq0.false)
 
 pub returns : goal.returns

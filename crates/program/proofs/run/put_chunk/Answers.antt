@@ -10,13 +10,13 @@ use Rattle.program.proofs.run.put_chunk.Goals as goal
 
 pub slice_bounds-put_all-end : goal.slice_bounds-put_all-end
 slice_bounds-put_all-end c =
-    let fits : c.answer_block-done.result.written ≤ length c.answer_block-done.new.1.1.1.1.1.0 = (omega (arith, (answered c.answer_block-done.ensures c.answer_block-done.auto.out).room, c.answer_block-done.auto.out)) in
+    let fits : c.answer_block-done.result.written ≤ length c.answer_block-done.new.out = (omega (arith, (answered c.answer_block-done.ensures c.answer_block-done.auto.out).room, c.answer_block-done.auto.out)) in
     fits
 
 pub slice_bounds-put_all-end-2 : goal.slice_bounds-put_all-end-2
 slice_bounds-put_all-end-2 c =
-    let fits : c.answer_block-done.result.written ≤ length c.answer_block-done.new.1.1.1.1.1.0 = (omega (arith, (answered c.answer_block-done.ensures c.answer_block-done.auto.out).room, c.answer_block-done.auto.out)) in
+    let fits : c.answer_block-done.result.written ≤ length c.answer_block-done.new.out = (omega (arith, (answered c.answer_block-done.ensures c.answer_block-done.auto.out).room, c.answer_block-done.auto.out)) in
     sym (length-take-le _ _ fits)
 
 pub returns : goal.returns
-returns c = record { block = c.answer_block.ensures; placed = placed (answered c.answer_block.ensures c.answer_block.auto.1.1.1.1.1.0).lines c.put_all.ensures }
+returns c = record { block = c.answer_block-done.ensures; placed = placed (answered c.answer_block-done.ensures c.answer_block-done.auto.out).lines c.put_all_lem.ensures }

@@ -9,4 +9,4 @@ returns-then-held-buf c = λ h. absurd (omega (arith, h, c.if-held-buf.true))
 
 pub returns : goal.returns
 returns c =
-    λ h. filled c.args.buf.now c.read_full-got.new.1.0 _ c.args.held c.read_full-got.result h c.read_full-got.ensures.0
+    λ h. filled c.args.buf.now c.read_full-got.new.buf _ c.args.held c.read_full-got.result h c.read_full-got.ensures.0

@@ -13,8 +13,8 @@ returns-then-got-lt-HEADER c =
 pub read_rest-requires : goal.read_rest-requires
 read_rest-requires c =
     let w = size_within _ _ c.image_size-size.ensures in
-    (omega (arith, w.0), omega (arith, w.1, c.read_head.auto.0, c.if1.false))
+    (omega (arith, w.0), omega (arith, w.1, c.read_head-got.auto.img, c.if-img-lt-MOST_BYTES.false))
 
 pub returns : goal.returns
 returns c =
-    (c.read_rest.ensures.0.within, image_read _ _ c.image_size-size.result c.read_rest.result (omega (arith, c.read_head.auto.0, c.if1.false)) c.image_size-size.ensures c.read_rest.ensures.0 c.read_rest.ensures.1)
+    (c.read_rest.ensures.0.within, image_read _ _ c.image_size-size.result c.read_rest.result (omega (arith, c.read_head-got.auto.img, c.if-img-lt-MOST_BYTES.false)) c.image_size-size.ensures c.read_rest.ensures.0 c.read_rest.ensures.1)

@@ -27,8 +27,7 @@ slice_bounds-pick_index-end c = axis_ends c.requires.ready _ _ c.axis_start-star
 pub stride-inner-requires : goal.stride-inner-requires
 stride-inner-requires c =
     let r = c.requires.ready in
-    let all = (r.four, (r.within, few_at r)) in
-    record { axes_bound = all.0; axis_lt_axes = all.1; by_index = all.2 }
+    record { axes_bound = r.four; axis_lt_axes = r.within; by_index = few_at r }
 
 pub nonzero_div-count : goal.nonzero_div-count
 nonzero_div-count c = omega (arith, some_at c.requires.ready)

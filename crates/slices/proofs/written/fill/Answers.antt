@@ -40,8 +40,7 @@ next_from-from-requires c =
     let from_few : c.loop-t.from < 4096 = (omega (arith, from_in, c.requires.stored)) in
     let product_small : (m : ℕ) → m ≤ 64 → m * c.args.inner ≤ 64 * 4096 = (λ m h. mul-le-mul h c.requires.small) in
     let skip_small : (c.args.n - 1) * c.args.inner ≤ 262144 = (product_small (c.args.n - 1) (omega (arith, c.requires.few))) in
-    let all = (j_in, (omega (arith, from_few), omega (arith, skip_small))) in
-    record { j_lt_inner = all.0; from_bound = all.1; skip_bound = all.2 }
+    record { j_lt_inner = j_in; from_bound = omega (arith, from_few); skip_bound = omega (arith, skip_small) }
 
 pub next_in_run-j-requires : goal.next_in_run-j-requires
 next_in_run-j-requires c =

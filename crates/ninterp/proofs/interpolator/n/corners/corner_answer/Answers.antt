@@ -44,7 +44,7 @@ gather-vals-requires c =
     record {
       few = omega (arith, eight);
       there = room (goal.at.gather-vals-requires c).After-rest_places-arg-1;
-      inside = λ i b. (omega (arith, under (goal.at.gather-vals-requires c).After-rest_places-arg-1 (location_index first) i (lower_upper first) b, c.rest_places.ensures.lower), omega (arith, under (goal.at.gather-vals-requires c).After-rest_places-arg-1 (upper_of first) i (omega arith) b, c.rest_places.ensures.upper));
+      inside = λ i b. (omega (arith, under (goal.at.gather-vals-requires c).After-rest_places-arg-1 (location_index first) i (lower_upper first) b, c.rest_places-rest.ensures.lower), omega (arith, under (goal.at.gather-vals-requires c).After-rest_places-arg-1 (upper_of first) i (omega arith) b, c.rest_places-rest.ensures.upper));
     }
 
 pub returns : goal.returns
@@ -55,8 +55,8 @@ returns c =
     c.fold_answer.ensures
     ∙ ap computed
     (folded c.args.locations c.args.shape.counts c.args.shape.axes c.requires.some long_l long_c c.requires.within _ refl c.args.values.now c.gather-vals.result (λ i b.
-    let v = c.gather-vals.ensures.both i (omega (arith, c.rest_places.ensures.corners, b)) in
-    let p = get_or c.rest_places.new.1.1.1.0 i 0 in (
-      v.0 ∙ ap (λ (m : ℕ). get_or c.args.values.now (p + m) nan) c.rest_places.ensures.lower ∙ stored (goal.at.returns c).After-rest_places-arg-1 (location_index first) i b,
-      ap (λ (m : ℕ). get_or c.gather-vals.result (i + m) nan) (sym c.rest_places.ensures.corners) ∙ v.1 ∙ ap (λ (m : ℕ). get_or c.args.values.now (p + m) nan) c.rest_places.ensures.upper ∙ stored (goal.at.returns c).After-rest_places-arg-1 (upper_of first) i b,
+    let v = c.gather-vals.ensures.both i (omega (arith, c.rest_places-rest.ensures.corners, b)) in
+    let p = get_or c.rest_places-rest.new.places i 0 in (
+      v.0 ∙ ap (λ (m : ℕ). get_or c.args.values.now (p + m) nan) c.rest_places-rest.ensures.lower ∙ stored (goal.at.returns c).After-rest_places-arg-1 (location_index first) i b,
+      ap (λ (m : ℕ). get_or c.gather-vals.result (i + m) nan) (sym c.rest_places-rest.ensures.corners) ∙ v.1 ∙ ap (λ (m : ℕ). get_or c.args.values.now (p + m) nan) c.rest_places-rest.ensures.upper ∙ stored (goal.at.returns c).After-rest_places-arg-1 (upper_of first) i b,
     )))

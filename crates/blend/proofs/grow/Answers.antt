@@ -1,4 +1,3 @@
-use borrow.Author.Rules.{rules}
 use Rattle.blend.proofs.grow.Goals as goal
 
 pub returns-in-Exact : goal.returns-in-Exact

@@ -1,4 +1,4 @@
-use Rattle.std.proofs.Common.{arith, rules}
+use Rattle.std.proofs.Common.{arith}
 use Rattle.axis.specs.Cells.{lower_index}
 use Rattle.axis.proofs.cells.cell_index.Goals as goal
 

@@ -1,7 +1,5 @@
-use Rattle.axis.specs.Cells.{how_many, count_below}
 use Rattle.axis.proofs.cells.Cells.{count-step, count_end}
-use lib.Ieee.{lt}
-use Rattle.std.proofs.Common.{◌≡◌, ◌+◌, ◌-◌, ◌≤◌, length, drop, arith, rules}
+use Rattle.std.proofs.Common.{arith}
 use Rattle.axis.proofs.cells.count_below.Goals as goal
 
 pub loop-i-init : goal.loop-i-init

@@ -1,7 +1,6 @@
 use Rattle.axis.specs.Cells.{how_many, count_below}
-use Rattle.axis.proofs.cells.Cells.{count-step, count_end}
 use lib.Ieee.{lt}
-use Rattle.std.proofs.Common.{◌≡◌, ◌+◌, ◌-◌, ◌≤◌, length, drop, arith, rules}
+use Rattle.std.proofs.Common.{◌≡◌, ◌+◌, ◌-◌, ◌≤◌, length, drop}
 use Rattle.axis.proofs.cells.count_below.Given as goal
 
 abbrev pub invariant-loop-i : goal.invariant-loop-i

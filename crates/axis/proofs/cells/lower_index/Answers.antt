@@ -1,5 +1,4 @@
 use Rattle.axis.proofs.cells.Cells.{cell_none}
-use Rattle.std.proofs.Common.{rules}
 use Rattle.axis.proofs.cells.lower_index.Goals as goal
 
 pub returns-then-grid-lt2 : goal.returns-then-grid-lt2

@@ -1,5 +1,4 @@
 use Rattle.axis.proofs.exact.Exacts.{exact_past, exact_lower, exact-last, exact_upper, exact_none}
-use Rattle.std.proofs.Common.{rules}
 use Rattle.axis.proofs.exact.exact_node.Goals as goal
 
 pub returns-then-lower-grid : goal.returns-then-lower-grid

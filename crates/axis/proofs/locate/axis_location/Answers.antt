@@ -1,7 +1,6 @@
 use Rattle.checks.specs.Nodes.{gap}
 use Rattle.axis.specs.Locations.{fraction}
 use Rattle.axis.proofs.Exacts.{location_exact, location_between}
-use Rattle.std.proofs.Common.{rules}
 use Rattle.axis.proofs.locate.axis_location.Goals as goal
 
 pub returns-in-Some : goal.returns-in-Some

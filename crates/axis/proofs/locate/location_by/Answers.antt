@@ -1,4 +1,4 @@
-use Rattle.std.proofs.Common.{true, false, rules}
+use Rattle.std.proofs.Common.{true, false}
 use lib.Ieee.{of_bits}
 use Rattle.axis.proofs.Located.{location_none, location_some}
 use Rattle.axis.proofs.locate.location_by.Goals as goal

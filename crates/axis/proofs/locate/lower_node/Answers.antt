@@ -1,4 +1,4 @@
-use Rattle.std.proofs.Common.{sym, ap, rules}
+use Rattle.std.proofs.Common.{sym, ap}
 use Rattle.axis.specs.Locations.{location_index}
 use Rattle.axis.proofs.locate.lower_node.Goals as goal
 

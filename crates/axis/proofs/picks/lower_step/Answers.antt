@@ -1,5 +1,4 @@
 use Rattle.axis.proofs.picks.Rusts.{by_last, by_upper, by_lower}
-use Rattle.std.proofs.Common.{rules}
 use Rattle.axis.proofs.picks.lower_step.Goals as goal
 
 pub returns-then-point-grid : goal.returns-then-point-grid

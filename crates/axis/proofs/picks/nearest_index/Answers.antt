@@ -1,5 +1,4 @@
 use Rattle.axis.proofs.picks.Nearests.{nearest_lower, nearest_upper}
-use Rattle.std.proofs.Common.{rules}
 use Rattle.axis.proofs.picks.nearest_index.Goals as goal
 
 pub returns-then-point-grid : goal.returns-then-point-grid

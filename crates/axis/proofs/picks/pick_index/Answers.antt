@@ -1,5 +1,5 @@
 use Rattle.axis.proofs.picks.Picks.{pick_none, pick_step, pick_nearest}
-use Rattle.std.proofs.Common.{◌∙◌, rules}
+use Rattle.std.proofs.Common.{◌∙◌}
 use Rattle.axis.proofs.picks.pick_index.Goals as goal
 
 pub returns-then-grid-lt2 : goal.returns-then-grid-lt2

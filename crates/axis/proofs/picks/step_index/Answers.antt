@@ -1,5 +1,4 @@
 use Rattle.axis.proofs.picks.Rusts.{rust_lower, rust_upper}
-use Rattle.std.proofs.Common.{rules}
 use Rattle.axis.proofs.picks.step_index.Goals as goal
 
 pub returns-then-direction-eq0 : goal.returns-then-direction-eq0

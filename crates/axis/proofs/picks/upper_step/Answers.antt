@@ -1,6 +1,5 @@
 use Rattle.axis.specs.Cells.{lower_index}
 use Rattle.axis.proofs.picks.Rusts.{by_first, by_next}
-use Rattle.std.proofs.Common.{rules}
 use Rattle.axis.proofs.picks.upper_step.Goals as goal
 
 pub returns-then-point-grid : goal.returns-then-point-grid

@@ -1,5 +1,4 @@
 use Rattle.axis.specs.Uniform.{uniform_index}
-use Rattle.std.proofs.Common.{rules}
 use Rattle.axis.proofs.uniform.uniform_index.Goals as goal
 
 pub returns : goal.returns

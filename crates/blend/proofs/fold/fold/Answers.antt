@@ -1,15 +1,14 @@
-use mathlib.Core.Path.{◌≡◌, refl, ap, ◌∙◌}
+use mathlib.Core.Path.{refl, ap, ◌∙◌}
 use mathlib.Core.List.{List}
-use Prim.Native.Nat.{◌+◌, ◌-◌, ◌≤◌}
+use Prim.Native.Nat.{◌+◌, ◌≤◌}
 use native.Mathlib.Omega.{arith}
-use lib.ListN.{length, take, drop, get_or}
+use lib.ListN.{take, drop, get_or}
 use Rattle.layout.proofs.Totals.{counts_least}
 use Rattle.rust.specs.Scaffolding.{diffs, butterfly}
 use Rattle.rust.specs.declared.AxisLocation.{AxisLocation}
 use Rattle.rust.specs.declared.AxisLocation.TheVariants.{Exact}
 use Rattle.blend.proofs.fold.Counts.{count_few}
-use Rattle.blend.proofs.fold.Folds.{Folding, fold_step, fold_fits, fold_at, fold_done}
-use borrow.Author.Rules.{rules}
+use Rattle.blend.proofs.fold.Folds.{fold_step, fold_fits, fold_at, fold_done}
 use Rattle.blend.proofs.fold.fold.Goals as goal
 
 pub loop-d-init : goal.loop-d-init

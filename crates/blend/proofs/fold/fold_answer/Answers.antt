@@ -3,7 +3,6 @@ use Rattle.answer.specs.Answer.{answered}
 use Rattle.answer.proofs.Answers.{then_stops, then_goes_on}
 use Rattle.checks.specs.Numbers.{result_fault}
 use Rattle.blend.specs.Blend.{computed}
-use borrow.Author.Rules.{rules}
 use Rattle.blend.proofs.fold.fold_answer.Goals as goal
 
 pub returns-then-fault-ne0 : goal.returns-then-fault-ne0

@@ -1,4 +1,3 @@
-use borrow.Author.Rules.{rules}
 use Rattle.blend.proofs.fold.half_of.Goals as goal
 
 pub returns-in-Between : goal.returns-in-Between

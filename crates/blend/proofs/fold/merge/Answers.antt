@@ -1,5 +1,4 @@
 use native.Mathlib.Omega.{arith}
-use borrow.Author.Rules.{rules}
 use Rattle.blend.proofs.fold.merge.Goals as goal
 
 pub pass_over-requires : goal.pass_over-requires

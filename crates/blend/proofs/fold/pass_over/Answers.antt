@@ -1,11 +1,8 @@
-use mathlib.Core.Path.{◌≡◌, refl, ◌∙◌}
-use mathlib.Core.List.{◌++◌}
-use Prim.Native.Nat.{◌-◌, ◌≤◌, ◌<◌}
+use mathlib.Core.Path.{refl, ◌∙◌}
+use Prim.Native.Nat.{◌<◌}
 use native.Mathlib.Omega.{arith}
-use lib.ListN.{length, drop, length-set}
-use Rattle.layout.specs.Layout.{tabulate}
-use Rattle.blend.proofs.fold.Folds.{blend_at, pass_step, pass_done}
-use borrow.Author.Rules.{rules}
+use lib.ListN.{length, length-set}
+use Rattle.blend.proofs.fold.Folds.{pass_step, pass_done}
 use Rattle.blend.proofs.fold.pass_over.Goals as goal
 
 pub loop-i-init : goal.loop-i-init

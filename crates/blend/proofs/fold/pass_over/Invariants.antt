@@ -1,11 +1,9 @@
-use mathlib.Core.Path.{◌≡◌, refl, ◌∙◌}
+use mathlib.Core.Path.{◌≡◌}
 use mathlib.Core.List.{◌++◌}
-use Prim.Native.Nat.{◌-◌, ◌≤◌, ◌<◌}
-use native.Mathlib.Omega.{arith}
-use lib.ListN.{length, drop, length-set}
+use Prim.Native.Nat.{◌-◌, ◌≤◌}
+use lib.ListN.{length, drop}
 use Rattle.layout.specs.Layout.{tabulate}
-use Rattle.blend.proofs.fold.Folds.{blend_at, pass_step, pass_done}
-use borrow.Author.Rules.{rules}
+use Rattle.blend.proofs.fold.Folds.{blend_at}
 use Rattle.blend.proofs.fold.pass_over.Given as goal
 
 abbrev pub invariant-loop-i : goal.invariant-loop-i

@@ -1,11 +1,8 @@
 use mathlib.Core.Path.{ap, ◌∙◌}
-use Prim.Native.Nat.{◌-◌}
 use native.Mathlib.Omega.{arith}
-use Rattle.answer.specs.Faults.{first_fault}
 use Rattle.answer.proofs.Loops as loops
 use Rattle.checks.specs.Numbers.{result_fault}
-use Rattle.blend.proofs.runs.Blends.{run_fault, results_blends}
-use borrow.Author.Rules.{rules}
+use Rattle.blend.proofs.runs.Blends.{results_blends}
 use Rattle.blend.proofs.runs.blend_fault.Goals as goal
 
 pub loop-i-init : goal.loop-i-init

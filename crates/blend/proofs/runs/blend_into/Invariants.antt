@@ -1,14 +1,9 @@
-use lib.ListN.{set, length-set, length, drop}
-use mathlib.Core.Path.{◌≡◌, refl, ap, ap₂, ◌∙◌}
-use mathlib.Core.List.{List, ◌++◌}
-use Prim.Native.Nat.{ℕ, ◌+◌, ◌-◌, ◌≤◌, ◌<◌, min}
-use native.Mathlib.Omega.{arith}
-use lib.Ieee.{Float}
+use lib.ListN.{length, drop}
+use mathlib.Core.Path.{◌≡◌}
+use mathlib.Core.List.{◌++◌}
+use Prim.Native.Nat.{◌-◌, ◌≤◌}
 use Rattle.layout.specs.Layout.{tabulate}
-use Rattle.layout.proofs.Layouts.{tabulate-step}
-use Rattle.blend.specs.Scaffolding.{blended_into}
 use Rattle.blend.proofs.runs.Blends.{run_at}
-use borrow.Author.Rules.{rules}
 use Rattle.blend.proofs.runs.blend_into.Given as goal
 
 abbrev pub invariant-loop-i : goal.invariant-loop-i

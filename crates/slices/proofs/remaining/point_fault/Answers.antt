@@ -33,6 +33,9 @@ returns-then-fault-ne0-2 c =
     let range_told : c.range_fault-fault.result ≡ range_fault c.args.axis (axis_of c.args.shape c.args.nodes.now c.args.axis) c.args.point = (c.range_fault-fault.ensures ∙ ap (λ xs. range_fault c.args.axis xs c.args.point) (axis_lies c.requires _ _ c.axis_start-start.ensures.value refl)) in
     or_goes_on _ _ c.reading_fault-fault.ensures _ _ c.if-fault-ne0.false (or_stops _ _ range_told _ c.if-fault-ne0-2.true)
 
+pub nonzero_div-values : goal.nonzero_div-values
+nonzero_div-values c = omega (arith, some_at c.requires)
+
 pub returns : goal.returns
 unfolding point_fault
 returns c =

@@ -21,42 +21,49 @@ use Rattle.axis.proofs.Located.{lower_upper}
 use borrow.Author.Rules.{rules}
 use Rattle.ninterp.proofs.interpolator.n.corners.corner_answer.Goals as goal
 
-room : (k : goal.After-rest_places-rest) → k.rest_places.result.count ≤ length k.rest_places.last.1.1.1.0
-room (goal.at.None c).After-rest_places-rest = omega (arith, eight, k.rest_places-rest.kept.1.1.1.0)
-module (goal.at.None c).After-rest_places-rest (node i : ℕ) where
-  abbrev at : ℕ
-  at = get_or k.rest_places.last.1.1.1.0 i 0 + node * size (drop 1 (take (s k).args.shape.axes (s k).args.shape.counts))
-
-  under : node ≤ upper_of (first (s k)) → i < k.rest_places.result.count → at < length (s k).args.values.now
-  under l b =
-      omega (arith, corner_under (s k).args.locations (s k).args.shape.counts (s k).args.shape.axes (s k).pre.some (long_l (s k)) (long_c (s k)) (s k).pre.within (goal.at.None c).After-rest_places-rest refl node (goal.at.None c).After-rest_places-rest (goal.at.None c).After-rest_places-rest i l (k.rest_places.ensures.each i (omega (arith, k.rest_places.ensures.corners, b))) refl, (s k).pre.stored)
-
-  stored : i < 2 ^ (many k) → get_or (s k).args.values.now at nan
-      ≡ table (take (s k).args.shape.axes (s k).args.shape.counts) (s k).args.values.now (node ∷ corner_at (drop 1 (take (s k).args.shape.axes (s k).args.locations)) i)
-  stored b = at-node (s k).args.locations (s k).args.shape.counts (s k).args.shape.axes (s k).pre.some (long_l (s k)) (long_c (s k)) (s k).pre.within (goal.at.None c).After-rest_places-rest refl (s k).args.values.now node (goal.at.None c).After-rest_places-rest (goal.at.None c).After-rest_places-rest i (k.rest_places.ensures.each i b) refl
-
--- a node of the first axis, and a corner of the others under it
+-- what both goals know of the table, of its first axis and of the corners under it
 pub gather-vals-requires : goal.gather-vals-requires
 gather-vals-requires c =
-    let many : ℕ = (length (diffs (drop 1 (take c.args.shape.axes c.args.locations)))) in
-    let eight : c.rest_places-rest.result.count ≤ 8 = (let rest = drop 1 (take c.args.shape.axes c.args.locations) in let short : many ≤ 3 = omega (arith, few_diffs rest, length-drop 1 (take c.args.shape.axes c.args.locations), length-take c.args.shape.axes c.args.locations, c.requires.four) in let u : 2 ^ many ≤ 2 ^ 3 = pow-le-pow_right (omega arith) {i = many} {j = 3} short in omega (arith, c.rest_places-rest.ensures.corners, u)) in
-    let first : AxisLocation = (get_or c.args.locations 0 (Exact 0)) in
+    let ls = c.args.locations in
+    let counts = c.args.shape.counts in
+    let n = c.args.shape.axes in
+    let values = c.args.values.now in
+    let four_l : length ls ≡ 4 = search rules in
+    let four_c : length counts ≡ 4 = search rules in
+    let long_l : n ≤ length ls = omega (arith, four_l, c.requires.four) in
+    let long_c : n ≤ length counts = omega (arith, four_c, c.requires.four) in
+    let first : AxisLocation = get_or ls 0 (Exact 0) in
+    let many : ℕ = length (diffs (drop 1 (take n ls))) in
+    let short : many ≤ 3 = omega (arith, few_diffs (drop 1 (take n ls)), length-drop 1 (take n ls), length-take n ls, c.requires.four) in
+    let u : 2 ^ many ≤ 2 ^ 3 = pow-le-pow_right (omega arith) {i = many} {j = 3} short in
+    let eight : c.rest_places-rest.result.count ≤ 8 = omega (arith, c.rest_places-rest.ensures.corners, u) in
+    let under : (node i : ℕ) → node ≤ upper_of first → i < c.rest_places-rest.result.count → get_or c.rest_places-rest.new.places i 0 + node * size (drop 1 (take n counts)) < length values
+        = λ node i l b. omega (arith, corner_under ls counts n c.requires.some long_l long_c c.requires.within _ refl node _ _ i l (c.rest_places-rest.ensures.each i (omega (arith, c.rest_places-rest.ensures.corners, b))) refl, c.requires.stored) in
     record {
       few = omega (arith, eight);
-      there = room (goal.at.gather-vals-requires c).After-rest_places-arg-1;
-      inside = λ i b. (omega (arith, under (goal.at.gather-vals-requires c).After-rest_places-arg-1 (location_index first) i (lower_upper first) b, c.rest_places-rest.ensures.lower), omega (arith, under (goal.at.gather-vals-requires c).After-rest_places-arg-1 (upper_of first) i (omega arith) b, c.rest_places-rest.ensures.upper));
+      there = omega (arith, eight, c.rest_places-rest.auto.places);
+      inside = λ i b. (omega (arith, under (location_index first) i (lower_upper first) b, c.rest_places-rest.ensures.lower), omega (arith, under (upper_of first) i (omega arith) b, c.rest_places-rest.ensures.upper));
     }
 
 pub returns : goal.returns
 returns c =
-    let long_l : c.args.shape.axes ≤ length c.args.locations = (omega (arith, c.well_formed.1.1.0.1.0.1, c.requires.four)) in
-    let long_c : c.args.shape.axes ≤ length c.args.shape.counts = (omega (arith, length_ids c.args.shape.counts c.well_formed.0.1.1.1.0.1.0.1, c.requires.four)) in
-    let first : AxisLocation = (get_or c.args.locations 0 (Exact 0)) in
+    let ls = c.args.locations in
+    let counts = c.args.shape.counts in
+    let n = c.args.shape.axes in
+    let values = c.args.values.now in
+    let four_l : length ls ≡ 4 = search rules in
+    let four_c : length counts ≡ 4 = search rules in
+    let long_l : n ≤ length ls = omega (arith, four_l, c.requires.four) in
+    let long_c : n ≤ length counts = omega (arith, four_c, c.requires.four) in
+    let first : AxisLocation = get_or ls 0 (Exact 0) in
+    let many : ℕ = length (diffs (drop 1 (take n ls))) in
+    let stored : (node i : ℕ) → i < 2 ^ many → get_or values (get_or c.rest_places-rest.new.places i 0 + node * size (drop 1 (take n counts))) nan ≡ table (take n counts) values (node ∷ corner_at (drop 1 (take n ls)) i)
+        = λ node i b. at-node ls counts n c.requires.some long_l long_c c.requires.within _ refl values node _ _ i (c.rest_places-rest.ensures.each i b) refl in
     c.fold_answer.ensures
     ∙ ap computed
-    (folded c.args.locations c.args.shape.counts c.args.shape.axes c.requires.some long_l long_c c.requires.within _ refl c.args.values.now c.gather-vals.result (λ i b.
+    (folded ls counts n c.requires.some long_l long_c c.requires.within _ refl values c.gather-vals.result (λ i b.
     let v = c.gather-vals.ensures.both i (omega (arith, c.rest_places-rest.ensures.corners, b)) in
     let p = get_or c.rest_places-rest.new.places i 0 in (
-      v.0 ∙ ap (λ (m : ℕ). get_or c.args.values.now (p + m) nan) c.rest_places-rest.ensures.lower ∙ stored (goal.at.returns c).After-rest_places-arg-1 (location_index first) i b,
-      ap (λ (m : ℕ). get_or c.gather-vals.result (i + m) nan) (sym c.rest_places-rest.ensures.corners) ∙ v.1 ∙ ap (λ (m : ℕ). get_or c.args.values.now (p + m) nan) c.rest_places-rest.ensures.upper ∙ stored (goal.at.returns c).After-rest_places-arg-1 (upper_of first) i b,
+      v.0 ∙ ap (λ (m : ℕ). get_or values (p + m) nan) c.rest_places-rest.ensures.lower ∙ stored (location_index first) i b,
+      ap (λ (m : ℕ). get_or c.gather-vals.result (i + m) nan) (sym c.rest_places-rest.ensures.corners) ∙ v.1 ∙ ap (λ (m : ℕ). get_or values (p + m) nan) c.rest_places-rest.ensures.upper ∙ stored (upper_of first) i b,
     )))

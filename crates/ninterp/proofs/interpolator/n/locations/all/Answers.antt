@@ -22,38 +22,31 @@ use Rattle.ninterp.proofs.interpolator.n.locations.all.Goals as goal
 pub loop-a-init : goal.loop-a-init
 loop-a-init c = (search rules, (refl, (refl, λ k b. absurd (omega arith))))
 
-pub bounds-counts-a : goal.bounds-counts-a
-bounds-counts-a c =
-    let C : List ℕ = (c.args.shape.counts) in
-    let four : length C ≡ 4 = (length_ids C c.well_formed.1.0.1.1.1.0.1.0.1) in
-    let long : c.args.shape.axes ≤ length C = (omega (arith, four, c.requires.four)) in
-    omega (arith, four, long)
-
 pub overflow_add-end : goal.overflow_add-end
 overflow_add-end c =
     let C : List ℕ = (c.args.shape.counts) in
-    let four : length C ≡ 4 = (length_ids C c.well_formed.1.0.1.1.1.0.1.0.1) in
+    let four : length C ≡ 4 = (search rules) in
     let long : c.args.shape.axes ≤ length C = (omega (arith, four, c.requires.four)) in
     omega (arith, axis_within C c.args.shape.axes c.args.nodes.now [] c.args.point.now c.requires.grid long c.requires.finites c.loop-a.a c.loop-a.at c.loop-a-test.true c.loop-a.invariant.1.0)
 
 pub slice_bounds-location_by-end : goal.slice_bounds-location_by-end
 slice_bounds-location_by-end c =
     let C : List ℕ = (c.args.shape.counts) in
-    let four : length C ≡ 4 = (length_ids C c.well_formed.1.0.1.1.1.0.1.0.1) in
+    let four : length C ≡ 4 = (search rules) in
     let long : c.args.shape.axes ≤ length C = (omega (arith, four, c.requires.four)) in
     omega (arith, axis_within C c.args.shape.axes c.args.nodes.now [] c.args.point.now c.requires.grid long c.requires.finites c.loop-a.a c.loop-a.at c.loop-a-test.true c.loop-a.invariant.1.0)
 
 pub bounds-found-a : goal.bounds-found-a
 bounds-found-a c =
     let C : List ℕ = (c.args.shape.counts) in
-    let four : length C ≡ 4 = (length_ids C c.well_formed.1.0.1.1.1.0.1.0.1) in
+    let four : length C ≡ 4 = (search rules) in
     let long : c.args.shape.axes ≤ length C = (omega (arith, four, c.requires.four)) in
     omega (arith, four, long)
 
 pub loop-a-preserved : goal.loop-a-preserved
 loop-a-preserved c =
     let C : List ℕ = (c.args.shape.counts) in
-    let four : length C ≡ 4 = (length_ids C c.well_formed.1.0.1.1.1.0.1.0.1) in
+    let four : length C ≡ 4 = (search rules) in
     let long : c.args.shape.axes ≤ length C = (omega (arith, four, c.requires.four)) in
     let t = c.loop-a-test.true in
     let good = axis-good C c.args.shape.axes c.args.nodes.now [] c.args.point.now c.requires.grid long c.requires.finites c.loop-a.a c.loop-a.at t c.loop-a.invariant.1.0 in
@@ -72,7 +65,7 @@ pub returns : goal.returns
 unfolding locations
 returns c =
     let C : List ℕ = (c.args.shape.counts) in
-    let four : length C ≡ 4 = (length_ids C c.well_formed.1.0.1.1.1.0.1.0.1) in
+    let four : length C ≡ 4 = (search rules) in
     let long : c.args.shape.axes ≤ length C = (omega (arith, four, c.requires.four)) in
     let filled : take c.args.shape.axes c.loop-a.found ≡ locations (location_by c.args.uniform) (axes_of (take c.args.shape.axes C) c.args.nodes.now) c.args.point.now = (let cs = take c.args.shape.axes C in let n : c.args.shape.axes ≡ length (axes_of (take c.args.shape.axes C) c.args.nodes.now) = sym (length-axes cs c.args.nodes.now ∙ length-take-le c.args.shape.axes C long) in take_filled c.loop-a.found c.args.shape.axes (Exact 0) (λ k. location_by c.args.uniform (get_or (axes_of cs c.args.nodes.now) k []) (get_or c.args.point.now k nan)) (omega (arith, c.loop-a.invariant.1.1.0, four, long)) (λ k b. c.loop-a.invariant.1.1.1 k (omega (arith, b, c.loop-a-test.false))) ∙ ap (λ (m : ℕ). tabulate m (λ k. location_by c.args.uniform (get_or (axes_of cs c.args.nodes.now) k []) (get_or c.args.point.now k nan))) n) in
     let cs = take c.args.shape.axes C in

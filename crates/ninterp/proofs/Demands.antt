@@ -30,9 +30,8 @@ use Rattle.checks.proofs.table.Grids.{frame_axes, grid_of}
 use Rattle.orders.specs.Orders.{lookup_fault, step_fault}
 use Rattle.ninterp.specs.Tables.{indices, picked, nearest_answer, step_answer}
 use Rattle.axis.specs.Picks.{nearest_rule, step_rule}
-use Rattle.axis.specs.Scaffolding.{rust_step}
 use Rattle.binary64.proofs.Held.{Held}
-use Rattle.axis.proofs.picks.Nodes.{step_rust, nearest_on_node, step_on_node}
+use Rattle.axis.proofs.picks.Nodes.{nearest_on_node, step_on_node}
 
 -- ---- an accepted table, and finite readings in range
 pub record Accepted (s : Shape) (nodes values : List Float) : Type 0 where

@@ -1,6 +1,6 @@
 -- "Success is 0, 0, 0 and the value (+0.0 where a call gives none). A refusal has value +0.0, any index, fraction or shape it would give is zero": of each
 -- primitive. Assumes nothing.
-use mathlib.Core.Path.{◌≡◌, ap, ◌∙◌}
+use mathlib.Core.Path.{◌≡◌, ap}
 use mathlib.Core.Bool.{false}
 use mathlib.Core.List.{List}
 use Prim.Native.Nat.{ℕ}

@@ -9,7 +9,6 @@ use Rattle.image.proofs.Listed.{areas_asked, pairs_asked}
 use mathlib.Core.Path.{◌≡◌, ◌∙◌}
 use mathlib.Core.List.{List}
 use Prim.Native.Nat.{ℕ}
-use borrow.Author.Rules.{rules}
 use Rattle.image.proofs.load_fault.Goals as goal
 
 pub returns-then-fault-ne0 : goal.returns-then-fault-ne0

@@ -1,5 +1,4 @@
 use mathlib.Core.Path.{ap₂}
-use borrow.Author.Rules.{rules}
 use Rattle.answer.specs.declared.Answer.{Answer}
 use Rattle.layout.specs.declared.Shape.{Shape}
 use Rattle.image.specs.Scaffolding.{refused_load}

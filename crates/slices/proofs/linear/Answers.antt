@@ -1,5 +1,4 @@
 use native.Mathlib.Omega.{arith}
-use lib.ListN.{length}
 use mathlib.Core.Bool.{true}
 use mathlib.Core.Path.{◌≡◌}
 use Rattle.answer.specs.Faults.{good}
@@ -8,7 +7,6 @@ use Rattle.orders.specs.Orders.{linear_front}
 use Rattle.slices.specs.LinearSlices.{linear_slice_fault, linear_slice, linear_sliced}
 use Rattle.slices.specs.Scaffolding.{Ready}
 use Rattle.slices.proofs.Sliced.{linear_ready, linear-first, or_kept, or_filled, on-axis, answer_refused, sliced}
-use borrow.Author.Rules.{rules}
 use Rattle.slices.proofs.linear.Goals as goal
 
 pub returns-then-fault-ne0 : goal.returns-then-fault-ne0

@@ -1,5 +1,4 @@
 use native.Mathlib.Omega.{arith}
-use lib.ListN.{length}
 use mathlib.Core.Bool.{true}
 use mathlib.Core.Path.{◌≡◌}
 use Rattle.answer.specs.Faults.{good}
@@ -8,7 +7,6 @@ use Rattle.orders.specs.Orders.{linear_uniform_front}
 use Rattle.slices.specs.LinearSlices.{linear_uniform_slice_fault, linear_uniform_slice, linear_uniform_sliced}
 use Rattle.slices.specs.Scaffolding.{Ready}
 use Rattle.slices.proofs.Sliced.{linear_ready, linear-first, uniform_linear, or_kept, or_filled, on-axis, answer_refused, sliced}
-use borrow.Author.Rules.{rules}
 use Rattle.slices.proofs.linear_uniform.Goals as goal
 
 pub returns-then-fault-ne0 : goal.returns-then-fault-ne0

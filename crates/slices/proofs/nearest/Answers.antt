@@ -1,13 +1,10 @@
 use native.Mathlib.Omega.{arith}
-use lib.ListN.{length}
-use mathlib.Core.Path.{◌≡◌}
 use Rattle.answer.proofs.Orders.{passes}
 use Rattle.orders.specs.Orders.{nearest_slice_fault}
 use Rattle.axis.proofs.picks.Picks.{is_nearest}
 use Rattle.slices.specs.Slices.{rule_slice, nearest_slice, nearest_sliced}
 use Rattle.slices.specs.Scaffolding.{Ready}
 use Rattle.slices.proofs.Sliced.{nearest_ready, or_kept, or_filled, at_index, answer_refused, sliced}
-use borrow.Author.Rules.{rules}
 use Rattle.slices.proofs.nearest.Goals as goal
 
 pub returns-then-fault-ne0 : goal.returns-then-fault-ne0

@@ -2,7 +2,6 @@ use mathlib.Core.Path.{ap₂}
 use Rattle.answer.specs.declared.Answer.{Answer}
 use Rattle.layout.specs.declared.Shape.{Shape}
 use Rattle.slices.specs.Scaffolding.{refused_slice}
-use borrow.Author.Rules.{rules}
 use Rattle.slices.proofs.refused_slice.Goals as goal
 
 pub returns : goal.returns

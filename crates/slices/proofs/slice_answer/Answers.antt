@@ -1,5 +1,4 @@
 use Rattle.slices.proofs.Sliced.{answer_refused, answer_made}
-use borrow.Author.Rules.{rules}
 use Rattle.slices.proofs.slice_answer.Goals as goal
 
 pub returns-then-fault-ne0 : goal.returns-then-fault-ne0

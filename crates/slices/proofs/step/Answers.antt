@@ -10,7 +10,6 @@ use Rattle.axis.proofs.picks.Picks.{is_step}
 use Rattle.slices.specs.Slices.{rule_slice, step_slice, step_sliced}
 use Rattle.slices.specs.Scaffolding.{Ready}
 use Rattle.slices.proofs.Sliced.{step_ready, step_lent, step_directions, or_kept, or_filled, at_index, answer_refused, sliced}
-use borrow.Author.Rules.{rules}
 use Rattle.slices.proofs.step.Goals as goal
 
 pub returns-then-fault-ne0 : goal.returns-then-fault-ne0

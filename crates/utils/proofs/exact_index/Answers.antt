@@ -3,7 +3,6 @@ use Rattle.answer.specs.declared.Answer.{Answer}
 use Rattle.rust.specs.declared.MaybeIndex.TheVariants.{None}
 use Rattle.utils.proofs.Primitives.{with_node, stops, goes_on}
 use Rattle.utils.specs.Calls.{exact_answer, exact_index}
-use borrow.Author.Rules.{rules}
 use Rattle.utils.proofs.exact_index.Goals as goal
 
 pub returns-then-fault-ne0 : goal.returns-then-fault-ne0

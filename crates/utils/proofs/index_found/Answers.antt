@@ -1,7 +1,6 @@
 use mathlib.Core.Path.{ap}
 use Rattle.answer.specs.declared.Answer.{Answer}
 use Rattle.utils.proofs.Primitives.{with_index}
-use borrow.Author.Rules.{rules}
 use Rattle.utils.proofs.index_found.Goals as goal
 
 pub returns : goal.returns

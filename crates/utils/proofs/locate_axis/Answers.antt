@@ -4,7 +4,6 @@ use Rattle.answer.specs.declared.Answer.{Answer}
 use Rattle.rust.specs.declared.AxisLocation.TheVariants.{Exact}
 use Rattle.utils.proofs.Primitives.{with_location, stops, goes_on, located, located_fault}
 use Rattle.utils.specs.Calls.{locate_fault, axis_answer, locate_axis}
-use borrow.Author.Rules.{rules}
 use Rattle.utils.proofs.locate_axis.Goals as goal
 
 pub returns-then-fault-ne0 : goal.returns-then-fault-ne0

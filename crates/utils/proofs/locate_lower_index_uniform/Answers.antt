@@ -1,6 +1,5 @@
 use Rattle.utils.proofs.Primitives.{with_index, stops, goes_on}
 use Rattle.utils.specs.Calls.{index_answer, locate_lower_index_uniform}
-use borrow.Author.Rules.{rules}
 use Rattle.utils.proofs.locate_lower_index_uniform.Goals as goal
 
 pub returns-then-fault-ne0 : goal.returns-then-fault-ne0

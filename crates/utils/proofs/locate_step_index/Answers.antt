@@ -1,7 +1,6 @@
 use Rattle.answer.proofs.Orders.{passes}
 use Rattle.utils.proofs.Primitives.{with_index, stops, goes_on, directed_step}
 use Rattle.utils.specs.Calls.{index_answer, locate_step_index}
-use borrow.Author.Rules.{rules}
 use Rattle.utils.proofs.locate_step_index.Goals as goal
 
 pub returns-then-fault-ne0 : goal.returns-then-fault-ne0

@@ -2,7 +2,6 @@ use mathlib.Core.Path.{ap}
 use Rattle.answer.specs.declared.Answer.{Answer}
 use Rattle.rust.specs.declared.AxisLocation.TheVariants.{Exact}
 use Rattle.utils.proofs.Primitives.{with_location}
-use borrow.Author.Rules.{rules}
 use Rattle.utils.proofs.location_refused.Goals as goal
 
 pub returns : goal.returns

@@ -1,8 +1,6 @@
-use mathlib.Core.Logic.{⊎_elim}
 use Prim.Native.Nat.{◌+◌, ◌-◌, ◌/◌}
 use native.Mathlib.Omega.{arith}
-use borrow.Author.Rules.{rules}
-use Rattle.axis.proofs.cells.Axes.{Bracket, bracket_start, bracket_up, bracket_down, lowest, highest, met_above, met_first, met_never}
+use Rattle.axis.proofs.cells.Axes.{bracket_start, bracket_up, bracket_down, lowest, highest, met_above, met_first, met_never}
 use Rattle.binary64.proofs.Order.{le_of_lt}
 use Rattle.utils.proofs.lower_index.Goals.{else-low-gt0-via-then-low-gt0+else-grid-low, else-low-gt0-via-else-low-gt0}
 use Rattle.utils.proofs.lower_index.Goals as goal
@@ -33,6 +31,6 @@ returns-else-low-gt0 c =
     let g = c.args.grid.now in
     let p = c.args.point in
     elim c.else-low-gt0.branch [
-      else-low-gt0-via-then-low-gt0+else-grid-low w ↦ met_never g p c.requires.axis c.requires.reading c.loop-low.low c.loop-low.high c.loop-low.invariant c.loop-low-test.false w.if-grid-low.false
+      | else-low-gt0-via-then-low-gt0+else-grid-low w ↦ met_never g p c.requires.axis c.requires.reading c.loop-low.low c.loop-low.high c.loop-low.invariant c.loop-low-test.false w.if-grid-low.false
       | else-low-gt0-via-else-low-gt0 w ↦ met_first g p c.requires.axis c.requires.reading c.loop-low.low c.loop-low.high c.loop-low.invariant c.loop-low-test.false w.if-low-gt0.false
     ]

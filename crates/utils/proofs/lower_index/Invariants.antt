@@ -1,9 +1,5 @@
-use mathlib.Core.Logic.{⊎_elim}
-use Prim.Native.Nat.{◌+◌, ◌-◌, ◌/◌}
-use native.Mathlib.Omega.{arith}
-use borrow.Author.Rules.{rules}
-use Rattle.axis.proofs.cells.Axes.{Bracket, bracket_start, bracket_up, bracket_down, lowest, highest, met_above, met_first, met_never}
-use Rattle.binary64.proofs.Order.{le_of_lt}
+use Prim.Native.Nat.{◌-◌}
+use Rattle.axis.proofs.cells.Axes.{Bracket}
 use Rattle.utils.proofs.lower_index.Given as goal
 
 abbrev pub invariant-loop-low : goal.invariant-loop-low

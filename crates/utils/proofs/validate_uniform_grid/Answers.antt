@@ -1,5 +1,4 @@
 use Rattle.utils.specs.Calls.{validate_uniform_grid}
-use borrow.Author.Rules.{rules}
 use Rattle.utils.proofs.validate_uniform_grid.Goals as goal
 
 pub returns : goal.returns

@@ -1,6 +1,5 @@
 use Rattle.answer.proofs.Answers.{then_stops, then_goes_on}
 use Rattle.utils.specs.Calls.{validate_uniform_grid_epsilon}
-use borrow.Author.Rules.{rules}
 use Rattle.utils.proofs.validate_uniform_grid_epsilon.Goals as goal
 
 pub returns-then-fault-ne0 : goal.returns-then-fault-ne0

@@ -3,9 +3,8 @@ use Rattle.checks.proofs.shapes.Frames.{shape_size, holds_nodes, holds_values}
 use Rattle.image.proofs.Floats.{total_small}
 use Rattle.writer.specs.Made.{image_length, values_at}
 use mathlib.Core.Path.{◌≡◌}
-use Prim.Native.Nat.{◌-◌, ◌≤◌}
+use Prim.Native.Nat.{◌≤◌}
 use native.Mathlib.Omega.{arith}
-use borrow.Author.Rules.{rules}
 use Rattle.writer.proofs.image_length.Goals as goal
 
 pub overflow_mul-result : goal.overflow_mul-result

@@ -1,9 +1,8 @@
 use Rattle.writer.specs.Made.{image_length, values_at}
 use Rattle.writer.proofs.Images.{parts-put}
-use Prim.Native.Nat.{◌+◌, ◌-◌, ◌*◌, ◌≤◌}
+use Prim.Native.Nat.{◌+◌, ◌*◌, ◌≤◌}
 use native.Mathlib.Omega.{arith}
 use lib.ListN.{length}
-use borrow.Author.Rules.{rules}
 use Rattle.writer.proofs.put_image.Goals as goal
 
 pub put_header-requires : goal.put_header-requires

@@ -1,5 +1,4 @@
 use mathlib.Core.Path.{ap}
-use borrow.Author.Rules.{rules}
 use Rattle.answer.specs.declared.Answer.{Answer}
 use Rattle.writer.specs.Scaffolding.{refused_write}
 use Rattle.writer.proofs.refused.Goals as goal

@@ -1,6 +1,5 @@
 use mathlib.Core.Path.{◌≡◌, ◌∙◌}
 use mathlib.Core.Bool.{true}
-use borrow.Author.Rules.{rules}
 use lib.ListN.{length}
 use Rattle.answer.specs.Faults.{good}
 use Rattle.answer.proofs.Orders.{passes}

@@ -6,9 +6,8 @@ use Rattle.checks.specs.Shapes.{shape_fault, frame_fault}
 use Rattle.checks.specs.Numbers.{room_fault}
 use Rattle.writer.specs.Write.{write_fault}
 use mathlib.Core.Path.{◌≡◌, ap, ◌∙◌}
-use Prim.Native.Nat.{ℕ, ◌-◌}
+use Prim.Native.Nat.{ℕ}
 use lib.ListN.{length}
-use borrow.Author.Rules.{rules}
 use Rattle.writer.proofs.write_fault.Goals as goal
 
 pub returns-then-fault-ne0 : goal.returns-then-fault-ne0

@@ -4,7 +4,6 @@ use Rattle.utils.specs.Calls.{index_of}
 use Rattle.board.specs.Plain.{found_of, plain_exact}
 use Rattle.board.specs.declared.plain.PlainExact.{PlainExact}
 use Rattle.answer.specs.declared.Answer.{Answer}
-use borrow.Author.Rules.{rules}
 use Rattle.board.proofs.plain.plain_exact.Goals as goal
 
 abbrev with_node : Answer → MaybeIndex → PlainExact

@@ -6,7 +6,6 @@ use Rattle.axis.specs.Locations.{location_index}
 use Rattle.utils.specs.Calls.{location_fraction}
 use Rattle.board.specs.Plain.{between_of, plain_location}
 use Rattle.board.specs.declared.plain.PlainLocation.{PlainLocation}
-use borrow.Author.Rules.{rules}
 use Rattle.board.proofs.plain.plain_location.Goals as goal
 
 abbrev with_location : Answer → AxisLocation → PlainLocation

@@ -1,6 +1,5 @@
 use mathlib.Core.Path.{ap, ◌∙◌}
 use Rattle.board.specs.Plain.{plain_exact}
-use borrow.Author.Rules.{rules}
 use Rattle.board.proofs.primitives.ng_exact_index.Goals as goal
 
 pub returns : goal.returns

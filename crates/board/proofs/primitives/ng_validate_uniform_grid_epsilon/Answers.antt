@@ -1,6 +1,5 @@
 use mathlib.Core.Path.{ap, ◌∙◌}
 use Rattle.utils.specs.Calls.{validate_uniform_grid_epsilon}
-use borrow.Author.Rules.{rules}
 use Rattle.board.proofs.primitives.ng_validate_uniform_grid_epsilon.Goals as goal
 
 pub returns : goal.returns

@@ -1,6 +1,5 @@
 use Rattle.image.proofs.Tests.{area_early, area_off, area_past, area_right}
 use mathlib.Core.Path.{◌∙◌}
-use borrow.Author.Rules.{rules}
 use Rattle.image.proofs.areas.area_fault.Goals as goal
 
 pub returns-then-offset-lt-HEADER : goal.returns-then-offset-lt-HEADER

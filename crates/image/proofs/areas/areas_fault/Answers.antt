@@ -1,6 +1,5 @@
 use mathlib.Core.Path.{sym, ◌∙◌}
 use native.Mathlib.Omega.{arith}
-use borrow.Author.Rules.{rules}
 use Rattle.answer.proofs.Orders.{first_begin}
 use Rattle.image.proofs.areas.areas_fault.Goals as goal
 

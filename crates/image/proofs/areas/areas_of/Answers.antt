@@ -1,7 +1,6 @@
 use mathlib.Core.Path.{◌∙◌}
 use Prim.Native.Nat.{ℕ, ◌<◌}
 use native.Mathlib.Omega.{arith}
-use borrow.Author.Rules.{rules}
 use Rattle.image.specs.Fields.{count_field, offset_field}
 use Rattle.image.specs.Scaffolding.{Number}
 use Rattle.image.proofs.Floats.{axes_four}

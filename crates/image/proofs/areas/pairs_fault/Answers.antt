@@ -1,12 +1,10 @@
 use mathlib.Core.Path.{◌≡◌, refl, sym, ap, ◌∙◌}
-use Prim.Native.Nat.{ℕ, ◌+◌, ◌-◌}
+use Prim.Native.Nat.{◌+◌, ◌-◌}
 use native.Mathlib.Omega.{arith}
-use borrow.Author.Rules.{rules}
 use Rattle.answer.specs.Faults.{first_fault}
 use Rattle.answer.specs.declared.Fault.{Fault}
 use Rattle.answer.proofs.Orders.{passes, fails, first_step, first_stop, first_end, first_begin}
 use Rattle.image.specs.Scaffolding.{asked_of}
-use Rattle.image.specs.declared.areas.Areas.{Areas}
 use Rattle.image.specs.declared.areas.Asked.TheVariants.{SharedWith}
 use Rattle.image.proofs.areas.pairs_fault.Invariants.{pairs}
 use Rattle.image.proofs.areas.pairs_fault.Goals as goal

@@ -1,6 +1,5 @@
 use mathlib.Core.Path.{◌≡◌, sym, ap, ap₂, ◌∙◌, subst}
 use native.Mathlib.Omega.{arith}
-use borrow.Author.Rules.{rules}
 use Rattle.checks.specs.Numbers.{area_fault, shared_fault}
 use Prim.Native.Nat.{ℕ, ◌*◌, ◌≤◌}
 use Rattle.image.specs.Scaffolding.{Bounded, WithOne, area_in, asked_of}

@@ -1,10 +1,6 @@
-use mathlib.Core.Path.{◌≡◌, refl, sym, ◌∙◌}
-use Prim.Native.Nat.{◌-◌}
+use mathlib.Core.Path.{refl, sym, ◌∙◌}
 use native.Mathlib.Omega.{arith}
-use borrow.Author.Rules.{rules}
-use Rattle.answer.specs.Faults.{first_fault}
 use Rattle.answer.proofs.Orders.{passes, fails, first_step, first_stop, first_end}
-use Rattle.image.specs.Scaffolding.{asked_of}
 use Rattle.image.proofs.areas.rows_fault.Goals as goal
 
 pub loop-k-init : goal.loop-k-init

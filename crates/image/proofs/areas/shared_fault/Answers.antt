@@ -1,7 +1,6 @@
 use Rattle.image.proofs.Sharing.{shared_met, shared_past}
 use mathlib.Core.Path.{◌∙◌}
 use mathlib.Core.Logic.{inl, inr}
-use borrow.Author.Rules.{rules}
 use Rattle.image.proofs.areas.shared_fault.Goals as goal
 
 pub returns-then-from-one : goal.returns-then-from-one

@@ -1,4 +1,3 @@
-use borrow.Author.Rules.{rules}
 use Rattle.image.proofs.Floats.{total_small, size_small}
 use Rattle.image.proofs.contents.contents_fault.Goals as goal
 

@@ -1,6 +1,5 @@
 use mathlib.Core.Path.{ap₂, ◌∙◌}
 use Prim.Native.Nat.{ℕ}
-use borrow.Author.Rules.{rules}
 use lib.Seq.{sets}
 use Rattle.image.specs.Image.{floats_at, values_in}
 use Rattle.image.proofs.contents.read.Goals as goal

@@ -1,11 +1,7 @@
-use lib.ListN.{length-set, length}
-use lib.Seq.{sets}
-use Rattle.image.specs.Image.{floats_at}
+use lib.ListN.{length-set}
 use Rattle.image.proofs.Floats.{read_start, read_step, read_end}
-use mathlib.Core.Path.{◌≡◌, refl, sym, ◌∙◌}
-use Prim.Native.Nat.{◌+◌, ◌-◌, ◌*◌, ◌≤◌}
+use mathlib.Core.Path.{refl, sym, ◌∙◌}
 use native.Mathlib.Omega.{arith}
-use borrow.Author.Rules.{rules}
 use Rattle.image.proofs.contents.read_floats.Goals as goal
 
 pub loop-i-init : goal.loop-i-init

@@ -1,11 +1,8 @@
-use lib.ListN.{length-set, length}
+use lib.ListN.{length}
 use lib.Seq.{sets}
 use Rattle.image.specs.Image.{floats_at}
-use Rattle.image.proofs.Floats.{read_start, read_step, read_end}
-use mathlib.Core.Path.{◌≡◌, refl, sym, ◌∙◌}
+use mathlib.Core.Path.{◌≡◌}
 use Prim.Native.Nat.{◌+◌, ◌-◌, ◌*◌, ◌≤◌}
-use native.Mathlib.Omega.{arith}
-use borrow.Author.Rules.{rules}
 use Rattle.image.proofs.contents.read_floats.Given as goal
 
 abbrev pub invariant-loop-i : goal.invariant-loop-i

@@ -1,6 +1,5 @@
 use mathlib.Core.Path.{◌≡◌, ap, ◌∙◌}
 use Prim.Native.Nat.{ℕ}
-use borrow.Author.Rules.{rules}
 use Rattle.answer.proofs.Orders.{or_stops, or_goes_on}
 use Rattle.layout.specs.Shape.{counts_of, total}
 use Rattle.checks.specs.Numbers.{room_fault}

@@ -1,4 +1,3 @@
-use borrow.Author.Rules.{rules}
 use Rattle.image.specs.Fields.{axes_field}
 use Rattle.image.proofs.fields.axes_of.Goals as goal
 

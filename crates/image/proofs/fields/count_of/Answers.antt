@@ -1,4 +1,3 @@
-use borrow.Author.Rules.{rules}
 use Rattle.image.specs.Fields.{count_field}
 use Rattle.image.proofs.fields.count_of.Goals as goal
 

@@ -2,7 +2,6 @@ use Rattle.little_endian.specs.Words.{word_at}
 use mathlib.Core.Path.{◌≡◌, ap, ◌∙◌, subst}
 use Prim.Native.Nat.{ℕ, ◌^◌, ◌<◌, min}
 use native.Mathlib.Omega.{arith}
-use borrow.Author.Rules.{rules}
 use Rattle.image.proofs.fields.field.Goals as goal
 
 pub returns : goal.returns

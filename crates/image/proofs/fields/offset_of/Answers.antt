@@ -1,4 +1,3 @@
-use borrow.Author.Rules.{rules}
 use Rattle.image.specs.Fields.{offset_field}
 use Rattle.image.proofs.fields.offset_of.Goals as goal
 

@@ -1,5 +1,4 @@
 use Rattle.image.proofs.Heads.{shape_same}
-use borrow.Author.Rules.{rules}
 use Rattle.image.proofs.fields.shape_of.Goals as goal
 
 pub returns : goal.returns

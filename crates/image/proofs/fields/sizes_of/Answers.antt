@@ -1,6 +1,5 @@
 use mathlib.Core.Path.{◌≡◌, ap, ◌∙◌}
 use native.Mathlib.Omega.{arith}
-use borrow.Author.Rules.{rules}
 use Rattle.checks.specs.Scaffolding.{sizes_of}
 use Rattle.checks.proofs.shapes.Frames.{shape_size, holds_nodes, holds_values}
 use Rattle.image.specs.Fields.{shape_of}

@@ -1,4 +1,3 @@
-use borrow.Author.Rules.{rules}
 use Rattle.image.specs.Fields.{values_field}
 use Rattle.image.proofs.fields.values_at.Goals as goal
 

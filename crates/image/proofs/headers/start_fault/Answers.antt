@@ -9,7 +9,6 @@ use mathlib.Core.Path.{◌≡◌, ap, ◌∙◌}
 use mathlib.Core.List.{List}
 use Prim.Native.Nat.{ℕ}
 use lib.ListN.{length}
-use borrow.Author.Rules.{rules}
 use Rattle.image.proofs.headers.start_fault.Goals as goal
 
 pub returns-then-fault-ne0 : goal.returns-then-fault-ne0

@@ -2,7 +2,6 @@ use Rattle.checks.specs.Numbers.{count_fault, field_fault}
 use Rattle.image.proofs.Tests.{count_used, count_unused}
 use mathlib.Core.Path.{ap, ◌∙◌}
 use native.Mathlib.Omega.{arith}
-use borrow.Author.Rules.{rules}
 use Rattle.image.proofs.rows.count_row.Goals as goal
 
 pub returns-then-a-axes_of : goal.returns-then-a-axes_of

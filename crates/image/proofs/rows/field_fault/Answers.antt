@@ -1,6 +1,5 @@
 use Rattle.image.proofs.Tests.{field_right, field_wrong}
 use mathlib.Core.Path.{◌∙◌}
-use borrow.Author.Rules.{rules}
 use Rattle.image.proofs.rows.field_fault.Goals as goal
 
 pub returns-then-x-wanted : goal.returns-then-x-wanted

@@ -1,5 +1,4 @@
 use mathlib.Core.Path.{ap, ◌∙◌}
-use borrow.Author.Rules.{rules}
 use Rattle.checks.specs.Numbers.{field_fault}
 use Rattle.image.specs.Head.{offset_row}
 use Rattle.image.proofs.rows.offset_row.Goals as goal

@@ -1,5 +1,4 @@
 use mathlib.Core.Path.{sym, ap, ◌∙◌}
-use borrow.Author.Rules.{rules}
 use Rattle.image.specs.Scaffolding.{row_of}
 use Rattle.image.specs.declared.rows.Rows.{Rows}
 use Rattle.image.proofs.rows.row_fault.Goals as goal

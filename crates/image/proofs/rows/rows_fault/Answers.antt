@@ -1,9 +1,5 @@
-use mathlib.Core.Path.{◌≡◌, refl, sym, ◌∙◌}
-use Prim.Native.Nat.{◌-◌}
-use borrow.Author.Rules.{rules}
-use Rattle.answer.specs.Faults.{first_fault}
+use mathlib.Core.Path.{refl, sym, ◌∙◌}
 use Rattle.answer.proofs.Orders.{passes, fails, first_step, first_stop, first_end}
-use Rattle.image.specs.Scaffolding.{row_of}
 use Rattle.image.proofs.rows.rows_fault.Goals as goal
 
 pub loop-a-init : goal.loop-a-init

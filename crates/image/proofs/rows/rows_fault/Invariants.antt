@@ -1,8 +1,6 @@
-use mathlib.Core.Path.{◌≡◌, refl, sym, ◌∙◌}
+use mathlib.Core.Path.{◌≡◌}
 use Prim.Native.Nat.{◌-◌}
-use borrow.Author.Rules.{rules}
 use Rattle.answer.specs.Faults.{first_fault}
-use Rattle.answer.proofs.Orders.{passes, fails, first_step, first_stop, first_end}
 use Rattle.image.specs.Scaffolding.{row_of}
 use Rattle.image.proofs.rows.rows_fault.Given as goal
 

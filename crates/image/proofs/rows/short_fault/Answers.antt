@@ -1,6 +1,5 @@
 use Rattle.image.proofs.Tests.{short_right, short_wrong}
 use mathlib.Core.Path.{◌∙◌}
-use borrow.Author.Rules.{rules}
 use Rattle.image.proofs.rows.short_fault.Goals as goal
 
 pub returns-then-len-lt-HEADER : goal.returns-then-len-lt-HEADER

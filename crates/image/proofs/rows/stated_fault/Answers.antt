@@ -1,6 +1,5 @@
 use Rattle.image.proofs.Tests.{stated_other, stated_short, stated_long, stated_right}
 use mathlib.Core.Path.{◌∙◌}
-use borrow.Author.Rules.{rules}
 use Rattle.image.proofs.rows.stated_fault.Goals as goal
 
 pub returns-then-stated-len : goal.returns-then-stated-len

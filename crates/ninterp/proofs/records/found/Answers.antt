@@ -1,6 +1,5 @@
 use mathlib.Core.Path.{◌∙◌}
 use Rattle.ninterp.proofs.KindOrder.{found_linear, found_pick}
-use borrow.Author.Rules.{rules}
 use Rattle.ninterp.proofs.records.found.Goals as goal
 
 pub interpolated-requires : goal.interpolated-requires

@@ -1,5 +1,4 @@
 use Rattle.ninterp.proofs.Wholes.{whole_none, whole_by}
-use borrow.Author.Rules.{rules}
 use Rattle.ninterp.proofs.records.is_whole.Goals as goal
 
 pub returns-then-len-eq0 : goal.returns-then-len-eq0

@@ -4,7 +4,6 @@ use borrow.Author.Tests.{lt-ltb, le-ltb}
 use Rattle.answer.specs.Faults.{when}
 use Rattle.answer.specs.declared.Fault.{Fault}
 use Rattle.answer.proofs.Orders.{or_stops, or_goes_on, row_stops, row_goes_on}
-use borrow.Author.Rules.{rules}
 use Rattle.ninterp.proofs.records.kind_fault.Goals as goal
 
 pub returns-then-table-ne0 : goal.returns-then-table-ne0

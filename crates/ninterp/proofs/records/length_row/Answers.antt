@@ -3,7 +3,6 @@ use native.Mathlib.Omega.{arith}
 use Rattle.answer.proofs.Orders.{passes, or_stops, or_goes_on}
 use Rattle.checks.proofs.shapes.Frames.{shape_four}
 use Rattle.checks.proofs.table.Grids.{frame_shape}
-use borrow.Author.Rules.{rules}
 use Rattle.ninterp.proofs.records.length_row.Goals as goal
 
 pub returns-then-fault-ne0 : goal.returns-then-fault-ne0

@@ -1,5 +1,4 @@
 use Rattle.ninterp.proofs.KindOrder.{kind_nearest, kind_step}
-use borrow.Author.Rules.{rules}
 use Rattle.ninterp.proofs.records.pick_of.Goals as goal
 
 pub returns-then-kind-eq2 : goal.returns-then-kind-eq2

@@ -1,9 +1,6 @@
-use mathlib.Core.Path.{◌≡◌}
-use lib.ListN.{length}
 use Rattle.answer.proofs.Orders.{passes}
 use Rattle.answer.proofs.Answers.{then_stops, then_goes_on}
 use Rattle.ninterp.proofs.KindOrder.{point_judged}
-use borrow.Author.Rules.{rules}
 use Rattle.ninterp.proofs.records.point_answer.Goals as goal
 
 pub returns-then-fault-ne0 : goal.returns-then-fault-ne0

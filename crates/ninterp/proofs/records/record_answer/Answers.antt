@@ -1,5 +1,4 @@
 use Rattle.ninterp.proofs.KindOrder.{record_refused, record_sized}
-use borrow.Author.Rules.{rules}
 use Rattle.ninterp.proofs.records.record_answer.Goals as goal
 
 pub returns-then-fault-ne0 : goal.returns-then-fault-ne0

@@ -2,7 +2,6 @@ use mathlib.Core.Path.{sym, ◌∙◌}
 use lib.Dec.{eqb}
 use borrow.Author.Tests.{eq-eqb, ne_eqb}
 use Rattle.answer.proofs.Orders.{when_true, when_false}
-use borrow.Author.Rules.{rules}
 use Rattle.ninterp.proofs.records.uniform_row.Goals as goal
 
 pub returns-then-kind-eq1 : goal.returns-then-kind-eq1

@@ -1,6 +1,5 @@
 use mathlib.Core.Path.{◌≡◌, sym, ap, ◌∙◌}
 use lib.ListN.{length, take}
-use Rattle.layout.proofs.Totals.{length_ids}
 use Rattle.ninterp.specs.Records.{record_readings}
 use Rattle.ninterp.proofs.KindOrder.{length_readings, read_four, read_enough, whole-refused, whole-table, whole_four, whole_found}
 use borrow.Author.Rules.{rules}

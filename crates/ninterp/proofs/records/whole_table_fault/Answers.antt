@@ -1,5 +1,4 @@
 use Rattle.answer.proofs.Orders.{or_stops, or_goes_on}
-use borrow.Author.Rules.{rules}
 use Rattle.ninterp.proofs.records.whole_table_fault.Goals as goal
 
 pub returns-then-fault-ne0 : goal.returns-then-fault-ne0

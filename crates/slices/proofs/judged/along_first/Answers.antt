@@ -12,7 +12,6 @@ use Rattle.axis.specs.Scaffolding.{location_by, upper_of}
 use Rattle.axis.proofs.Located.{location_fits, location_found_lem}
 use Rattle.slices.proofs.Slices.{some_at, axis_ends, axis_lies, part_axis, part_index}
 use Rattle.slices.proofs.Alongs.{node_runs, node_results, runs_beside, between_results}
-use borrow.Author.Rules.{rules}
 use Rattle.slices.proofs.judged.along_first.Goals as goal
 
 -- the first axis starts at the first node

@@ -1,7 +1,6 @@
 use Rattle.answer.proofs.Orders.{passes}
 use Rattle.slices.specs.LinearSlices.{linear_rest}
 use Rattle.slices.proofs.Sliced.{or_kept, or_filled, point_taken}
-use borrow.Author.Rules.{rules}
 use Rattle.slices.proofs.judged.linear_judged.Goals as goal
 
 pub returns-then-fault-ne0 : goal.returns-then-fault-ne0

@@ -2,7 +2,6 @@ use mathlib.Core.Path.{sym}
 use Rattle.answer.proofs.Orders.{passes}
 use Rattle.layout.proofs.Removals.{length_slice}
 use Rattle.slices.proofs.Sliced.{kept, written, point_taken}
-use borrow.Author.Rules.{rules}
 use Rattle.slices.proofs.judged.pick_judged.Goals as goal
 
 pub returns-then-fault-ne0 : goal.returns-then-fault-ne0

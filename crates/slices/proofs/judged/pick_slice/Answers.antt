@@ -7,7 +7,6 @@ use lib.Ieee.{Float}
 use Rattle.axis.specs.Scaffolding.{pick_index}
 use Rattle.axis.proofs.picks.Picks.{pick_found_lem, pick_fits}
 use Rattle.slices.proofs.Slices.{few_at, few_before, some_at, axis_ends, axis_lies, part_axis, part_index, runs_there, runs_written}
-use borrow.Author.Rules.{rules}
 use Rattle.slices.proofs.judged.pick_slice.Goals as goal
 
 pub bounds-counts-axis : goal.bounds-counts-axis

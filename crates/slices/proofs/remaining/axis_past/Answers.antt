@@ -1,5 +1,4 @@
 use borrow.Author.Tests.{lt-ltb, le-ltb}
-use borrow.Author.Rules.{rules}
 use Rattle.slices.proofs.remaining.axis_past.Goals as goal
 
 pub returns-then-a-axis : goal.returns-then-a-axis

@@ -1,6 +1,5 @@
 use Rattle.slices.proofs.Slices.{count_left, count_gone}
 use native.Mathlib.Omega.{arith}
-use borrow.Author.Rules.{rules}
 use Rattle.slices.proofs.remaining.count_without.Goals as goal
 
 pub bounds-counts-b : goal.bounds-counts-b

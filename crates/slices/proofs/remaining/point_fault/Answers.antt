@@ -6,7 +6,6 @@ use Rattle.checks.specs.Numbers.{range_fault, room_fault}
 use Rattle.layout.specs.Layout.{axis_of}
 use Rattle.orders.specs.Orders.{point_fault}
 use Rattle.slices.proofs.Slices.{few_before, some_at, axis_ends, axis_lies, slice_count}
-use borrow.Author.Rules.{rules}
 use Rattle.slices.proofs.remaining.point_fault.Goals as goal
 
 pub returns-then-fault-ne0 : goal.returns-then-fault-ne0

@@ -3,7 +3,6 @@ use Prim.Native.Nat.{ℕ, ◌-◌}
 use mathlib.Core.List.{[], ◌∷◌}
 use Rattle.layout.specs.declared.Shape.{Shape}
 use Rattle.slices.specs.Slices.{shape_without}
-use borrow.Author.Rules.{rules}
 use Rattle.slices.proofs.remaining.shape_without.Goals as goal
 
 four : (n : ℕ) (a b c d a' b' c' d' : ℕ) → a ≡ a' → b ≡ b' → c ≡ c' → d ≡ d' → ◌≡◌ {A = Shape} (record { axes = n; counts = a ∷ b ∷ c ∷ d ∷ [] }) (record { axes = n; counts = a' ∷ b' ∷ c' ∷ d' ∷ [] })

@@ -10,7 +10,6 @@ use Rattle.checks.specs.Numbers.{results_fault}
 use Rattle.slices.specs.Scaffolding.{blended_runs}
 use Rattle.slices.proofs.Sliced.{kept, written}
 use Rattle.slices.proofs.Alongs.{into_blends, length-blends}
-use borrow.Author.Rules.{rules}
 use Rattle.slices.proofs.written.blend_runs.Goals as goal
 
 -- a run of r values from place k on, as it is lent

@@ -1,6 +1,6 @@
 use mathlib.Core.Path.{◌≡◌, refl, ap, ap₂, ◌∙◌}
 use mathlib.Core.List.{List, ◌++◌}
-use Prim.Native.Nat.{ℕ, ◌-◌, ◌*◌, ◌%◌, ◌≤◌, ◌<◌}
+use Prim.Native.Nat.{ℕ, ◌-◌, ◌*◌, ◌≤◌, ◌<◌}
 use native.Mathlib.Nat.{mod-lt, mul-le-mul}
 use native.Mathlib.Omega.{arith}
 use lib.ListN.{length, drop, get_or, length-set, set}
@@ -8,8 +8,6 @@ use lib.Ieee.{Float, nan}
 use Rattle.layout.proofs.Layouts.{tabulate-step}
 use Rattle.slices.specs.Scaffolding.{run_place, run_values}
 use Rattle.slices.proofs.Slices.{next_j, next_place, first_j, first-place}
-use borrow.Author.Rules.{rules}
-use Rattle.slices.proofs.written.fill.Invariants.{Going}
 use Rattle.slices.proofs.written.fill.Goals as goal
 
 pub overflow_mul-skip : goal.overflow_mul-skip

@@ -1,14 +1,9 @@
-use mathlib.Core.Path.{◌≡◌, refl, ap, ap₂, ◌∙◌}
+use mathlib.Core.Path.{◌≡◌}
 use mathlib.Core.List.{List, ◌++◌}
-use Prim.Native.Nat.{ℕ, ◌-◌, ◌*◌, ◌%◌, ◌≤◌, ◌<◌}
-use native.Mathlib.Nat.{mod-lt, mul-le-mul}
-use native.Mathlib.Omega.{arith}
-use lib.ListN.{length, drop, get_or, length-set, set}
-use lib.Ieee.{Float, nan}
-use Rattle.layout.proofs.Layouts.{tabulate-step}
+use Prim.Native.Nat.{ℕ, ◌-◌, ◌%◌, ◌≤◌}
+use lib.ListN.{length, drop}
+use lib.Ieee.{Float}
 use Rattle.slices.specs.Scaffolding.{run_place, run_values}
-use Rattle.slices.proofs.Slices.{next_j, next_place, first_j, first-place}
-use borrow.Author.Rules.{rules}
 use Rattle.slices.proofs.written.fill.Given as goal
 
 -- t values are written, and the next one stands at `from`, which is place j of its run

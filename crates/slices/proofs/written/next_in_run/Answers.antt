@@ -1,5 +1,4 @@
 use borrow.Author.Tests.{eq-eqb, ne_eqb}
-use borrow.Author.Rules.{rules}
 use Rattle.slices.proofs.written.next_in_run.Goals as goal
 
 pub returns-then-j-inner : goal.returns-then-j-inner

@@ -1,6 +1,5 @@
 use Rattle.utils.proofs.front.Rows.{after}
 use Rattle.utils.specs.Calls.{axis_reading_fault}
-use borrow.Author.Rules.{rules}
 use Rattle.utils.proofs.front.axis_reading_fault.Goals as goal
 
 pub returns : goal.returns

@@ -1,6 +1,5 @@
 use mathlib.Core.Path.{sym, ◌∙◌}
 use Rattle.utils.proofs.front.Rows.{lent_wild, lent_out, lent_fine}
-use borrow.Author.Rules.{rules}
 use Rattle.utils.proofs.front.bound_fault.Goals as goal
 
 pub returns-then-out : goal.returns-then-out

@@ -1,7 +1,6 @@
 use Rattle.answer.proofs.Orders.{or_stops, or_goes_on}
 use Rattle.utils.proofs.front.Rows.{after}
 use Rattle.utils.specs.Calls.{directed_fault}
-use borrow.Author.Rules.{rules}
 use Rattle.utils.proofs.front.directed_fault.Goals as goal
 
 pub returns-then-fault-ne0 : goal.returns-then-fault-ne0

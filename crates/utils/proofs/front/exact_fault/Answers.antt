@@ -3,7 +3,6 @@ use Rattle.answer.proofs.Orders.{passes, or_stops, or_goes_on}
 use Rattle.checks.proofs.nodes.Rows.{axis_of_lem}
 use Rattle.utils.proofs.front.Rows.{after}
 use Rattle.utils.specs.Calls.{exact_fault}
-use borrow.Author.Rules.{rules}
 use Rattle.utils.proofs.front.exact_fault.Goals as goal
 
 pub returns-then-fault-ne0 : goal.returns-then-fault-ne0

@@ -1,6 +1,5 @@
 use mathlib.Core.Path.{ap, ◌∙◌}
 use Rattle.checks.specs.Numbers.{result_fault}
-use borrow.Author.Rules.{rules}
 use Rattle.utils.proofs.front.fraction_fault.Goals as goal
 
 pub returns : goal.returns

@@ -1,6 +1,5 @@
 use mathlib.Core.Path.{sym, ap, ◌∙◌}
 use Rattle.utils.specs.Calls.{lent_fault}
-use borrow.Author.Rules.{rules}
 use Rattle.utils.proofs.front.lent_fault.Goals as goal
 
 pub returns-in-Lent : goal.returns-in-Lent

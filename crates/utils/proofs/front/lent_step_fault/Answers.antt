@@ -1,6 +1,5 @@
 use lib.Ieee.{of_bits}
 use Rattle.checks.specs.Numbers.{lent_step_fault}
-use borrow.Author.Rules.{rules}
 use Rattle.utils.proofs.front.lent_step_fault.Goals as goal
 
 pub returns : goal.returns

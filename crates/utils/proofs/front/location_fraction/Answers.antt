@@ -1,7 +1,6 @@
 use mathlib.Core.Path.{sym, ap}
 use lib.Ieee.{of_bits}
 use Rattle.utils.specs.Calls.{location_fraction}
-use borrow.Author.Rules.{rules}
 use Rattle.utils.proofs.front.location_fraction.Goals as goal
 
 pub returns-in-Exact : goal.returns-in-Exact

@@ -1,6 +1,5 @@
 use mathlib.Core.Path.{◌∙◌}
 use Rattle.utils.proofs.front.Rows.{lower_in, lower_out}
-use borrow.Author.Rules.{rules}
 use Rattle.utils.proofs.front.lower_fault.Goals as goal
 
 pub returns-then-lower-grid : goal.returns-then-lower-grid

@@ -1,6 +1,5 @@
 use mathlib.Core.Path.{refl}
 use Rattle.answer.proofs.Orders.{or_stops, or_goes_on}
-use borrow.Author.Rules.{rules}
 use Rattle.utils.proofs.front.reading_after.Goals as goal
 
 pub returns-then-fault-ne0 : goal.returns-then-fault-ne0

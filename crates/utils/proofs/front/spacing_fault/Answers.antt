@@ -2,7 +2,6 @@ use mathlib.Core.Path.{ap, ◌∙◌}
 use Rattle.answer.proofs.Orders.{or_stops, or_goes_on}
 use Rattle.checks.specs.Numbers.{uniform_fault}
 use Rattle.utils.specs.Calls.{spacing_fault}
-use borrow.Author.Rules.{rules}
 use Rattle.utils.proofs.front.spacing_fault.Goals as goal
 
 pub returns-then-fault-ne0 : goal.returns-then-fault-ne0

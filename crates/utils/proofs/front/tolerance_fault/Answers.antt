@@ -1,6 +1,5 @@
 use lib.Ieee.{of_bits}
 use Rattle.checks.specs.Numbers.{tolerance_fault}
-use borrow.Author.Rules.{rules}
 use Rattle.utils.proofs.front.tolerance_fault.Goals as goal
 
 pub returns : goal.returns

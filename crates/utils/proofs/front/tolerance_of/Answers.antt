@@ -1,6 +1,5 @@
 use mathlib.Core.Path.{sym, ap, ◌∙◌}
 use Rattle.utils.specs.Calls.{tolerance_of}
-use borrow.Author.Rules.{rules}
 use Rattle.utils.proofs.front.tolerance_of.Goals as goal
 
 pub returns-in-Lent : goal.returns-in-Lent

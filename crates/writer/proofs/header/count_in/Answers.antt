@@ -1,7 +1,6 @@
 use Rattle.writer.proofs.Headers.{count_used, count_unused}
 use mathlib.Core.Path.{refl}
 use native.Mathlib.Omega.{arith}
-use borrow.Author.Rules.{rules}
 use Rattle.writer.proofs.header.count_in.Goals as goal
 
 pub returns-then-axis-shape : goal.returns-then-axis-shape

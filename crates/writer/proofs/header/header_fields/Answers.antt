@@ -2,9 +2,8 @@ use Rattle.layout.specs.Shape.{counts_of, size}
 use Rattle.checks.proofs.shapes.Frames.{shape_size, holds_values}
 use Rattle.writer.proofs.Headers.{fields_made}
 use mathlib.Core.Path.{◌≡◌, refl}
-use Prim.Native.Nat.{◌-◌, ◌≤◌}
+use Prim.Native.Nat.{◌≤◌}
 use native.Mathlib.Omega.{arith}
-use borrow.Author.Rules.{rules}
 use Rattle.writer.proofs.header.header_fields.Goals as goal
 
 pub overflow_mul-length : goal.overflow_mul-length

@@ -1,12 +1,8 @@
-use lib.Seq.{sets}
-use Rattle.writer.specs.Made.{field_bytes}
-use Rattle.writer.specs.Scaffolding.{sum, pairs}
 use Rattle.writer.proofs.Puts.{sum_more, fields_step, fields_end}
-use mathlib.Core.Path.{◌≡◌, refl, sym, ◌∙◌}
-use Prim.Native.Nat.{◌+◌, ◌-◌, ◌≤◌}
+use mathlib.Core.Path.{refl, sym, ◌∙◌}
+use Prim.Native.Nat.{◌+◌, ◌≤◌}
 use native.Mathlib.Omega.{arith}
-use lib.ListN.{length, drop, get_or}
-use borrow.Author.Rules.{rules}
+use lib.ListN.{length, get_or}
 use Rattle.writer.proofs.header.put_fields.Goals as goal
 
 pub loop-k-init : goal.loop-k-init

@@ -1,12 +1,9 @@
 use lib.Seq.{sets}
 use Rattle.writer.specs.Made.{field_bytes}
 use Rattle.writer.specs.Scaffolding.{sum, pairs}
-use Rattle.writer.proofs.Puts.{sum_more, fields_step, fields_end}
-use mathlib.Core.Path.{◌≡◌, refl, sym, ◌∙◌}
+use mathlib.Core.Path.{◌≡◌}
 use Prim.Native.Nat.{◌+◌, ◌-◌, ◌≤◌}
-use native.Mathlib.Omega.{arith}
-use lib.ListN.{length, drop, get_or}
-use borrow.Author.Rules.{rules}
+use lib.ListN.{length, drop}
 use Rattle.writer.proofs.header.put_fields.Given as goal
 
 abbrev pub invariant-loop-k : goal.invariant-loop-k

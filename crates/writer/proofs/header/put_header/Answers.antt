@@ -2,8 +2,7 @@ use lib.Seq.{sets}
 use Rattle.writer.specs.Made.{field_bytes}
 use mathlib.Core.Path.{sym, ap, ◌∙◌}
 use mathlib.Core.List.{List}
-use Prim.Native.Nat.{ℕ, ◌-◌}
-use borrow.Author.Rules.{rules}
+use Prim.Native.Nat.{ℕ}
 use Rattle.writer.proofs.header.put_header.Goals as goal
 
 pub header_fields-fields-requires : goal.header_fields-fields-requires

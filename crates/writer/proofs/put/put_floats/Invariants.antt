@@ -1,12 +1,8 @@
-use native.Mathlib.Nat.{add-zero}
 use lib.Seq.{sets}
 use Rattle.writer.specs.Made.{float_bytes}
-use Rattle.writer.proofs.Puts.{floats_step, floats_end}
-use mathlib.Core.Path.{◌≡◌, refl, sym, ap, ◌∙◌}
-use Prim.Native.Nat.{ℕ, ◌+◌, ◌-◌, ◌*◌, ◌≤◌}
-use native.Mathlib.Omega.{arith}
+use mathlib.Core.Path.{◌≡◌}
+use Prim.Native.Nat.{◌+◌, ◌-◌, ◌*◌, ◌≤◌}
 use lib.ListN.{length, drop}
-use borrow.Author.Rules.{rules}
 use Rattle.writer.proofs.put.put_floats.Given as goal
 
 abbrev pub invariant-loop-i : goal.invariant-loop-i

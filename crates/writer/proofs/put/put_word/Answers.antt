@@ -1,12 +1,7 @@
 use lib.ListN.{length-set}
-use lib.Seq.{sets}
-use Rattle.little_endian.specs.Words.{to_bytes}
 use Rattle.writer.proofs.Puts.{put_start, put_step, put_end_lem}
-use mathlib.Core.Path.{◌≡◌, refl, sym, ◌∙◌}
-use Prim.Native.Nat.{◌+◌, ◌-◌, ◌≤◌}
+use mathlib.Core.Path.{refl, sym, ◌∙◌}
 use native.Mathlib.Omega.{arith}
-use lib.ListN.{length}
-use borrow.Author.Rules.{rules}
 use Rattle.writer.proofs.put.put_word.Goals as goal
 
 pub loop-i-init : goal.loop-i-init

@@ -1,12 +1,8 @@
-use lib.ListN.{length-set}
 use lib.Seq.{sets}
 use Rattle.little_endian.specs.Words.{to_bytes}
-use Rattle.writer.proofs.Puts.{put_start, put_step, put_end_lem}
-use mathlib.Core.Path.{◌≡◌, refl, sym, ◌∙◌}
+use mathlib.Core.Path.{◌≡◌}
 use Prim.Native.Nat.{◌+◌, ◌-◌, ◌≤◌}
-use native.Mathlib.Omega.{arith}
 use lib.ListN.{length}
-use borrow.Author.Rules.{rules}
 use Rattle.writer.proofs.put.put_word.Given as goal
 
 abbrev pub invariant-loop-i : goal.invariant-loop-i

@@ -5,7 +5,6 @@ use lib.ListN.{length}
 use Rattle.ninterp.specs.Records.{record_size}
 use Rattle.ninterp.proofs.Wholes.{whole_there, whole_missing}
 use Rattle.ninterp.proofs.RecordLines.{block_none}
-use borrow.Author.Rules.{rules}
 use Rattle.ninterp.proofs.records.block.answer_block.Goals as goal
 
 pub returns-then-not-is_whole : goal.returns-then-not-is_whole

@@ -1,9 +1,6 @@
 use Prim.Native.Nat.{◌-◌}
-use native.Mathlib.Omega.{arith}
-use Rattle.lines.proofs.Blocks.{Going, go_start}
+use Rattle.lines.proofs.Blocks.{Going}
 use Rattle.ninterp.specs.Records.{record_rule}
-use Rattle.ninterp.proofs.RecordLines.{record_there, block_turn, block_most, block_short, block_full}
-use borrow.Author.Rules.{rules}
 use Rattle.ninterp.proofs.records.block.answer_records.Given as goal
 
 abbrev pub invariant-loop-count : goal.invariant-loop-count

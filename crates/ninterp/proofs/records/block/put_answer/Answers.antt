@@ -1,5 +1,4 @@
 use Rattle.ninterp.proofs.RecordLines.{record_wrote}
-use borrow.Author.Rules.{rules}
 use Rattle.ninterp.proofs.records.block.put_answer.Goals as goal
 
 pub returns : goal.returns

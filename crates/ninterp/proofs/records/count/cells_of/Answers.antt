@@ -1,8 +1,7 @@
-use Prim.Native.Nat.{◌+◌, ◌-◌, ◌≤◌}
+use Prim.Native.Nat.{◌+◌, ◌≤◌}
 use native.Mathlib.Omega.{arith}
 use lib.ListN.{length, get_or}
-use borrow.Author.Rules.{rules}
-use Rattle.ninterp.proofs.CountCells.{Finding, find_begin, find_within, find_again, find_done}
+use Rattle.ninterp.proofs.CountCells.{find_begin, find_within, find_again, find_done}
 use Rattle.ninterp.proofs.records.count.cells_of.Goals as goal
 
 pub loop-a-init : goal.loop-a-init

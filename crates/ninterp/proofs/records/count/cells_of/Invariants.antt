@@ -1,8 +1,5 @@
-use Prim.Native.Nat.{◌+◌, ◌-◌, ◌≤◌}
-use native.Mathlib.Omega.{arith}
-use lib.ListN.{length, get_or}
-use borrow.Author.Rules.{rules}
-use Rattle.ninterp.proofs.CountCells.{Finding, find_begin, find_within, find_again, find_done}
+use Prim.Native.Nat.{◌-◌}
+use Rattle.ninterp.proofs.CountCells.{Finding}
 use Rattle.ninterp.proofs.records.count.cells_of.Given as goal
 
 abbrev pub invariant-loop-a : goal.invariant-loop-a

@@ -1,9 +1,5 @@
-use native.Mathlib.Omega.{arith}
-use Prim.Native.Nat.{◌≤◌}
 use lib.ListN.{length}
-use borrow.Author.Rules.{rules}
-use Rattle.ninterp.specs.Records.{record_size}
-use Rattle.ninterp.proofs.Wholes.{whole_there, whole_missing}
+use Rattle.ninterp.proofs.Wholes.{whole_missing}
 use Rattle.ninterp.proofs.CountBlocks.{counting_none}
 use Rattle.ninterp.proofs.records.count.count_block.Goals as goal
 

@@ -1,11 +1,7 @@
-use Prim.Native.Nat.{◌-◌, ◌≤◌}
-use native.Mathlib.Omega.{arith}
+use Prim.Native.Nat.{◌-◌}
 use lib.ListN.{length}
-use borrow.Author.Tests.{leb-true, leb-false}
-use borrow.Author.Rules.{rules}
 use Rattle.tally.specs.Scaffolding.{tally_of}
-use Rattle.ninterp.proofs.RecordLines.{record_there}
-use Rattle.ninterp.proofs.CountBlocks.{Counting, counting_begin, counting_again, counting_most, counting_short}
+use Rattle.ninterp.proofs.CountBlocks.{Counting}
 use Rattle.ninterp.proofs.records.count.count_records.Given as goal
 
 abbrev pub invariant-loop-read : goal.invariant-loop-read

@@ -1,5 +1,4 @@
 use mathlib.Core.Path.{ap, ◌∙◌}
-use borrow.Author.Rules.{rules}
 use Rattle.answer.specs.declared.Answer.{Answer}
 use Rattle.tally.specs.Tally.{counted_of}
 use Rattle.ninterp.specs.Counting.{counted_record}

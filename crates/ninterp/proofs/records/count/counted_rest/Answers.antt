@@ -1,5 +1,4 @@
 use mathlib.Core.Path.{◌∙◌}
-use borrow.Author.Rules.{rules}
 use Rattle.ninterp.proofs.CountEnds.{rest_none, rest_some}
 use Rattle.ninterp.proofs.records.count.counted_rest.Goals as goal
 

@@ -6,7 +6,6 @@ use native.Mathlib.Omega.{arith}
 use lib.Ieee.{nan}
 use lib.ListN.{length, take, drop, get_or, length-take, length-drop}
 use Rattle.layout.specs.Shape.{size}
-use Rattle.layout.proofs.Totals.{length_ids}
 use Rattle.layout.specs.Layout.{table}
 use Rattle.blend.specs.Blend.{computed}
 use Rattle.rust.specs.Scaffolding.{diffs}
@@ -38,7 +37,7 @@ gather-vals-requires c =
     let u : 2 ^ many ≤ 2 ^ 3 = pow-le-pow_right (omega arith) {i = many} {j = 3} short in
     let eight : c.rest_places-rest.result.count ≤ 8 = omega (arith, c.rest_places-rest.ensures.corners, u) in
     let under : (node i : ℕ) → node ≤ upper_of first → i < c.rest_places-rest.result.count → get_or c.rest_places-rest.new.places i 0 + node * size (drop 1 (take n counts)) < length values
-        = λ node i l b. omega (arith, corner_under ls counts n c.requires.some long_l long_c c.requires.within _ refl node _ _ i l (c.rest_places-rest.ensures.each i (omega (arith, c.rest_places-rest.ensures.corners, b))) refl, c.requires.stored) in
+    = λ node i l b. omega (arith, corner_under ls counts n c.requires.some long_l long_c c.requires.within _ refl node _ _ i l (c.rest_places-rest.ensures.each i (omega (arith, c.rest_places-rest.ensures.corners, b))) refl, c.requires.stored) in
     record {
       few = omega (arith, eight);
       there = omega (arith, eight, c.rest_places-rest.auto.places);
@@ -58,7 +57,7 @@ returns c =
     let first : AxisLocation = get_or ls 0 (Exact 0) in
     let many : ℕ = length (diffs (drop 1 (take n ls))) in
     let stored : (node i : ℕ) → i < 2 ^ many → get_or values (get_or c.rest_places-rest.new.places i 0 + node * size (drop 1 (take n counts))) nan ≡ table (take n counts) values (node ∷ corner_at (drop 1 (take n ls)) i)
-        = λ node i b. at-node ls counts n c.requires.some long_l long_c c.requires.within _ refl values node _ _ i (c.rest_places-rest.ensures.each i b) refl in
+    = λ node i b. at-node ls counts n c.requires.some long_l long_c c.requires.within _ refl values node _ _ i (c.rest_places-rest.ensures.each i b) refl in
     c.fold_answer.ensures
     ∙ ap computed
     (folded ls counts n c.requires.some long_l long_c c.requires.within _ refl values c.gather-vals.result (λ i b.

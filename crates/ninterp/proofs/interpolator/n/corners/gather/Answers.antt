@@ -1,10 +1,9 @@
-use mathlib.Core.Path.{◌≡◌, refl, ◌∙◌}
-use Prim.Native.Nat.{ℕ, ◌+◌, ◌-◌, ◌≤◌, ◌<◌}
+use mathlib.Core.Path.{refl, ◌∙◌}
+use Prim.Native.Nat.{◌+◌}
 use native.Mathlib.Omega.{arith}
-use lib.ListN.{length, get_or, set, length-set}
+use lib.ListN.{get_or, set, length-set}
 use lib.Ieee.{nan}
 use Rattle.ninterp.proofs.Corners.{put_both}
-use borrow.Author.Rules.{rules}
 use Rattle.ninterp.proofs.interpolator.n.corners.gather.Goals as goal
 
 pub loop-i-init : goal.loop-i-init

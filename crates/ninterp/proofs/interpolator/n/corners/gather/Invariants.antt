@@ -1,10 +1,7 @@
-use mathlib.Core.Path.{◌≡◌, refl, ◌∙◌}
+use mathlib.Core.Path.{◌≡◌}
 use Prim.Native.Nat.{ℕ, ◌+◌, ◌-◌, ◌≤◌, ◌<◌}
-use native.Mathlib.Omega.{arith}
-use lib.ListN.{length, get_or, set, length-set}
+use lib.ListN.{length, get_or}
 use lib.Ieee.{nan}
-use Rattle.ninterp.proofs.Corners.{put_both}
-use borrow.Author.Rules.{rules}
 use Rattle.ninterp.proofs.interpolator.n.corners.gather.Given as goal
 
 abbrev pub invariant-loop-i : goal.invariant-loop-i

@@ -1,8 +1,7 @@
 use mathlib.Core.Path.{refl}
-use Prim.Native.Nat.{◌-◌, ◌≤◌}
 use native.Mathlib.Omega.{arith}
-use Rattle.ninterp.proofs.Corners.{Spreaded, spread_turn}
-use borrow.Author.Rules.{rules, Below-set}
+use Rattle.ninterp.proofs.Corners.{spread_turn}
+use borrow.Author.Rules.{Below-set}
 use Rattle.ninterp.proofs.interpolator.n.corners.spread.Goals as goal
 
 pub loop-i-init : goal.loop-i-init

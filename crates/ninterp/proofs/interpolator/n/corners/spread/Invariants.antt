@@ -1,8 +1,5 @@
-use mathlib.Core.Path.{refl}
 use Prim.Native.Nat.{◌-◌, ◌≤◌}
-use native.Mathlib.Omega.{arith}
-use Rattle.ninterp.proofs.Corners.{Spreaded, spread_turn}
-use borrow.Author.Rules.{rules, Below-set}
+use Rattle.ninterp.proofs.Corners.{Spreaded}
 use Rattle.ninterp.proofs.interpolator.n.corners.spread.Given as goal
 
 abbrev pub invariant-loop-i : goal.invariant-loop-i

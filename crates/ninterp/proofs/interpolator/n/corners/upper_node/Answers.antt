@@ -1,7 +1,6 @@
 use Rattle.axis.specs.Scaffolding.{upper_of}
 use mathlib.Core.Path.{sym, ap}
 use native.Mathlib.Omega.{arith}
-use borrow.Author.Rules.{rules}
 use Rattle.ninterp.proofs.interpolator.n.corners.upper_node.Goals as goal
 
 pub overflow_add-result : goal.overflow_add-result

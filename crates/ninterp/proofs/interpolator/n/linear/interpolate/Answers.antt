@@ -3,9 +3,6 @@ use Rattle.answer.proofs.Answers.{then_stops, then_goes_on}
 use Rattle.ninterp.specs.Linears.{linear_answer}
 use Rattle.ninterp.specs.Scaffolding.{LookupJudged}
 use Rattle.ninterp.proofs.Lookups.{lookup_judged_lem}
-use mathlib.Core.Path.{◌≡◌}
-use lib.ListN.{length}
-use borrow.Author.Rules.{rules}
 use Rattle.ninterp.proofs.interpolator.n.linear.interpolate.Goals as goal
 
 pub returns-then-fault-ne0 : goal.returns-then-fault-ne0

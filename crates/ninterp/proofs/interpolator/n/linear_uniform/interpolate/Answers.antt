@@ -3,9 +3,6 @@ use Rattle.answer.proofs.Answers.{then_stops, then_goes_on}
 use Rattle.ninterp.specs.Linears.{linear_uniform_answer}
 use Rattle.ninterp.specs.Scaffolding.{LookupJudged}
 use Rattle.ninterp.proofs.Lookups.{linear_uniform_judged}
-use mathlib.Core.Path.{◌≡◌}
-use lib.ListN.{length}
-use borrow.Author.Rules.{rules}
 use Rattle.ninterp.proofs.interpolator.n.linear_uniform.interpolate.Goals as goal
 
 pub returns-then-fault-ne0 : goal.returns-then-fault-ne0

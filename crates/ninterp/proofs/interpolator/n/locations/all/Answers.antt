@@ -1,8 +1,7 @@
 use lib.ListN.{length-set, length, take, get_or}
 use lib.Seq.{length-take-le}
 use Rattle.layout.specs.Layout.{axes_of, tabulate}
-use Rattle.layout.proofs.Totals.{length_ids}
-use Rattle.layout.proofs.Walks.{length-axes, Walk}
+use Rattle.layout.proofs.Walks.{length-axes}
 use Rattle.rust.specs.declared.AxisLocation.TheVariants.{Exact}
 use Rattle.ninterp.specs.Linears.{locations}
 use Rattle.axis.specs.Scaffolding.{location_by}
@@ -13,7 +12,7 @@ use Rattle.ninterp.proofs.Located.{take_filled, locations_within}
 use Rattle.axis.proofs.Located.{location_fits, location_found_lem}
 use mathlib.Core.Path.{◌≡◌, refl, sym, ap, ◌∙◌, subst}
 use mathlib.Core.List.{List, []}
-use Prim.Native.Nat.{ℕ, ◌-◌, ◌≤◌, ◌<◌}
+use Prim.Native.Nat.{ℕ, ◌≤◌}
 use native.Mathlib.Omega.{arith}
 use lib.Ieee.{nan}
 use borrow.Author.Rules.{rules}

@@ -1,22 +1,12 @@
-use lib.ListN.{length-set, length, take, get_or}
-use lib.Seq.{length-take-le}
-use Rattle.layout.specs.Layout.{axes_of, tabulate}
-use Rattle.layout.proofs.Totals.{length_ids}
-use Rattle.layout.proofs.Walks.{length-axes, Walk}
+use lib.ListN.{length, take, get_or}
+use Rattle.layout.specs.Layout.{axes_of}
+use Rattle.layout.proofs.Walks.{Walk}
 use Rattle.rust.specs.declared.AxisLocation.TheVariants.{Exact}
-use Rattle.ninterp.specs.Linears.{locations}
 use Rattle.axis.specs.Scaffolding.{location_by}
-use Rattle.ninterp.specs.Scaffolding.{AllWithin}
-use Rattle.ninterp.proofs.Picks.{axis_within, axis_read, axis-good, axis-next}
-use Rattle.ninterp.proofs.Corners.{put_step}
-use Rattle.ninterp.proofs.Located.{take_filled, locations_within}
-use Rattle.axis.proofs.Located.{location_fits, location_found_lem}
-use mathlib.Core.Path.{◌≡◌, refl, sym, ap, ◌∙◌, subst}
-use mathlib.Core.List.{List, []}
+use mathlib.Core.Path.{◌≡◌}
+use mathlib.Core.List.{[]}
 use Prim.Native.Nat.{ℕ, ◌-◌, ◌≤◌, ◌<◌}
-use native.Mathlib.Omega.{arith}
 use lib.Ieee.{nan}
-use borrow.Author.Rules.{rules}
 use Rattle.ninterp.proofs.interpolator.n.locations.all.Given as goal
 
 abbrev pub invariant-loop-a : goal.invariant-loop-a

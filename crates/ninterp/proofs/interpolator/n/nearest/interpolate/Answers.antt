@@ -1,6 +1,5 @@
-use mathlib.Core.Path.{◌≡◌, ap, ◌∙◌}
+use mathlib.Core.Path.{ap, ◌∙◌}
 use native.Mathlib.Omega.{arith}
-use lib.ListN.{length}
 use Rattle.answer.specs.Answer.{answered}
 use Rattle.answer.proofs.Orders.{passes}
 use Rattle.answer.proofs.Answers.{then_stops, then_goes_on}
@@ -8,7 +7,6 @@ use Rattle.layout.specs.Shape.{counts_of}
 use Rattle.ninterp.specs.Tables.{nearest_answer}
 use Rattle.ninterp.specs.Scaffolding.{LookupJudged, four_of}
 use Rattle.ninterp.proofs.Lookups.{lookup_judged_lem, four_at_lem, picks_nearest}
-use borrow.Author.Rules.{rules}
 use Rattle.ninterp.proofs.interpolator.n.nearest.interpolate.Goals as goal
 
 pub returns-then-fault-ne0 : goal.returns-then-fault-ne0

@@ -1,16 +1,10 @@
 use mathlib.Core.Path.{◌≡◌, refl}
-use Prim.Native.Nat.{ℕ, ◌+◌, ◌-◌, ◌*◌, ◌≤◌}
+use Prim.Native.Nat.{ℕ, ◌≤◌}
 use native.Mathlib.Omega.{arith}
-use lib.ListN.{length, take, drop}
+use lib.ListN.{length}
 use borrow.Author.Rules.{rules}
 use mathlib.Core.List.{List}
-use Rattle.layout.specs.Shape.{size}
-use Rattle.layout.specs.Layout.{axes_of, place}
-use Rattle.layout.proofs.Totals.{length_ids}
-use Rattle.layout.proofs.Walks.{Walk}
 use Rattle.layout.proofs.Layouts.{place_start}
-use Rattle.ninterp.specs.Tables.{indices}
-use Rattle.axis.specs.Scaffolding.{pick_rule}
 use Rattle.ninterp.proofs.Picks.{axis_within, axis-next, flat_next, flat_fits, flat_done}
 use Rattle.ninterp.proofs.interpolator.n.pick.pick_place.Goals as goal
 

@@ -4,7 +4,6 @@ use Rattle.answer.specs.Answer.{answered}
 use Rattle.layout.specs.Shape.{counts_of}
 use Rattle.axis.specs.Scaffolding.{pick_rule}
 use Rattle.ninterp.proofs.Lookups.{stored_at}
-use borrow.Author.Rules.{rules}
 use Rattle.ninterp.proofs.interpolator.n.pick.stored.Goals as goal
 
 pub pick_place-at-requires : goal.pick_place-at-requires

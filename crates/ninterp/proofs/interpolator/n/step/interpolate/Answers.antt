@@ -11,7 +11,6 @@ use Rattle.ninterp.specs.Tables.{step_answer}
 use Rattle.ninterp.specs.Scaffolding.{LookupJudged}
 use Rattle.ninterp.proofs.Lookups.{step_judged, step_lent, step_directions, picks_step}
 use mathlib.Core.Bool.{true}
-use borrow.Author.Rules.{rules}
 use Rattle.ninterp.proofs.interpolator.n.step.interpolate.Goals as goal
 
 pub returns-then-fault-ne0 : goal.returns-then-fault-ne0

@@ -1,6 +1,5 @@
-// The public side: every call that a board or a bench makes, and nothing else. Each is one line over the judged call of a room below (three
-// where a tally is lent), under the same equation, and is exported to C (include/ngamsothul.h): `&[f64]` is a pointer and a length, a
-// struct stands by value, a lent tally is a pointer.
+// The public side: every call that a board or a bench makes, and nothing else. Each is one line over the judged call of a room below,
+// under the same equation. The room board_c exports them to C (include/ngamsothul.h).
 #![tactic(auto)]
 
 // the seven axis primitives

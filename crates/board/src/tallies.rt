@@ -7,7 +7,7 @@ use layout::Shape;
 use ninterp::records::count;
 use tally::Tally;
 
-// Counts a record in a tally that its owner lends: one thin function over the by-value step.
+// Counts a record in a tally that its owner lends.
 pub fn ng_count_record(
     tally: &mut Tally,
     shape: Shape,
@@ -19,7 +19,5 @@ pub fn ng_count_record(
     ensures tally_after { tally.new
         ≡ (counted_record tally.old shape nodes.now values.now rec.now).tally }
 {
-    let counted = count::counted_record(*tally, shape, nodes, values, rec);
-    *tally = counted.tally;
-    counted.answer
+    count::count_record(tally, shape, nodes, values, rec)
 }

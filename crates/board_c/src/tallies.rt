@@ -7,7 +7,7 @@ use board::tallies;
 use layout::Shape;
 use tally::Tally;
 
-// Counts a record in a tally that its owner lends: one thin function over the by-value step.
+// Counts a record in a tally that its owner lends.
 #[unsafe(no_mangle)]
 pub extern "C" fn ng_count_record(
     tally: &mut Tally,

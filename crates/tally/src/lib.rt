@@ -109,7 +109,7 @@ pub fn none_read() -> Tally
 }
 
 // What counting a record answers, where so many were read already.
-fn limit_answer(read: u32) -> Answer
+pub fn limit_answer(read: u32) -> Answer
     ensures { result ≡ (limit_fault read then fine) }
 {
     let fault = lent::limit_fault(read);

@@ -9,7 +9,7 @@ ghost use Rattle.ninterp.specs.Counting.{outcome_of, counted_record, block_tally
 ghost use Rattle.ninterp.specs.Scaffolding.{FlatTable, Known};
 
 use crate::records;
-use answer::Fault;
+use answer::{Answer, Fault};
 use axis::cells;
 use checks::{lent, table};
 use layout::Shape;
@@ -78,6 +78,25 @@ pub fn counted_record(
     let a = records::record_answer(shape, nodes, values, rec);
     let o = outcome(a.number, shape, nodes, values, rec);
     tally::counted(t, o)
+}
+
+// The same where the tally stands: nothing of it is copied.
+pub fn count_record(
+    t: &mut Tally,
+    shape: Shape,
+    nodes: &[f64],
+    values: &[f64],
+    rec: &[u8],
+) -> Answer
+    ensures value { result ≡ (counted_record t.old shape nodes.now values.now rec.now).answer }
+    ensures tally_after { t.new ≡ (counted_record t.old shape nodes.now values.now rec.now).tally }
+{
+    let a = records::record_answer(shape, nodes, values, rec);
+    let o = outcome(a.number, shape, nodes, values, rec);
+    let read = t.records;
+    let answer = tally::limit_answer(read);
+    t.records = tally::count_here(&mut t.cells, &mut t.numbers, read, o);
+    answer
 }
 
 // ---- a block

@@ -1,6 +1,6 @@
 /* Ngamsothul: table lookup on rectilinear grids. What the archive libngamsothul.a exports; README.md says how to link it.
  *
- * Every call takes any numbers, judges what it is lent, ends, and answers. It allocates nothing, calls nothing (ng_count_record: memcpy
+ * Every call takes any numbers, judges what it is lent, ends, and answers. It allocates nothing, calls nothing (ng_load: memset
  * alone), and keeps nothing between calls, so any number of threads may call at once. What no checker sees, and the caller owes:
  *
  * - A pointer with its length is a buffer of so many elements, aligned as C wants them, that may be read and, where it is not const,
@@ -15,7 +15,7 @@
  * - The stack has NG_STACK_BYTES left, NG_LOAD_STACK_BYTES for ng_load, or NG_COUNT_STACK_BYTES for ng_count_record. These three were
  *   measured, with room to spare; no proof has them.
  *
- * The archive is for x86-64 and C's own calling convention there. It needs no library but for memcpy, which ng_count_record calls.
+ * The archive is for x86-64 and C's own calling convention there. It needs no library but for memset, which ng_load calls.
  */
 #ifndef NGAMSOTHUL_H
 #define NGAMSOTHUL_H

@@ -17,10 +17,10 @@ slice_bounds-count_block-end-2 c = sym (length-take-le _ _ (c.fill-have.ensures 
 
 pub overflow_sub-rest : goal.overflow_sub-rest
 overflow_sub-rest c =
-    let done : Done c.args.shape c.args.nodes.now c.args.values.now c.args.size c.args.held c.fill-have.result c.args.t c.count_block-done.result c.args.buf.now c.fill-have.new.buf = (record { room = c.requires; filled = c.fill-have.ensures (search rules); kept = c.fill-have.kept.0; counted = c.count_block-done.ensures }) in
+    let done : Done c.args.shape c.args.nodes.now c.args.values.now c.args.size c.args.held c.fill-have.result c.args.t c.count_block-done.result c.args.buf.now c.fill-have.new.buf = (record { room = c.requires; filled = c.fill-have.ensures (search rules); kept = c.fill-have.auto.buf; counted = c.count_block-done.ensures }) in
     step_used done
 
 pub returns : goal.returns
 returns c =
-    let done : Done c.args.shape c.args.nodes.now c.args.values.now c.args.size c.args.held c.fill-have.result c.args.t c.count_block-done.result c.args.buf.now c.fill-have.new.buf = (record { room = c.requires; filled = c.fill-have.ensures (search rules); kept = c.fill-have.kept.0; counted = c.count_block-done.ensures }) in
+    let done : Done c.args.shape c.args.nodes.now c.args.values.now c.args.size c.args.held c.fill-have.result c.args.t c.count_block-done.result c.args.buf.now c.fill-have.new.buf = (record { room = c.requires; filled = c.fill-have.ensures (search rules); kept = c.fill-have.auto.buf; counted = c.count_block-done.ensures }) in
     stepped done _ c.shift.ensures c.shift.auto.buf _ c.goes_on.ensures

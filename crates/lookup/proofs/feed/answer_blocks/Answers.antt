@@ -6,7 +6,6 @@ use Rattle.lookup.proofs.feed.Loops.{Feeding, feed_start, feed_room, feed_step, 
 use Rattle.lookup.proofs.feed.Wholes.{failed_whole, ended_whole}
 use mathlib.Core.Path.{sym}
 use native.Mathlib.Omega.{arith}
-use borrow.Author.Tests.{not-true, not-false}
 use borrow.Author.Rules.{rules}
 use Rattle.lookup.proofs.feed.answer_blocks.Goals as goal
 
@@ -50,7 +49,7 @@ loop-go-preserved c =
 
 pub returns-then-not-ok : goal.returns-then-not-ok
 returns-then-not-ok c =
-    failed_whole c.requires.table_of c.loop-go.invariant (not-true _ c.if-not-ok.true-raw)
+    failed_whole c.requires.table_of c.loop-go.invariant c.if-not-ok.true
 
 pub slice_bounds-end-end : goal.slice_bounds-end-end
 slice_bounds-end-end c = c.loop-go.invariant.holds
@@ -61,7 +60,7 @@ slice_bounds-end-end-2 c = sym (length-take-le _ _ c.loop-go.invariant.holds)
 pub end-last-requires : goal.end-last-requires
 end-last-requires c =
     let g = c.loop-go.invariant in
-    (omega (arith, g.wide), feed_last g c.loop-go-test.false (not-false _ c.if-not-ok.false))
+    (omega (arith, g.wide), feed_last g c.loop-go-test.false c.if-not-ok.false)
 
 pub overflow_add-all : goal.overflow_add-all
 overflow_add-all c =
@@ -70,4 +69,4 @@ overflow_add-all c =
 
 pub returns : goal.returns
 returns c =
-    ended_whole c.requires.table_of c.loop-go.invariant c.loop-go-test.false (not-false _ c.if-not-ok.false) _ _ c.end-last.ensures.bytes_value
+    ended_whole c.requires.table_of c.loop-go.invariant c.loop-go-test.false c.if-not-ok.false _ _ c.end-last.ensures.bytes_value

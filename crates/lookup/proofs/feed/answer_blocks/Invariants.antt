@@ -6,7 +6,6 @@ use Rattle.lookup.proofs.feed.Loops.{Feeding, feed_start, feed_room, feed_step, 
 use Rattle.lookup.proofs.feed.Wholes.{failed_whole, ended_whole}
 use mathlib.Core.Path.{sym}
 use native.Mathlib.Omega.{arith}
-use borrow.Author.Tests.{not-true, not-false}
 use borrow.Author.Rules.{rules}
 use Rattle.lookup.proofs.feed.answer_blocks.Given as goal
 

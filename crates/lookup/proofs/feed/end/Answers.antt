@@ -27,4 +27,4 @@ end-requires c =
 pub returns : goal.returns
 returns c =
     let put : (take c.finish-n.result c.finish-n.new.out ≡ lines_of (rule_of c.args.img.now) c.args.left c.args.rest.now) × (c.finish-n.result ≤ length c.finish-n.new.out) = (end_put (rule_of c.args.img.now) refl c.args.left c.args.rest.now c.args.out.now c.requires.0 c.requires.1 _ _ c.finish-n.ensures.0 c.finish-n.ensures.1) in
-    record { bytes_value = c.end.ensures; bytes_in_bounds = omega (arith, c.end.ensures ∙ sym (ap length put.0) ∙ length-take-le _ _ put.1, put.1, c.finish-n.auto) }
+    record { bytes_value = c.end.ensures; bytes_in_bounds = omega (arith, c.end.ensures ∙ sym (ap length put.0) ∙ length-take-le _ _ put.1, put.1, c.finish-n.auto.out) }

@@ -14,4 +14,4 @@ returns c =
     let same : report_on c.args.shape c.counted_rest-last.result.tally (not (eqb c.counted_rest-last.result.answer.number 0)) ≡ last_report c.args.t c.args.shape c.args.nodes.now c.args.values.now c.args.rest.now = (let a = c.args in last-put a.t a.shape a.nodes.now a.values.now a.rest.now _ c.counted_rest-last.ensures) in
     let d = c.args.out.now in
     let e = c.put.ensures in
-    record { value = (e.0.0 ∙ ap (λ (x : List ℕ). report_end x d) same, e.0.1 ∙ ap (λ (x : List ℕ). report_into x d) same); upper_bound = e.1 }
+    record { value = (e.value.0 ∙ ap (λ (x : List ℕ). report_end x d) same, e.value.1 ∙ ap (λ (x : List ℕ). report_into x d) same); upper_bound = e.upper_bound }

@@ -5,4 +5,4 @@ use Rattle.program.proofs.coverage.give.Goals as goal
 
 pub returns : goal.returns
 returns c =
-    give_all _ _ refl refl c.room_answer-done.ensures c.put_all_lem.ensures
+    give_all _ _ refl refl c.room_answer-done.ensures c.put_all.ensures

@@ -5,5 +5,4 @@ use Rattle.program.proofs.coverage.put.Goals as goal
 pub returns : goal.returns
 unfolding report_on
 returns c =
-    let all = c.put.ensures in
-    record { value = all.0; upper_bound = all.1 }
+    record { value = c.put.ensures.value; upper_bound = c.put.ensures.upper_bound }

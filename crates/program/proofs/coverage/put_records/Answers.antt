@@ -11,6 +11,12 @@ use Rattle.program.proofs.coverage.Reports.{report_fronted}
 use borrow.Author.Rules.{rules}
 use Rattle.program.proofs.coverage.put_records.Goals as goal
 
+pub slice_bounds-finish-count : goal.slice_bounds-finish-count
+slice_bounds-finish-count c =
+    let counted : c.count_block-done.result ≡ block_tally none_read c.args.shape c.args.nodes.now c.args.values.now c.args.records.now = (let a = c.args in c.count_block-done.ensures ∙ ap (λ (t : Tally). block_tally t a.shape a.nodes.now a.values.now a.records.now) c.none_read.ensures) in
+    let inside : c.count_block-done.result.used ≤ length c.args.records.now = (let a = c.args in omega (arith, ap (λ (d : BlockTally). d.used) counted, block_used none_read a.shape a.nodes.now a.values.now a.records.now)) in
+    inside
+
 pub slice_bounds-finish-start : goal.slice_bounds-finish-start
 slice_bounds-finish-start c =
     let counted : c.count_block-done.result ≡ block_tally none_read c.args.shape c.args.nodes.now c.args.values.now c.args.records.now = (let a = c.args in c.count_block-done.ensures ∙ ap (λ (t : Tally). block_tally t a.shape a.nodes.now a.values.now a.records.now) c.none_read.ensures) in

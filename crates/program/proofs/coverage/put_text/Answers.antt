@@ -8,7 +8,7 @@ use Rattle.program.proofs.coverage.put_text.Goals as goal
 pub returns-then-loaded-ne0 : goal.returns-then-loaded-ne0
 returns-then-loaded-ne0 c =
     let e = c.put_line.ensures in
-    record { fronted = line_fronted _ _ c.if-loaded-ne0.true (wrote_fronted (line_wrote c.args.loaded c.args.chunk.now 0 (omega (arith, c.requires.1)) e.0.0 e.0.1)); upper_bound = omega (arith, e.1) }
+    record { fronted = line_fronted _ _ c.if-loaded-ne0.true (wrote_fronted (line_wrote c.args.loaded c.args.chunk.now 0 (omega (arith, c.requires.1)) e.value.0 e.value.1)); upper_bound = omega (arith, e.upper_bound) }
 
 pub put_records-requires : goal.put_records-requires
 put_records-requires c =

@@ -23,5 +23,5 @@ slice_bounds-give-end-2 c = sym (length-take-le _ _ (search rules))
 
 pub returns : goal.returns
 returns c =
-    run_texted coverage_report (c.load-loaded.ensures.loads c.requires.0 c.requires.1.0) c.load-loaded.ensures.axes_bound.0.1
+    run_texted coverage_report (c.load-loaded.ensures.loads c.requires.0 c.requires.1.0) c.load-loaded.ensures.axes_bound.1
     (fronted_take c.put_text-long.ensures.fronted (omega (arith, c.put_text-long.ensures.upper_bound, c.requires.1.1))) c.give.ensures

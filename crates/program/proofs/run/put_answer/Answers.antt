@@ -11,4 +11,4 @@ slice_bounds-put_all-end-2 c = sym (length-take-le _ _ (search rules))
 
 pub returns : goal.returns
 returns c =
-    placed (line_wrote c.args.a c.args.chunk.now 0 (omega (arith, c.requires)) c.put_line-n.ensures.value.0 c.put_line-n.ensures.value.1) c.put_all_lem.ensures
+    placed (line_wrote c.args.a c.args.chunk.now 0 (omega (arith, c.requires)) c.put_line-n.ensures.value.0 c.put_line-n.ensures.value.1) c.put_all.ensures

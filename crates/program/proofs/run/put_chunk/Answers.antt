@@ -19,4 +19,4 @@ slice_bounds-put_all-end-2 c =
     sym (length-take-le _ _ fits)
 
 pub returns : goal.returns
-returns c = record { block = c.answer_block-done.ensures; placed = placed (answered c.answer_block-done.ensures c.answer_block-done.auto.out).lines c.put_all_lem.ensures }
+returns c = record { block = c.answer_block-done.ensures; placed = placed (answered c.answer_block-done.ensures c.answer_block-done.auto.out).lines c.put_all.ensures }

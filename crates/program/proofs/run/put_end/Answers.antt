@@ -24,4 +24,4 @@ slice_bounds-put_all-end-2 c =
 pub returns : goal.returns
 returns c =
     let said : Wrote c.args.chunk.now 0 (end_of c.args.rest c.args.left) c.finish-n.new.out c.finish-n.result = (end_wrote c.args.rest c.args.left c.requires c.finish-n.ensures.0 c.finish-n.ensures.1) in
-    record { placed = placed said c.put_all_lem.ensures; upper_bound = omega (arith, said.next, end_fits c.args.rest c.args.left) }
+    record { placed = placed said c.put_all.ensures; upper_bound = omega (arith, said.next, end_fits c.args.rest c.args.left) }

@@ -15,4 +15,4 @@ slice_bounds-give_text-end-4 c = sym (length-take-le _ _ (search rules))
 
 pub returns : goal.returns
 returns c =
-    run_texted (λ (goal.at.returns c).Start ns vs rs. lines_of (record_rule (goal.at.returns c).Start ns vs) most_records rs) (c.load-loaded.ensures.loads c.requires.0 c.requires.1.0) c.load-loaded.ensures.axes_bound.0.1 refl c.give_text.ensures
+    run_texted (λ s ns vs rs. lines_of (record_rule s ns vs) most_records rs) (c.load-loaded.ensures.loads c.requires.0 c.requires.1.0) c.load-loaded.ensures.axes_bound.1 refl c.give_text.ensures

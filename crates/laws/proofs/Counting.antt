@@ -43,7 +43,7 @@ use Rattle.ninterp.proofs.KindOrder.{record_exact, kind_order, length_readings}
 use Rattle.ninterp.proofs.CoverageSums.{axis_sums}
 use Rattle.ninterp.proofs.CountEnds.{counted_start, counted_block, counted_end, counted_told}
 use Rattle.ninterp.proofs.Afters.{tally_after, Counted}
-use Rattle.laws.specs.Calls.{Table, axes, counts, axis, on}
+use Rattle.laws.specs.Calls.{Table, axes, counts, axis}
 use Rattle.laws.specs.Promises.{Accepted}
 use Rattle.laws.specs.Counting.{Counting, Fed, count, one_by_one, next, fed, at_start, count_file, file, answers}
 use Rattle.laws.proofs.Premises.{passes}

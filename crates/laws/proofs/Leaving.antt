@@ -44,7 +44,7 @@ use Rattle.slices.specs.declared.SliceAnswer.{SliceAnswer}
 use Rattle.slices.proofs.Refusals.{made_shape}
 use Rattle.slices.proofs.Alongs.{length-along}
 use Rattle.writer.proofs.Back.{held-append}
-use Rattle.laws.specs.Calls.{Table, axes, counts, axis, stored, slice_linear, slice_linear_uniform, slice_nearest, slice_step}
+use Rattle.laws.specs.Calls.{Table, counts, axis, stored, slice_linear, slice_linear_uniform, slice_nearest, slice_step}
 use Rattle.laws.specs.Promises.{Sliceable, Uniform, Text, along, ZerosPast, After, Left, Values}
 use Rattle.laws.proofs.Left as over
 use Rattle.laws.proofs.Left.{Cut}

@@ -24,7 +24,7 @@ use Rattle.writer.specs.Write.{write_answer}
 use Rattle.slices.specs.LinearSlices.{linear_slice, linear_sliced, linear_uniform_slice, linear_uniform_sliced}
 use Rattle.laws.specs.Calls.{Floats, Table, axes, axis, on, record_of}
 use Rattle.laws.specs.Promises.{Accepted, Sliceable, Overflows, Demand1, Demand2, Demand3}
-use Rattle.laws.proofs.Premises.{passes, accepted, in_range, uniform, range_passes, directed_lent, directed_passes}
+use Rattle.laws.proofs.Premises.{passes, accepted, uniform, range_passes, directed_lent, directed_passes}
 use Rattle.laws.proofs.Primitives.{primitives}
 use Rattle.laws.proofs.Judging as judging
 use Rattle.laws.proofs.Giving as giving

@@ -1,12 +1,8 @@
 use lib.Seq.{length-take-le}
-use Rattle.checks.specs.Numbers.{most_records}
 use Rattle.program.proofs.front.Loads.{four_axes}
-use Rattle.program.proofs.turns.Turning.{turns_left}
-use Rattle.coverage.proofs.feed.Loops.{Feeding, feed_start, feed_room, feed_step, turn_fewer, feed_report, feed_whole}
+use Rattle.coverage.proofs.feed.Loops.{feed_start, feed_room, feed_step, turn_fewer, feed_report, feed_whole}
 use mathlib.Core.Path.{sym}
-use Prim.Native.Nat.{◌-◌}
 use native.Mathlib.Omega.{arith}
-use borrow.Author.Rules.{rules}
 use Rattle.coverage.proofs.feed.count_blocks.Goals as goal
 
 pub overflow_mul-size : goal.overflow_mul-size

@@ -1,12 +1,7 @@
-use lib.Seq.{length-take-le}
 use Rattle.checks.specs.Numbers.{most_records}
-use Rattle.program.proofs.front.Loads.{four_axes}
 use Rattle.program.proofs.turns.Turning.{turns_left}
-use Rattle.coverage.proofs.feed.Loops.{Feeding, feed_start, feed_room, feed_step, turn_fewer, feed_report, feed_whole}
-use mathlib.Core.Path.{sym}
+use Rattle.coverage.proofs.feed.Loops.{Feeding}
 use Prim.Native.Nat.{◌-◌}
-use native.Mathlib.Omega.{arith}
-use borrow.Author.Rules.{rules}
 use Rattle.coverage.proofs.feed.count_blocks.Given as goal
 
 abbrev pub invariant-loop-go : goal.invariant-loop-go

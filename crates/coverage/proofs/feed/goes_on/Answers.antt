@@ -1,7 +1,6 @@
 use mathlib.Core.Path.{sym, ap}
 use mathlib.Core.Bool.{Bool, ◌&&◌}
 use lib.Dec.{ltb}
-use borrow.Author.Rules.{rules}
 use Rattle.coverage.proofs.feed.goes_on.Goals as goal
 
 pub returns-then-full : goal.returns-then-full

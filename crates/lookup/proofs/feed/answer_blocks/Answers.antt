@@ -1,12 +1,10 @@
 use lib.Seq.{length-take-le}
 use Rattle.program.specs.Run.{rule_of}
 use Rattle.program.proofs.front.Loads.{four_axes}
-use Rattle.program.proofs.turns.Turning.{turns_left}
-use Rattle.lookup.proofs.feed.Loops.{Feeding, feed_start, feed_room, feed_step, feed_last, turn_fewer}
+use Rattle.lookup.proofs.feed.Loops.{feed_start, feed_room, feed_step, feed_last, turn_fewer}
 use Rattle.lookup.proofs.feed.Wholes.{failed_whole, ended_whole}
 use mathlib.Core.Path.{sym}
 use native.Mathlib.Omega.{arith}
-use borrow.Author.Rules.{rules}
 use Rattle.lookup.proofs.feed.answer_blocks.Goals as goal
 
 pub overflow_mul-size : goal.overflow_mul-size

@@ -6,7 +6,6 @@ use lib.Dec.{eqb}
 use Rattle.lines.specs.Report.{report_into, report_end}
 use Rattle.program.specs.Coverage.{report_on, last_report}
 use Rattle.program.proofs.coverage.Reports.{last-put}
-use borrow.Author.Rules.{rules}
 use Rattle.program.proofs.coverage.finish.Goals as goal
 
 pub returns : goal.returns

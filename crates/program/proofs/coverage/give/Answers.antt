@@ -1,6 +1,5 @@
 use mathlib.Core.Path.{refl}
 use Rattle.program.proofs.run.Gives.{give_all}
-use borrow.Author.Rules.{rules}
 use Rattle.program.proofs.coverage.give.Goals as goal
 
 pub returns : goal.returns

@@ -1,5 +1,4 @@
 use Rattle.program.specs.Coverage.{report_on}
-use borrow.Author.Rules.{rules}
 use Rattle.program.proofs.coverage.put.Goals as goal
 
 pub returns : goal.returns

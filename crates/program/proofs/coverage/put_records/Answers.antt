@@ -8,7 +8,6 @@ use Rattle.ninterp.specs.Counting.{block_tally}
 use Rattle.ninterp.specs.declared.records.count.BlockTally.{BlockTally}
 use Rattle.ninterp.proofs.CoverageBlocks.{block_used}
 use Rattle.program.proofs.coverage.Reports.{report_fronted}
-use borrow.Author.Rules.{rules}
 use Rattle.program.proofs.coverage.put_records.Goals as goal
 
 pub slice_bounds-finish-count : goal.slice_bounds-finish-count

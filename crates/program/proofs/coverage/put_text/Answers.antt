@@ -2,7 +2,6 @@ use native.Mathlib.Omega.{arith}
 use Rattle.lines.proofs.Shows.{line_wrote}
 use Rattle.program.proofs.run.Places.{wrote_fronted}
 use Rattle.program.proofs.run.Gives.{line_fronted, text_fronted}
-use borrow.Author.Rules.{rules}
 use Rattle.program.proofs.coverage.put_text.Goals as goal
 
 pub returns-then-loaded-ne0 : goal.returns-then-loaded-ne0

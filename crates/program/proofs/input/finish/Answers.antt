@@ -4,7 +4,6 @@ use Rattle.answer.specs.declared.Answer.{Answer}
 use Rattle.lines.specs.Put.{line_into, line_end}
 use Rattle.program.proofs.input.Ends.{no_record_left, no_byte_left, cut_short}
 use mathlib.Core.Path.{◌≡◌, ap, ◌∙◌}
-use borrow.Author.Rules.{rules}
 use Rattle.program.proofs.input.finish.Goals as goal
 
 pub returns-then-left-eq0 : goal.returns-then-left-eq0

@@ -1,5 +1,4 @@
 use Rattle.program.proofs.input.Ends.{size_short, size_long, size_stated}
-use borrow.Author.Rules.{rules}
 use Rattle.program.proofs.input.image_size.Goals as goal
 
 pub returns-then-stated-lt-HEADER : goal.returns-then-stated-lt-HEADER

@@ -1,7 +1,6 @@
 use Rattle.answer.proofs.Orders.{clash}
 use Rattle.program.specs.Scaffolding.{Loads}
 use Rattle.program.proofs.front.Loads.{front_line, image_good, refused_ran}
-use borrow.Author.Rules.{rules}
 use Rattle.program.proofs.refused.refuse_in.Goals as goal
 
 pub returns-then-answer-eq0 : goal.returns-then-answer-eq0

@@ -2,7 +2,6 @@ use mathlib.Core.Path.{◌≡◌, ap}
 use mathlib.Core.List.{◌++◌}
 use lib.ListN.{length}
 use Rattle.program.proofs.run.Gives.{nothing_put, give_refused, give_made}
-use borrow.Author.Rules.{rules}
 use Rattle.program.proofs.run.give_text.Goals as goal
 
 pub returns-then-done-ne0 : goal.returns-then-done-ne0

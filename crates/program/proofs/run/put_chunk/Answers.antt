@@ -5,7 +5,6 @@ use lib.ListN.{length}
 use lib.Seq.{length-take-le}
 use Rattle.lines.proofs.Blocks.{answered}
 use Rattle.program.proofs.run.Places.{placed}
-use borrow.Author.Rules.{rules}
 use Rattle.program.proofs.run.put_chunk.Goals as goal
 
 pub slice_bounds-put_all-end : goal.slice_bounds-put_all-end

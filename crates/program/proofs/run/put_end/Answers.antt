@@ -6,7 +6,6 @@ use lib.Seq.{length-take-le}
 use Rattle.lines.specs.Scaffolding.{Wrote}
 use Rattle.program.specs.Scaffolding.{end_of}
 use Rattle.program.proofs.run.Places.{placed, end_fits, end_wrote}
-use borrow.Author.Rules.{rules}
 use Rattle.program.proofs.run.put_end.Goals as goal
 
 pub slice_bounds-put_all-end : goal.slice_bounds-put_all-end

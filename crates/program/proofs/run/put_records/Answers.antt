@@ -1,13 +1,11 @@
 use mathlib.Core.Path.{◌≡◌, refl, ap}
-use mathlib.Core.Logic.{◌⊎◌, inl, inr, ⊎_elim}
+use mathlib.Core.Logic.{◌⊎◌, inl, inr}
 use Prim.Native.Nat.{ℕ, ◌+◌, ◌-◌, ◌*◌, ◌≤◌, ◌<◌}
 use native.Mathlib.Omega.{arith}
 use lib.ListN.{length}
-use borrow.Author.Tests.{leb-true, leb-false}
 use Rattle.ninterp.specs.Records.{record_rule, record_size}
 use Rattle.checks.specs.Numbers.{most_records}
-use Rattle.program.proofs.run.Walks.{Walking, Took, walk_start, took, walk_step, walk_end}
-use borrow.Author.Rules.{rules}
+use Rattle.program.proofs.run.Walks.{Took, walk_start, took, walk_step, walk_end}
 use Rattle.program.proofs.run.put_records.Goals as goal
 use Rattle.program.proofs.run.put_records.Goals.{then-loop-left-test+else-records-at, else-loop-left-test}
 

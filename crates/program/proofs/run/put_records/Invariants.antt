@@ -1,13 +1,6 @@
-use mathlib.Core.Path.{◌≡◌, refl, ap}
-use mathlib.Core.Logic.{◌⊎◌, inl, inr, ⊎_elim}
-use Prim.Native.Nat.{ℕ, ◌+◌, ◌-◌, ◌*◌, ◌≤◌, ◌<◌}
-use native.Mathlib.Omega.{arith}
-use lib.ListN.{length}
-use borrow.Author.Tests.{leb-true, leb-false}
-use Rattle.ninterp.specs.Records.{record_rule, record_size}
+use Rattle.ninterp.specs.Records.{record_rule}
 use Rattle.checks.specs.Numbers.{most_records}
-use Rattle.program.proofs.run.Walks.{Walking, Took, walk_start, took, walk_step, walk_end}
-use borrow.Author.Rules.{rules}
+use Rattle.program.proofs.run.Walks.{Walking}
 use Rattle.program.proofs.run.put_records.Given as goal
 
 abbrev pub invariant-loop-left : goal.invariant-loop-left

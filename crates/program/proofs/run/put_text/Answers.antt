@@ -1,6 +1,5 @@
 use Rattle.program.proofs.run.Places.{fronted}
 use Rattle.program.proofs.run.Gives.{line_fronted, text_fronted}
-use borrow.Author.Rules.{rules}
 use Rattle.program.proofs.run.put_text.Goals as goal
 
 pub returns-then-loaded-ne0 : goal.returns-then-loaded-ne0

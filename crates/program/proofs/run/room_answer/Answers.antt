@@ -1,5 +1,4 @@
 use Rattle.program.proofs.run.Gives.{room_refused, room_given}
-use borrow.Author.Rules.{rules}
 use Rattle.program.proofs.run.room_answer.Goals as goal
 
 pub returns-then-fault-ne0 : goal.returns-then-fault-ne0

@@ -1,7 +1,5 @@
 use Rattle.lines.proofs.Feeds.{filled}
-use Prim.Native.Nat.{◌-◌}
 use native.Mathlib.Omega.{arith}
-use borrow.Author.Rules.{rules}
 use Rattle.program.proofs.stdin.fill.Goals as goal
 
 pub returns-then-held-buf : goal.returns-then-held-buf

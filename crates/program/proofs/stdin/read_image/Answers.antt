@@ -1,6 +1,5 @@
 use Rattle.program.proofs.input.Ends.{size_within, head_read, image_read}
 use native.Mathlib.Omega.{arith}
-use borrow.Author.Rules.{rules}
 use Rattle.program.proofs.stdin.read_image.Goals as goal
 
 pub returns-then-img-lt-MOST_BYTES : goal.returns-then-img-lt-MOST_BYTES

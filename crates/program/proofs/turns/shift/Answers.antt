@@ -1,7 +1,5 @@
-use Prim.Native.Nat.{◌-◌}
 use native.Mathlib.Omega.{arith}
-use borrow.Author.Rules.{rules}
-use Rattle.program.proofs.turns.Shifts.{Shifting, shift_start, shift_step, shift_end, shift_left}
+use Rattle.program.proofs.turns.Shifts.{shift_start, shift_step, shift_end, shift_left}
 use Rattle.program.proofs.turns.shift.Goals as goal
 
 pub returns-then-from-len : goal.returns-then-from-len

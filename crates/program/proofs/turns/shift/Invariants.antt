@@ -1,7 +1,5 @@
 use Prim.Native.Nat.{◌-◌}
-use native.Mathlib.Omega.{arith}
-use borrow.Author.Rules.{rules}
-use Rattle.program.proofs.turns.Shifts.{Shifting, shift_start, shift_step, shift_end, shift_left}
+use Rattle.program.proofs.turns.Shifts.{Shifting}
 use Rattle.program.proofs.turns.shift.Given as goal
 
 abbrev pub invariant-loop-i : goal.invariant-loop-i

@@ -1,6 +1,5 @@
 use native.Mathlib.Omega.{arith}
 use Rattle.writer.proofs.Laws.{told_inside}
-use borrow.Author.Rules.{rules}
 use Rattle.test_damaged.proofs.write_again.Goals as goal
 
 pub returns : goal.returns

@@ -1,6 +1,5 @@
 use Prim.Native.Nat.{◌≤◌}
 use Rattle.test_replay.specs.Scaffolding.{HoldsTable}
-use borrow.Author.Rules.{rules}
 use Rattle.test_replay.proofs.main.Given as goal
 
 abbrev pub invariant-loop-turns : goal.invariant-loop-turns

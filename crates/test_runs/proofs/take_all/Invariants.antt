@@ -1,5 +1,4 @@
 use Prim.Native.Nat.{◌-◌}
-use borrow.Author.Rules.{rules}
 use Rattle.test_runs.proofs.take_all.Given as goal
 
 abbrev pub invariant-loop-run : goal.invariant-loop-run

@@ -1,6 +1,5 @@
 use Prim.Native.Nat.{◌≤◌}
 use lib.ListN.{length}
-use borrow.Author.Rules.{rules}
 use Rattle.test_replay.proofs.cut.changed.Given as goal
 
 abbrev pub invariant-loop-count : goal.invariant-loop-count

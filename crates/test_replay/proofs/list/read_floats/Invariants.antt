@@ -1,7 +1,6 @@
 use mathlib.Core.Path.{◌≡◌}
 use Prim.Native.Nat.{◌≤◌, ◌-◌}
 use lib.ListN.{length}
-use borrow.Author.Rules.{rules}
 use Rattle.test_replay.proofs.list.read_floats.Given as goal
 
 abbrev pub invariant-loop-at : goal.invariant-loop-at

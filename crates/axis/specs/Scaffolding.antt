@@ -17,7 +17,7 @@ abbrev pub location_by : Bool → List Float → Float → AxisLocation
 location_by true = uniform_location
 location_by false = axis_location
 
--- what the code gives, of any list at all: 0 and +0.0 where there is no cell. On a good axis it is `location_by` (`location-found`)
+-- what the code gives, of any list at all: 0 and +0.0 where there is no cell. On a good axis it is `location_by` (`location_found_lem`)
 unfoldable pub location_found : Bool → List Float → Float → AxisLocation
 location_found uniform nodes p = cond (nat_lt (length nodes) 2) (Between 0 plus_zero) (location_by uniform nodes p)
 
@@ -32,11 +32,11 @@ upper_of (Between lower frac) = lower + 1
 unfoldable pub pick_index : ℕ → List Float → Float → ℕ
 pick_index pick nodes p = cond (nat_lt pick 2) (step_index pick nodes p) (nearest_index nodes p)
 
--- the Rust's expressions in `locate_step_index`, over the lower index as the paper counts it: on a good axis its search gives that count (`lower-text`)
+-- the Rust's expressions in `locate_step_index`, over the lower index as the paper counts it: on a good axis its search gives that count (`lower_text`)
 unfoldable pub rust_step : ℕ → List Float → Float → ℕ
 rust_step direction nodes p = cond (direction == 0) (lower_by nodes (lower_index nodes p) p) (upper_by nodes (lower_index nodes p) p)
 
--- what the code gives, of any list at all: `rust_step` for Step, and 0 where there is no cell. On a good axis it is `pick_index` (`pick-found`)
+-- what the code gives, of any list at all: `rust_step` for Step, and 0 where there is no cell. On a good axis it is `pick_index` (`pick_found_lem`)
 unfoldable pub pick_found : ℕ → List Float → Float → ℕ
 pick_found pick nodes p = cond (nat_lt (length nodes) 2) 0 (cond (nat_lt pick 2) (rust_step pick nodes p) (nearest_index nodes p))
 

@@ -21,7 +21,7 @@ abbrev pub sliced : AxisLocation → (List ℕ → Float) → List ℕ → Float
 sliced (Exact node) g is = g (node ∷ is)
 sliced (Between lower frac) g is = blended (g (lower ∷ is)) (g ((lower + 1) ∷ is)) frac
 
--- "in axis order, axis 0 first"; that fixing the exact axes before is the same is `rust-linear` (blend/proofs/Bits.antt)
+-- "in axis order, axis 0 first"; that fixing the exact axes before is the same is `rust_linear_lem` (blend/proofs/Bits.antt)
 abbrev pub linear : List AxisLocation → (List ℕ → Float) → Float
 linear [] g = g []
 linear (p ∷ ps) g = linear ps (sliced p g)

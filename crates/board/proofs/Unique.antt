@@ -9,6 +9,7 @@ use Rattle.utils.specs.declared.IndexAnswer.{IndexAnswer}
 use Rattle.slices.specs.declared.SliceAnswer.{SliceAnswer}
 use Rattle.image.specs.declared.LoadAnswer.{LoadAnswer}
 use Rattle.writer.specs.declared.WriteAnswer.{WriteAnswer}
+use Rattle.tally.specs.declared.Tally.{Tally}
 use Rattle.board.specs.declared.plain.PlainExact.{PlainExact}
 use Rattle.board.specs.declared.plain.PlainLocation.{PlainLocation}
 use Rattle.board.proofs.primitives.ng_locate_lower_index.Reads as locate-lower-index
@@ -28,6 +29,7 @@ use Rattle.board.proofs.cuts.ng_slice_nearest.Reads as slice-nearest
 use Rattle.board.proofs.cuts.ng_slice_step.Reads as slice-step
 use Rattle.board.proofs.images.ng_load.Reads as load
 use Rattle.board.proofs.images.ng_write.Reads as write
+use Rattle.board.proofs.tallies.ng_count_record.Reads as count-record
 
 -- ---- the seven primitives
 pub locate_lower_index_unique : (κs : _) (a : _) (r s : IndexAnswer) (x y : _) → locate-lower-index.Post κs a r x → locate-lower-index.Post κs a s y → r ≡ s
@@ -104,3 +106,10 @@ write_unique κs a r s x y p q = one_outcome r s _ p.answer q.answer
 
 pub write_image : (κs : _) (a : _) (r s : WriteAnswer) (x y : _) → write.Post κs a r x → write.Post κs a s y → ◌≡◌ {A = List ℕ} x.1.1.1.0.now y.1.1.1.0.now
 write_image κs a r s x y p q = one_outcome x.1.1.1.0.now y.1.1.1.0.now _ p.image_out q.image_out
+
+-- ---- the call that counts
+pub count_record_unique : (κs : _) (a : _) (r s : Answer) (x y : _) → count-record.Post κs a r x → count-record.Post κs a s y → r ≡ s
+count_record_unique κs a r s x y p q = one_outcome r s _ p.0 q.0
+
+pub count_record_tally : (κs : _) (a : _) (r s : Answer) (x y : _) → count-record.Post κs a r x → count-record.Post κs a s y → ◌≡◌ {A = Tally} x.0.now y.0.now
+count_record_tally κs a r s x y p q = one_outcome x.0.now y.0.now _ p.1 q.1

@@ -4,7 +4,7 @@ use Rattle.std.specs.Float.Ieee.{lt}
 use Rattle.std.specs.Float.Ieee.Scale.{finite}
 use Rattle.checks.specs.Nodes.{node, gap}
 
--- what an axis is that passes 2, 4, 5 and 6; `axis-of` and `axis-fine` show that it is exactly that
+-- what an axis is that passes 2, 4, 5 and 6; `axis_of_lem` and `axis-fine` show that it is exactly that
 pub record Axis (nodes : List Float) : Type 0 where
   pub enough : 2 ≤ length nodes
   pub few : length nodes ≤ 64

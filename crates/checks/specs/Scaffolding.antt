@@ -33,7 +33,7 @@ sizes_of s =
 
 -- ---- axes and grids
 
--- what follows of passing 1 to 6 (`grid-of`)
+-- what follows of passing 1 to 6 (`grid_of`)
 pub record Grid (counts : List ℕ) (nodes : List Float) : Type 0 where
   pub few : length counts ≤ 4
   pub flat : length nodes ≡ total counts

@@ -88,7 +88,7 @@ pub record Areas : Type 0 where
   -- "The writer's images already comply": areas that lie one after the other, in any order, share nothing, and the writer's lie so
   pub in_turn_apart : (img : List ℕ) → InTurn img → Apart img
   pub written_in_turn : (t : Table) (out : List ℕ) → (write t out).0.answer.number ≡ 0 → InTurn (written t out)
-  -- "so the return trip stands": a table that is written and loaded comes back (`image-returns`, Promises.antt); a table that was loaded is written, given
+  -- "so the return trip stands": a table that is written and loaded comes back (`image_returns`, Promises.antt); a table that was loaded is written, given
   -- room, and what is written loads as the image did, into any outputs
   pub image_again : (img : List ℕ) (ns vs : List Float) (t : Table) (out : List ℕ) → (load img ns vs).0.answer.number ≡ 0 → Loaded (load img ns vs) t
       → 40 + 8 * total (counts t) + 8 * size (counts t) ≤ length out

@@ -46,7 +46,7 @@ digits_back base (suc k) n h l =
 pub hex_back : (n : ℕ) → n < 2 ^ 64 → value_in 16 0 (digits 16 16 n) ≡ n
 hex_back n h = digits_back 16 16 n (omega arith) (omega arith) ∙ mod-eq_of_lt (omega arith)
 
--- the places are enough; that no fewer are is `places-most`
+-- the places are enough; that no fewer are is `places_most`
 pub places_enough : (k n : ℕ) → n < 10 ^ suc k → n < 10 ^ places k n
 unfolding places
 places_enough zero n h = h

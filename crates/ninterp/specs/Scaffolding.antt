@@ -31,7 +31,7 @@ pub record FlatTable (s : Shape) (nodes : List Float) : Type 0 where
 
 -- ---- locations and picks
 
--- what follows of a table and a reading passing the checks before a lookup (`lookup-judged`)
+-- what follows of a table and a reading passing the checks before a lookup (`lookup_judged_lem`)
 pub record LookupJudged (s : Shape) (nodes values readings : List Float) : Type 0 where
   pub grid : Grid (counts_of s) nodes
   pub some : 1 ≤ s.axes
@@ -116,7 +116,7 @@ pub record Gathered (values : List Float) (places : List ℕ) (count low high : 
   pub both : (i : ℕ) → i < count
       → (get_or r i nan ≡ get_or values (get_or places i 0 + low) nan) × (get_or r (i + count) nan ≡ get_or values (get_or places i 0 + high) nan)
 
--- ---- a record's answer in the order in which the code finds it, with the table judged once for many records: `kind-order` says that it is the same
+-- ---- a record's answer in the order in which the code finds it, with the table judged once for many records: `kind_order` says that it is the same
 
 -- 1 to 7, the same for every record
 abbrev pub table_fault : Shape → List Float → List Float → Fault

@@ -24,7 +24,7 @@ report_by img records = coverage_report (shape_of img) (nodes_in img) (values_in
 abbrev pub coverage_of : List ℕ → List ℕ
 coverage_of input = run_by report_by input
 
--- ---- the report of a tally: `report-counted` says that it is the report of the records that were counted
+-- ---- the report of a tally: `report_counted` says that it is the report of the records that were counted
 
 unfoldable pub report_on : Shape → Tally → Bool → List ℕ
 report_on s t past = tally_report s.axes s.counts t.cells t.numbers past

@@ -9,7 +9,7 @@ use layout::Shape;
 
 // How many bytes of the input are the image, what the loader answers, and the shape and the sizes of the table at the fronts of the
 // outputs.
-#[derive(Drop)]
+#[derive(Clone, Copy)]
 pub struct Front {
     pub size: usize,
     pub answer: Answer,

@@ -24,7 +24,7 @@ pub mod refused;
 pub const MOST_RECORDS: usize = 1000000;
 
 // Of what follows the image, how many bytes were asked for and how many read; how many were printed, and whether every write went well.
-#[derive(Drop)]
+#[derive(Clone, Copy)]
 pub struct Counts {
     pub asked: usize,
     pub read: usize,
@@ -33,7 +33,7 @@ pub struct Counts {
 }
 
 // How many bytes of the input were taken for the image, and what was counted after it.
-#[derive(Drop)]
+#[derive(Clone, Copy)]
 pub struct Totals {
     pub image: usize,
     pub after: Counts,

@@ -6,7 +6,7 @@ ghost use Rattle.std.specs.Prelude.{◌≡◌, length};
 const STDOUT_FILENO: i32 = 1;
 
 // How many bytes were to be printed, and whether they were.
-#[derive(Drop)]
+#[derive(Clone, Copy)]
 pub struct Printed {
     pub bytes: usize,
     pub ok: bool,

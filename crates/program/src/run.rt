@@ -15,7 +15,7 @@ use ninterp::records::block;
 use ninterp::records::block::Done;
 
 // The answer, with how many bytes were written.
-#[derive(Drop)]
+#[derive(Clone, Copy)]
 pub struct RunAnswer {
     pub answer: Answer,
     pub written: usize,

@@ -29,6 +29,6 @@ lowers [] = []
 lowers (Exact pos ∷ ps) = lowers ps
 lowers (Between lower frac ∷ ps) = lower ∷ lowers ps
 
--- the whole of it; that it is `linear`, axis by axis, is `rust-linear` (blend/proofs/Bits.antt)
+-- the whole of it; that it is `linear`, axis by axis, is `rust_linear_lem` (blend/proofs/Bits.antt)
 unfoldable pub rust_linear : List AxisLocation → (List ℕ → Float) → Float
 rust_linear ps g = butterfly (diffs ps) (corners (lowers ps) (view ps g))

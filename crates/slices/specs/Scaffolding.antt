@@ -19,7 +19,7 @@ use Rattle.slices.specs.declared.SliceAnswer.{SliceAnswer}
 unfoldable pub refused_slice : Fault → SliceAnswer
 refused_slice f = record { answer = refused f; shape = no_shape }
 
--- a table that can be sliced on an axis: what is known where the checks before a slice were passed (`nearest-ready` ..)
+-- a table that can be sliced on an axis: what is known where the checks before a slice were passed (`nearest_ready` ..)
 pub record Ready (s : Shape) (nodes values : List Float) (axis : ℕ) : Type 0 where
   pub grid : Grid (counts_of s) nodes
   pub four : s.axes ≤ 4
@@ -29,7 +29,7 @@ pub record Ready (s : Shape) (nodes values : List Float) (axis : ℕ) : Type 0 w
   pub stored : length values ≡ size (counts_of s)
   pub finites : (t : ℕ) → t < length values → finite (get_or values t nan) ≡ true
 
--- .. and what is known of its reading and of the room, where they were passed (`point-taken`)
+-- .. and what is known of its reading and of the room, where they were passed (`point_taken`)
 pub record Taken (s : Shape) (axis : ℕ) (p : Float) (room : ℕ) : Type 0 where
   pub finite_point : finite p ≡ true
   pub enough : size (without axis (counts_of s)) ≤ room

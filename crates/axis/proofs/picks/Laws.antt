@@ -142,7 +142,7 @@ module _ (xs : List Float) (p : Float) (ax : Axis xs) (fp : finite p ≡ true) w
         let n : upper_step xs p < length xs = omega (arith, upper_is, few) in
         order.le_antisym (node xs (upper_step xs p)) p (ax.finites (upper_step xs p) n) fp (subst (λ (k : ℕ). le (node xs k) p ≡ true) q lower_at_or_below) upper_at_or_above
 
-  -- ---- Lower and Upper agree exactly on nodes: with `node-lower` and `node-upper`, for every finite reading
+  -- ---- Lower and Upper agree exactly on nodes: with `node_lower` and `node_upper`, for every finite reading
   pub agree_on_nodes : lower_step xs p ≡ upper_step xs p → eq (node xs (upper_step xs p)) p ≡ true
   agree_on_nodes q = go (lt p first) (lt last p) refl refl
     where

@@ -8,7 +8,7 @@ use lib.Dec.{eqb}
 use lib.Ieee.{Float}
 use Rattle.answer.specs.Faults.{refusal, good, ◌or◌}
 use Rattle.answer.specs.Answer.{plus_zero, refused, answered, fine, ◌then◌}
-use Rattle.answer.specs.declared.Fault.{Fault}
+use Rattle.answer.specs.Faults.{Fault}
 use Rattle.answer.specs.declared.Answer.{Answer}
 use Rattle.answer.proofs.Orders as orders
 
@@ -20,14 +20,6 @@ module _ (f : Fault) (a : Answer) where
   pub then_bad : good f ≡ false → (f then a) ≡ refused f
   unfolding ◌then◌
   then_bad h = ap (λ (t : Bool). cond t a (refused f)) h
-
--- ---- in the code's terms: r is what the checks gave, and its number was tested
-module _ (r f : Fault) (e : r ≡ f) where
-  pub then_stops : (b a : Answer) → (r.number ≡ 0 → ⊥) → b ≡ refused r → b ≡ (f then a)
-  then_stops b a h q = q ∙ ap refused e ∙ sym (then_bad f a (orders.fails r f e h))
-
-  pub then_goes_on : (b a : Answer) → r.number ≡ 0 → b ≡ a → b ≡ (f then a)
-  then_goes_on b a h q = q ∙ sym (then_good f a (orders.passes r f e h))
 
 -- what is asked first of two orders, one after the other
 pub then_or : (f g : Fault) (a : Answer) → ((f or g) then a) ≡ (f then g then a)

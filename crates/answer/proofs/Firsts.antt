@@ -6,7 +6,7 @@ use Prim.Native.Nat.{ℕ, zero, suc, ◌+◌, ◌≤◌, ◌<◌}
 use native.Mathlib.Nat.{eq-or-lt_of_le}
 use native.Mathlib.Omega.{arith}
 use Rattle.answer.specs.Faults.{no_fault, good, ◌or◌, first_fault}
-use Rattle.answer.specs.declared.Fault.{Fault}
+use Rattle.answer.specs.Faults.{Fault}
 use Rattle.answer.proofs.Orders.{clash, good-no_fault, or_good, or_bad}
 
 -- the first fault of the k places from i on: where it is, and that there is none before it

@@ -1,5 +1,6 @@
 pub mod Orders
 pub mod Firsts
+pub mod Checks
 pub mod Loops
 pub mod Tests
 pub mod Outcome

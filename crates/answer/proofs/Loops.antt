@@ -3,9 +3,14 @@ use mathlib.Core.Path.{◌≡◌, sym, ◌∙◌}
 use mathlib.Core.Bool.{true}
 use Prim.Native.Nat.{ℕ, ◌+◌, ◌-◌, ◌≤◌, ◌<◌}
 use native.Mathlib.Omega.{arith}
+use Rattle.std.proofs.Common.{Result, Ok, Err}
 use Rattle.answer.specs.Faults.{no_fault, good, first_fault}
-use Rattle.answer.specs.declared.Fault.{Fault}
-use Rattle.answer.proofs.Orders.{passes, fails, first_begin, first_step, first_stop, first_end, first_skip}
+use Rattle.answer.specs.Faults.{Fault}
+use Rattle.answer.specs.Rows.{said}
+use Rattle.answer.specs.declared.Refusal.{Refusal}
+use Rattle.answer.proofs.Checks as checks
+use Rattle.answer.proofs.Checks.{Handed}
+use Rattle.answer.proofs.Orders.{first_begin, first_step, first_stop, first_end, first_skip}
 
 -- of the places `from` up to `end`, whose first fault is `whole`, those from i on are left
 pub record Left (f : ℕ → Fault) (whole : Fault) (from end i : ℕ) : Type 0 where
@@ -23,17 +28,18 @@ module _ (f : ℕ → Fault) where
     pub rest : (r : Fault) → r ≡ first_fault f i (end - i) → r ≡ whole
     rest r e = e ∙ sym l.order
 
-    pub done : end ≤ i → (r : Fault) → r ≡ no_fault → r ≡ whole
-    done h r e = rest r (e ∙ sym (first_end f i end h))
+    pub done : {A : Type 0} (x : A) → end ≤ i → said (Ok x) ≡ whole
+    unfolding said
+    done x h = rest no_fault (sym (first_end f i end h))
 
     -- several places that have no fault
     pub skip : (n : ℕ) → i + n ≤ end → ((j : ℕ) → j < n → good (f (i + j)) ≡ true) → Left f whole from end (i + n)
     skip n h g = record { begun = omega (arith, l.begun); on = h; order = l.order ∙ first_skip f i n end h g }
 
-    -- one place: r is its fault, and its number was tested
-    module _ (here : i < end) (r : Fault) (e : r ≡ f i) where
-      pub stop : (r.number ≡ 0 → ⊥) → r ≡ whole
-      stop h = rest r (e ∙ sym (first_stop f i end here (fails r (f i) e h)))
+    -- one place: what its check said, where it refused and where it passed
+    module _ (here : i < end) where
+      pub stop : (A : Type 0) (e : Refusal) → said {A = A} (Err e) ≡ f i → {B : Type 0} (r : Result B Refusal) → Handed r e → said r ≡ whole
+      stop A e s r h = rest (said r) (checks.hands A e (f i) s r h ∙ sym (first_stop f i end here (checks.fails A e (f i) s)))
 
-      pub again : r.number ≡ 0 → Left f whole from end (i + 1)
-      again h = record { begun = omega (arith, l.begun); on = omega arith; order = l.order ∙ first_step f i end here (passes r (f i) e h) }
+      pub again : {A : Type 0} (x : A) → said (Ok x) ≡ f i → Left f whole from end (i + 1)
+      again x s = record { begun = omega (arith, l.begun); on = omega arith; order = l.order ∙ first_step f i end here (checks.passes x (f i) s) }

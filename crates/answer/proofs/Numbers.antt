@@ -4,7 +4,7 @@ use Prim.Native.Nat.{ℕ, zero, suc, ◌≤◌}
 use native.Mathlib.Omega.{arith}
 use Rattle.answer.specs.Faults.{refusal, no_fault, good, when, ◌or◌, first_fault}
 use Rattle.answer.specs.Answer.{refused, ◌then◌}
-use Rattle.answer.specs.declared.Fault.{Fault}
+use Rattle.answer.specs.Faults.{Fault}
 use Rattle.answer.specs.declared.Answer.{Answer}
 use Rattle.answer.proofs.Tests.{either}
 

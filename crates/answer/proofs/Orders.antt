@@ -6,10 +6,10 @@ use mathlib.Core.Logic.{◌⊎◌, inl, inr}
 use native.Mathlib.Nat.{eq-or-lt_of_le}
 use native.Mathlib.Numerals.{add-one}
 use native.Mathlib.Omega.{arith}
-use borrow.Author.Tests.{eq-eqb, ne_eqb}
-use lib.Dec.{T, eqb}
+use borrow.Author.Tests.{ne_eqb}
+use lib.Dec.{T}
 use Rattle.answer.specs.Faults.{refusal, no_fault, good, when, ◌or◌, first_fault, given}
-use Rattle.answer.specs.declared.Fault.{Fault}
+use Rattle.answer.specs.Faults.{Fault}
 
 pub clash : {A : Type 0} (b : Bool) → b ≡ true → b ≡ false → A
 clash b p q = absurd (subst T (sym p ∙ q) tt)
@@ -26,15 +26,6 @@ no_fault_number = refl
 pub bad_refused : (n axis place : ℕ) → good (refusal (suc n) axis place) ≡ false
 unfolding good refusal
 bad_refused n axis place = ne_eqb (suc n) 0 (λ e. omega arith)
-
--- ---- the code's test of a number
-pub passes : (r a : Fault) → r ≡ a → r.number ≡ 0 → good a ≡ true
-unfolding good
-passes r a e h = subst (λ (x : Fault). eqb x.number 0 ≡ true) e (eq-eqb r.number 0 h)
-
-pub fails : (r a : Fault) → r ≡ a → (r.number ≡ 0 → ⊥) → good a ≡ false
-unfolding good
-fails r a e h = subst (λ (x : Fault). eqb x.number 0 ≡ false) e (ne_eqb r.number 0 h)
 
 -- ---- rows
 module _ (b : Bool) (a : Fault) where
@@ -63,10 +54,6 @@ module _ (b : Bool) (a : Fault) where
       go : (t : Bool) → b ≡ t → b ≡ false
       go true e = clash (good a) (sym (ap good (when_true e)) ∙ h) n
       go false e = e
-
--- a row whose test is told by what a callee gives
-pub row_by : (r a : Fault) (s t : Bool) → r ≡ when s a → s ≡ t → r ≡ when t a
-row_by r a s t e q = e ∙ ap (λ (u : Bool). when u a) q
 
 -- ---- two checks, one after the other
 module _ (a b : Fault) where
@@ -204,30 +191,3 @@ or_assoc a b c = go (good a) refl
     go : (t : Bool) → good a ≡ t → ((a or b) or c) ≡ (a or b or c)
     go true e = ap (λ (x : Fault). x or c) (or_good a b e) ∙ sym (or_good a (b or c) e)
     go false e = ap (λ (x : Fault). x or c) (or_bad a b e) ∙ or_bad a c e ∙ sym (or_bad a (b or c) e)
-
--- what a callee gives of two faults, as what they are
-pub or_by : (r a b c d : Fault) → r ≡ (a or b) → a ≡ c → b ≡ d → r ≡ (c or d)
-or_by r a b c d e p q = e ∙ ap₂ (λ (x y : Fault). x or y) p q
-
--- ---- the same in the code's terms: r is what a check gave, and its number was tested
-module _ (r a : Fault) (e : r ≡ a) where
-  pub or_stops : (rest : Fault) → (r.number ≡ 0 → ⊥) → r ≡ (a or rest)
-  or_stops rest h = e ∙ sym (or_bad a rest (fails r a e h))
-
-  pub or_goes_on : (s rest : Fault) → r.number ≡ 0 → s ≡ rest → s ≡ (a or rest)
-  or_goes_on s rest h q = q ∙ sym (or_good a rest (passes r a e h))
-
-  module _ {A : Type 0} (x zeros : A) where
-    pub given-refused : (r.number ≡ 0 → ⊥) → zeros ≡ given a x zeros
-    given-refused h = sym (given_bad a x zeros (fails r a e h))
-
-    pub given_kept : (y : A) → r.number ≡ 0 → y ≡ x → y ≡ given a x zeros
-    given_kept y h q = q ∙ sym (given-good a x zeros (passes r a e h))
-
--- the same of two rows that one check answers for, in front of the rest
-module _ (r a b : Fault) (e : r ≡ (a or b)) where
-  pub pair_stops : (rest : Fault) → (r.number ≡ 0 → ⊥) → r ≡ (a or b or rest)
-  pair_stops rest h = or_stops r (a or b) e rest h ∙ or_assoc a b rest
-
-  pub pair_goes_on : (s rest : Fault) → r.number ≡ 0 → s ≡ rest → s ≡ (a or b or rest)
-  pair_goes_on s rest h q = or_goes_on r (a or b) e s rest h q ∙ or_assoc a b rest

@@ -5,7 +5,7 @@ use mathlib.Core.List.{List, ◌++◌}
 use lib.ListN.{length, take, drop}
 use lib.Seq.{take_at, drop_at}
 use Rattle.answer.specs.Faults.{good, given, filled_into}
-use Rattle.answer.specs.declared.Fault.{Fault}
+use Rattle.answer.specs.Faults.{Fault}
 
 pub refused_keeps : {A : Type 0} (a : Fault) (xs out : List A) → good a ≡ false → filled_into a xs out ≡ out
 unfolding filled_into given

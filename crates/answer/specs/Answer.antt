@@ -1,8 +1,7 @@
 -- "An answer holds a number, axis, place and value": made of a fault or of a value.
 use Rattle.std.specs.Prelude.{false, cond, pos, Float}
 use Rattle.std.specs.Float.{fin}
-use Rattle.answer.specs.Faults.{good}
-use Rattle.answer.specs.declared.Fault.{Fault}
+use Rattle.answer.specs.Faults.{Fault, good}
 use Rattle.answer.specs.declared.Answer.{Answer}
 
 -- +0.0

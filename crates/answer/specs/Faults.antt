@@ -1,6 +1,11 @@
 -- "Numbers the technician sees": what is wrong and where, and the algebra of orders of checks.
 use Rattle.std.specs.Prelude.{Bool, cond, List, ◌++◌, ℕ, zero, suc, eqb, length, drop}
-use Rattle.answer.specs.declared.Fault.{Fault}
+
+-- a number with its axis and place
+pub record Fault : Type 0 where
+  pub number : ℕ
+  pub axis : ℕ
+  pub place : ℕ
 
 -- demand 1: "A refusal gives its number, axis and place"
 unfoldable pub refusal : ℕ → ℕ → ℕ → Fault

@@ -1,2 +1,3 @@
 pub mod Faults
 pub mod Answer
+pub mod Rows

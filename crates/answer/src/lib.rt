@@ -1,19 +1,113 @@
-// What judges gives a fault. The answer that all calls share is made of a fault or of a value, here and nowhere else.
-#![tactic(auto)]
+// What judges gives a refusal, or passes. The answer that all calls share is made of a refusal or of a value, here and nowhere else.
+#![tactic(auto, unfolding(crate::specs::Rows::said, crate::specs::Rows::fault_of, crate::specs::Answer::answered))]
 
 ghost use Rattle.std.specs.Prelude.{◌≡◌};
-ghost use Rattle.answer.specs.Faults.{refusal, no_fault, when, ◌or◌};
+ghost use Rattle.answer.specs.Rows.{number_of, fault_of, said};
+ghost use Rattle.answer.specs.Faults.{refusal, when};
 ghost use Rattle.answer.specs.Answer.{refused, answered, fine};
 
-// What is wrong, and where: its number, axis and place. The number 0 says that nothing is.
+use std::convert::From;
+
+// The table of numbers, row by row: what can be wrong.
+#[derive(Clone, Copy, PartialEq, Eq)]
+pub enum Row {
+    // 1: axes not 1 to 4
+    Axes,
+    // 2: a count outside 2 to 64
+    Count,
+    // 3: a lent length differs
+    Length,
+    // 4: node not finite
+    Node,
+    // 5: node not above the one before
+    Rise,
+    // 6: difference of neighbours not finite
+    Difference,
+    // 7: value not finite
+    Value,
+    // 8: axis not uniform
+    Uniform,
+    // 9: a direction other than lower and upper
+    Direction,
+    // 10: reading NaN or infinite
+    Reading,
+    // 11: reading outside its axis
+    Range,
+    // 12: computed result not finite
+    Computed,
+    // 13: image header wrong
+    Header,
+    // 14: an area off its place
+    Area,
+    // 15: an output too short
+    Room,
+    // 16: a slice on no such axis
+    Slice,
+    // 17: as many records as a tally takes
+    Limit,
+    // 18: two areas share a byte
+    Overlap,
+}
+
+impl Row {
+    // The number that the technician sees.
+    pub fn number(self) -> u32
+        ensures { result ≡ number_of self }
+    {
+        match self {
+            Row::Axes => 1,
+            Row::Count => 2,
+            Row::Length => 3,
+            Row::Node => 4,
+            Row::Rise => 5,
+            Row::Difference => 6,
+            Row::Value => 7,
+            Row::Uniform => 8,
+            Row::Direction => 9,
+            Row::Reading => 10,
+            Row::Range => 11,
+            Row::Computed => 12,
+            Row::Header => 13,
+            Row::Area => 14,
+            Row::Room => 15,
+            Row::Slice => 16,
+            Row::Limit => 17,
+            Row::Overlap => 18,
+        }
+    }
+
+    // The row, met at an axis and a place.
+    pub fn at(self, axis: usize, place: usize) -> Refusal
+        ensures { fault_of result ≡ refusal (number_of self) axis place }
+    {
+        Refusal {
+            row: self,
+            axis,
+            place,
+        }
+    }
+
+    // The check of the row: refused exactly where its condition is met.
+    pub fn refuse_if(self, met: bool, axis: usize, place: usize) -> Result<(), Refusal>
+        ensures { said result ≡ when met (refusal (number_of self) axis place) }
+    {
+        if met {
+            Err(self.at(axis, place))
+        } else {
+            Ok(())
+        }
+    }
+}
+
+// What is wrong, and where: the row of the table of numbers that is met, with its axis and place.
 #[derive(Clone, Copy)]
-pub struct Fault {
-    pub number: u32,
+pub struct Refusal {
+    pub row: Row,
     pub axis: usize,
     pub place: usize,
 }
 
-// What a technician sees: a fault's number, axis and place, or 0, 0, 0; and a value.
+// What a technician sees: a refusal's number, axis and place, or 0, 0, 0; and a value.
 #[repr(C)]
 #[derive(Clone, Copy)]
 pub struct Answer {
@@ -23,63 +117,31 @@ pub struct Answer {
     pub value: f64,
 }
 
-// The fault of a row of the table of numbers that is met.
-pub fn refusal(number: u32, axis: usize, place: usize) -> Fault
-    ensures { result ≡ refusal number axis place }
-{
-    Fault {
-        number,
-        axis,
-        place,
-    }
-}
+// The answer of a refusal: its number, axis and place, and the value +0.0.
+impl From<Refusal> for Answer {
+    ghost from_gives = { λ r a. a ≡ refused (fault_of r) };
 
-// Nothing is wrong.
-pub fn no_fault() -> Fault
-    ensures { result ≡ no_fault }
-{
-    refusal(0, 0, 0)
-}
-
-// A row of the table of numbers: its fault exactly where its condition is met.
-pub fn row(met: bool, number: u32, axis: usize, place: usize) -> Fault
-    ensures { result ≡ when met (refusal number axis place) }
-{
-    if met {
-        refusal(number, axis, place)
-    } else {
-        no_fault()
-    }
-}
-
-// Two checks, one after the other: the first fault found.
-pub fn or(first: Fault, second: Fault) -> Fault
-    ensures { result ≡ (first or second) }
-{
-    if first.number != 0 { first } else { second }
-}
-
-// The answer of a fault: its number, axis and place, and the value +0.0.
-pub fn refuse(fault: Fault) -> Answer
-    ensures { result ≡ refused fault }
-{
-    Answer {
-        number: fault.number,
-        axis: fault.axis,
-        place: fault.place,
-        value: 0.0,
+    fn from(refusal: Refusal) -> Answer {
+        Answer {
+            number: refusal.row.number(),
+            axis: refusal.axis,
+            place: refusal.place,
+            value: 0.0,
+        }
     }
 }
 
 // The answer of a value: 0, 0, 0 and the value.
-pub fn succeed(value: f64) -> Answer
-    ensures { result ≡ answered value }
-{
-    Answer {
-        number: 0,
-        axis: 0,
-        place: 0,
-        value,
+impl From<f64> for Answer {
+    ghost from_gives = { λ x a. a ≡ answered x };
+
+    fn from(value: f64) -> Answer {
+        Answer {
+            number: 0,
+            axis: 0,
+            place: 0,
+            value,
+        }
     }
 }
 
@@ -87,5 +149,5 @@ pub fn succeed(value: f64) -> Answer
 pub fn pass() -> Answer
     ensures { result ≡ fine }
 {
-    succeed(0.0)
+    Answer::from(0.0)
 }

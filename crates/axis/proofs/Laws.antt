@@ -1,5 +1,5 @@
 -- Laws of the locations that a user would quote, on a good axis and a finite reading. Assumes nothing.
-use Rattle.std.proofs.Common.{◌≡◌, ℕ, zero, suc, ◌+◌, ◌-◌, ◌<◌, min, true, false, List, [], ◌∷◌, length, pos, sym, refl, ap, ◌∙◌, subst, add-one, arith}
+use Rattle.std.proofs.Common.{◌≡◌, ℕ, zero, suc, ◌+◌, ◌-◌, ◌<◌, min, true, false, List, [], ◌∷◌, length, pos, sym, refl, ap, ◌∙◌, subst, add-one, arith, Some}
 use lib.Ieee.{Float, nan, inf, fin, binary64, lt, le, eq, sub, div, of_int, to_unsigned}
 use lib.Ieee.Scale.{finite}
 use Rattle.answer.specs.Answer.{plus_zero}
@@ -18,7 +18,6 @@ use Rattle.axis.proofs.picks.Laws.{from_lower, before_node, at_lower}
 use Rattle.rust.specs.declared.AxisLocation.TheVariants.{Exact}
 use Rattle.axis.specs.Locations.{fraction, axis_location}
 use Rattle.axis.specs.Exact.{exact_node}
-use Rattle.rust.specs.declared.MaybeIndex.TheVariants.{Some}
 use Rattle.axis.proofs.exact.Exacts.{exact_lower, exact_upper}
 
 -- what lies from 0 up to a finite number is finite

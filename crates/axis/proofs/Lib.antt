@@ -1,4 +1,3 @@
-pub mod Exacts
 pub mod Laws
 pub mod Located
 pub mod Texts

@@ -1,5 +1,5 @@
 -- The location of a reading, by either of the two linears, lies on its axis. Assumes nothing.
-use Rattle.std.proofs.Common.{◌≡◌, ℕ, ◌+◌, ◌-◌, ◌<◌, ◌≤◌, min, Bool, true, false, cond, List, length, pos, sym, ap, ◌∙◌, arith, le-ltb, lt-ltb}
+use Rattle.std.proofs.Common.{◌≡◌, ℕ, ◌+◌, ◌-◌, ◌<◌, ◌≤◌, min, Bool, true, false, cond, List, length, pos, ap, arith, le-ltb, Some, None}
 use lib.Ieee.{Float, fin, lt, eq, to_unsigned}
 use lib.Ieee.Scale.{finite}
 use Rattle.answer.specs.Answer.{plus_zero}
@@ -13,7 +13,6 @@ use Rattle.axis.proofs.cells.Cells.{cell_inside}
 use Rattle.axis.specs.Locations.{exact_or, fraction, axis_location, uniform_location, location_index}
 use Rattle.axis.specs.Scaffolding.{location_by, location_found, upper_of}
 use Rattle.axis.specs.Exact.{exact_node}
-use Rattle.rust.specs.declared.MaybeIndex.TheVariants.{Some, None}
 
 -- ---- of any location
 pub lower_upper : (p : AxisLocation) → location_index p ≤ upper_of p
@@ -56,14 +55,3 @@ module _ (xs : List Float) (p : Float) (ax : Axis xs) (fp : finite p ≡ true) w
   pub location_found_lem : (uniform : Bool) → location_found uniform xs p ≡ location_by uniform xs p
   unfolding location_found
   location_found_lem uniform = ap (λ (b : Bool). cond b (Between 0 plus_zero) (location_by uniform xs p)) (le-ltb (length xs) 2 ax.enough)
-
--- ---- of any list at all
-module _ (uniform : Bool) (xs : List Float) (p : Float) where
-  pub location_none : length xs < 2 → Between 0 plus_zero ≡ location_found uniform xs p
-  unfolding location_found
-  location_none h = sym (ap (λ (b : Bool). cond b (Between 0 plus_zero) (location_by uniform xs p)) (lt-ltb (length xs) 2 h))
-
-  pub location_some : 2 ≤ length xs → (given : Bool) → uniform ≡ given → (l : AxisLocation) → l ≡ location_by given xs p → l ≡ location_found uniform xs p
-  unfolding location_found
-  location_some n given e l q =
-      q ∙ sym (ap (λ (b : Bool). cond b (Between 0 plus_zero) (location_by uniform xs p)) (le-ltb (length xs) 2 n) ∙ ap (λ (b : Bool). location_by b xs p) e)

@@ -1,12 +1,11 @@
 -- The Rust's text of strategy/utils.rs is the paper's rules: on a good axis and a finite reading where it searches, for every input where it does not. Assumes nothing.
-use Rattle.std.proofs.Common.{◌≡◌, ℕ, zero, suc, ◌+◌, ◌-◌, ◌*◌, ◌/◌, ◌^◌, ◌<◌, ◌≤◌, min, Bool, true, false, cond, ◌&&◌, eqb, ltb, List, [], ◌∷◌, length, get_or, pos, negsuc, sym, refl, ap, ◌∙◌, subst, ap₂, add-zero, div-lt_iff_lt-mul, mul-one, arith, pow_pos, ltb-false, ltb-true, lt-ltb}
+use Rattle.std.proofs.Common.{◌≡◌, ℕ, zero, suc, ◌+◌, ◌-◌, ◌*◌, ◌/◌, ◌^◌, ◌<◌, ◌≤◌, min, Bool, true, false, cond, ◌&&◌, eqb, ltb, List, [], ◌∷◌, length, get_or, pos, negsuc, sym, refl, ap, ◌∙◌, subst, ap₂, add-zero, div-lt_iff_lt-mul, mul-one, arith, pow_pos, ltb-false, ltb-true, lt-ltb, Option, Some, None}
 use native.Mathlib.Nat.{div-eq_of_lt}
 use lib.Ieee.{Float, nan, inf, fin, Format, prec, emax, low, binary64, lt, le, sub, add, mul, div, odd, units, round, to_unsigned}
 use lib.Ieee.Scale.{finite}
 use lib.Ieee.Positive.{den}
-use Rattle.answer.specs.Faults.{good, no_fault, refusal, when, ◌or◌, first_fault}
+use Rattle.answer.specs.Faults.{Fault, good, no_fault, refusal, when, ◌or◌, first_fault}
 use Rattle.answer.specs.Answer.{plus_zero}
-use Rattle.answer.specs.declared.Fault.{Fault}
 use Rattle.answer.proofs.Orders.{clash, good-no_fault, bad_refused, or_good, or_bad, or_no_fault}
 use Rattle.binary64.proofs.Order as order
 use Rattle.binary64.proofs.Difference.{sub_is}
@@ -15,8 +14,6 @@ use Rattle.checks.specs.Numbers.{apart, gap_fault, uniform_fault, default_tolera
 use Rattle.checks.specs.Passed.{Axis}
 use Rattle.rust.specs.Utils.{at, frac_of, bisected, lower_of, locate_lower_index, exact_index, matched, locate_axis, lower_by, upper_by, locate_step_index, floor, to_usize, unwrap_or, cell_of, locate_lower_index_uniform, Validated, ok, non_uniform, spacing_at, diff_of, gaps_from, validate_uniform_grid, doubled, abs, epsilon, tolerance_of, validate_uniform_grid_epsilon}
 use Rattle.rust.specs.Strategies.{nearest_at, uniform_lower, uniform_diff, or_else, validate_from, validate_linear_uniform}
-use Rattle.rust.specs.declared.MaybeIndex.{MaybeIndex}
-use Rattle.rust.specs.declared.MaybeIndex.TheVariants.{Some, None}
 use Rattle.rust.specs.declared.AxisLocation.TheVariants.{Between}
 use Rattle.axis.specs.Cells.{lower_index}
 use Rattle.axis.specs.Exact.{exact_node}
@@ -73,7 +70,7 @@ unfolding exact_index exact_node
 exact_text xs lower p = refl
 
 -- ---- locate_axis, locate_step_index, and Nearest on one axis
-matched_or : (m : MaybeIndex) (lower : ℕ) (frac : Float) → matched m lower frac ≡ exact_or m (Between lower frac)
+matched_or : (m : Option ℕ) (lower : ℕ) (frac : Float) → matched m lower frac ≡ exact_or m (Between lower frac)
 matched_or (Some idx) lower frac = refl
 matched_or None lower frac = refl
 

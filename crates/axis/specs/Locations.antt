@@ -1,13 +1,11 @@
 -- Where a reading lies on an axis, by Linear's rule (`locate_axis`) and by LinearUniform's: the exact node, or a cell with a fraction.
-use Rattle.std.specs.Prelude.{ℕ, List, length, Float}
+use Rattle.std.specs.Prelude.{ℕ, List, length, Float, Option, Some, None}
 use Rattle.std.specs.Float.{binary64}
 use Rattle.std.specs.Float.Ieee.{sub, div}
 use Rattle.checks.specs.Nodes.{node, gap}
 use Rattle.axis.specs.Cells.{lower_index}
 use Rattle.axis.specs.Exact.{exact_node}
 use Rattle.axis.specs.Uniform.{uniform_index}
-use Rattle.rust.specs.declared.MaybeIndex.{MaybeIndex}
-use Rattle.rust.specs.declared.MaybeIndex.TheVariants.{Some, None}
 use Rattle.rust.specs.declared.AxisLocation.{AxisLocation}
 use Rattle.rust.specs.declared.AxisLocation.TheVariants.{Exact, Between}
 
@@ -17,7 +15,7 @@ unfoldable pub fraction : List Float → ℕ → Float → Float
 fraction nodes lower p = div binary64 (sub binary64 p (node nodes lower)) (gap nodes lower)
 
 -- "either the exact node or a lower index with a fraction"
-abbrev pub exact_or : MaybeIndex → AxisLocation → AxisLocation
+abbrev pub exact_or : Option ℕ → AxisLocation → AxisLocation
 exact_or (Some i) between = Exact i
 exact_or None between = between
 

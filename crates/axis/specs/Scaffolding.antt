@@ -9,6 +9,8 @@ use Rattle.axis.specs.Locations.{axis_location, uniform_location}
 use Rattle.axis.specs.Steps.{step_index}
 use Rattle.axis.specs.Picks.{nearest_index}
 use Rattle.axis.specs.Cells.{lower_index}
+use Rattle.axis.specs.declared.picks.Pick.{Pick}
+use Rattle.axis.specs.declared.picks.Pick.TheVariants.{Lower, Upper, Nearest}
 
 -- ---- locations
 
@@ -27,6 +29,12 @@ upper_of (Exact node) = node
 upper_of (Between lower frac) = lower + 1
 
 -- ---- picks: Nearest and Step share their code. A pick of 0 is Lower, of 1 Upper, of anything else Nearest
+
+-- a pick as a number
+abbrev pub code_of : Pick → ℕ
+code_of Lower = 0
+code_of Upper = 1
+code_of Nearest = 2
 
 -- the node that a pick takes
 unfoldable pub pick_index : ℕ → List Float → Float → ℕ

@@ -1,20 +1,22 @@
 // The location of a reading: the exact node, or the cell with a fraction. By Linear's rule or by LinearUniform's.
+#![tactic(auto, using(crate::proofs::cells::Cells::cell_inside, crate::proofs::Located::uniform_index_fits), unfolding(crate::specs::Locations::fraction, crate::specs::Locations::axis_location, crate::specs::Locations::uniform_location, crate::specs::Scaffolding::location_found, checks::specs::Nodes::gap, crate::specs::Exact::exact_node))]
+
 ghost use Rattle.std.specs.Prelude.{◌≡◌, ◌≤◌, length};
 ghost use Rattle.axis.specs.Locations.{axis_location, location_index, uniform_location};
 ghost use Rattle.axis.specs.Scaffolding.{location_found};
 
 use crate::{cells, exact, uniform};
-use rust::{AxisLocation, MaybeIndex};
+use rust::AxisLocation;
 
 // The location by Linear's rule.
 fn axis_location(grid: &[f64], point: f64) -> AxisLocation
     requires { 2 ≤ length grid.now }
     ensures { result ≡ axis_location grid.now point }
 {
-    let lower = cells::cell_index(grid, point);
+    let lower = cells::lower_index(grid, point);
     match exact::exact_node(grid, lower, point) {
-        MaybeIndex::Some(node) => AxisLocation::Exact(node),
-        MaybeIndex::None => {
+        Some(node) => AxisLocation::Exact(node),
+        None => {
             let frac = (point - grid[lower]) / (grid[lower + 1] - grid[lower]);
             AxisLocation::Between { lower, frac }
         }
@@ -55,6 +57,6 @@ pub fn lower_node(location: AxisLocation) -> usize
 {
     match location {
         AxisLocation::Exact(node) => node,
-        AxisLocation::Between { lower, frac: _ } => lower,
+        AxisLocation::Between { lower, .. } => lower,
     }
 }

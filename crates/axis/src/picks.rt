@@ -1,12 +1,34 @@
-// The node that a rule picks: Step's, by the Rust's own expressions, or Nearest's. A pick of 0 is Lower, of 1 Upper, of anything else
-// Nearest.
-ghost use Rattle.std.specs.Prelude.{◌≡◌, ◌≤◌, length};
+// The node that a rule picks: Step's, by the Rust's own expressions, or Nearest's.
+#![tactic(auto, using(crate::proofs::cells::Cells::cell_inside), unfolding(crate::specs::Picks::nearest_index, crate::specs::Scaffolding::rust_step, crate::specs::Scaffolding::pick_found))]
+
+ghost use Rattle.std.specs.Prelude.{◌≡◌, ◌≤◌, min, length};
 ghost use Rattle.axis.specs.Cells.{lower_index};
 ghost use Rattle.rust.specs.Utils.{lower_by, upper_by};
 ghost use Rattle.axis.specs.Picks.{nearest_index};
-ghost use Rattle.axis.specs.Scaffolding.{rust_step, pick_found};
+ghost use Rattle.axis.specs.Scaffolding.{code_of, pick_found};
 
 use crate::cells;
+
+// What picks a node: one of Step's two directions, or Nearest.
+#[derive(Clone, Copy, PartialEq, Eq)]
+pub enum Pick {
+    Lower,
+    Upper,
+    Nearest,
+}
+
+impl Pick {
+    // Step's pick by its direction: 0 is Lower, anything else Upper.
+    pub fn toward(direction: u8) -> Pick
+        ensures { code_of result ≡ min direction 1 }
+    {
+        if direction == 0 {
+            Pick::Lower
+        } else {
+            Pick::Upper
+        }
+    }
+}
 
 // Step's lower node: a reading on a node lies in the cell below it, so the node is one further up.
 fn lower_step(grid: &[f64], point: f64) -> usize
@@ -14,7 +36,7 @@ fn lower_step(grid: &[f64], point: f64) -> usize
     ensures { result ≡ lower_by grid.now (lower_index grid.now point) point }
 {
     let n = grid.len();
-    let lower = cells::cell_index(grid, point);
+    let lower = cells::lower_index(grid, point);
     if point == grid[n - 1] {
         n - 1
     } else if point == grid[lower + 1] {
@@ -32,19 +54,7 @@ fn upper_step(grid: &[f64], point: f64) -> usize
     if point == grid[0] {
         0
     } else {
-        cells::cell_index(grid, point) + 1
-    }
-}
-
-// Step's node by its direction.
-fn step_index(direction: u8, grid: &[f64], point: f64) -> usize
-    requires { 2 ≤ length grid.now }
-    ensures { result ≡ rust_step direction grid.now point }
-{
-    if direction == 0 {
-        lower_step(grid, point)
-    } else {
-        upper_step(grid, point)
+        cells::lower_index(grid, point) + 1
     }
 }
 
@@ -53,7 +63,7 @@ fn nearest_index(grid: &[f64], point: f64) -> usize
     requires { 2 ≤ length grid.now }
     ensures { result ≡ nearest_index grid.now point }
 {
-    let lower = cells::cell_index(grid, point);
+    let lower = cells::lower_index(grid, point);
     if point - grid[lower] < grid[lower + 1] - point {
         lower
     } else {
@@ -62,15 +72,15 @@ fn nearest_index(grid: &[f64], point: f64) -> usize
 }
 
 // The index that a pick gives; 0 on fewer than two nodes, which have no cell.
-pub fn pick_index(pick: u8, grid: &[f64], point: f64) -> usize
-    ensures { result ≡ pick_found pick grid.now point }
+pub fn pick_index(pick: Pick, grid: &[f64], point: f64) -> usize
+    ensures { result ≡ pick_found (code_of pick) grid.now point }
 {
     if grid.len() < 2 {
         return 0;
     }
-    if pick < 2 {
-        step_index(pick, grid, point)
-    } else {
-        nearest_index(grid, point)
+    match pick {
+        Pick::Lower => lower_step(grid, point),
+        Pick::Upper => upper_step(grid, point),
+        Pick::Nearest => nearest_index(grid, point),
     }
 }

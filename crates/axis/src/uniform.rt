@@ -1,4 +1,6 @@
 // The index of a reading on a uniform axis, for every input.
+#![tactic(auto, unfolding(crate::specs::Uniform::uniform_cell, crate::specs::Uniform::uniform_index))]
+
 ghost use Rattle.std.specs.Prelude.{◌≡◌};
 ghost use Rattle.axis.specs.Uniform.{uniform_cell, uniform_index};
 
@@ -7,15 +9,11 @@ ghost use Rattle.axis.specs.Uniform.{uniform_cell, uniform_index};
 fn uniform_cell(n: usize, t: f64) -> usize
     ensures { result ≡ uniform_cell n t }
 {
-    if n < 2 {
-        return 0;
-    }
     if t < 0.0 {
-        return 0;
-    }
-    if t < 18446744073709551616.0 {
+        0
+    } else if t < 18446744073709551616.0 {
         let whole = std::num::truncating_f64_to_u64(t) as usize;
-        if whole < n - 2 { whole } else { n - 2 }
+        whole.min(n.saturating_sub(2))
     } else {
         0
     }

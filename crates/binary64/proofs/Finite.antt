@@ -1,9 +1,17 @@
--- A sum or a product is finite only where both of its parts are. Assumes nothing.
+-- Which numbers are finite; a sum or a product only where both of its parts are. Assumes nothing.
 use mathlib.Core.Path.{◌≡◌, refl, sym, ◌∙◌, subst}
 use mathlib.Core.Bool.{Bool, true, false, cond, beq}
 use lib.Dec.{T, eqb}
 use lib.Ieee.{Float, nan, inf, fin, binary64, add, mul, unlike}
 use lib.Ieee.Scale.{finite}
+use Rattle.std.specs.Float.{float_is_finite}
+
+-- the test of the library, and its word for what is finite
+pub test_is : (x : Float) → float_is_finite x ≡ finite x
+unfolding float_is_finite
+test_is nan = refl
+test_is (inf s) = refl
+test_is (fin s m e) = refl
 
 no : {A : Type 0} → false ≡ true → A
 no e = absurd (subst T (sym e) tt)

@@ -1,5 +1,6 @@
 -- A blend of finite numbers of the format stays finite where its fraction lies between 0 and 1, both included, as Linear's does at every reading in range.
 -- Assumes nothing.
+use Rattle.std.proofs.Common.{Option, Some, None}
 use mathlib.Core.Path.{◌≡◌, subst}
 use mathlib.Core.Bool.{true}
 use mathlib.Core.List.{List, [], ◌∷◌}
@@ -18,8 +19,6 @@ use Rattle.checks.specs.Nodes.{node, gap}
 use Rattle.checks.specs.Passed.{Axis}
 use Rattle.rust.specs.declared.AxisLocation.{AxisLocation}
 use Rattle.rust.specs.declared.AxisLocation.TheVariants.{Exact, Between}
-use Rattle.rust.specs.declared.MaybeIndex.{MaybeIndex}
-use Rattle.rust.specs.declared.MaybeIndex.TheVariants.{Some, None}
 use Rattle.axis.specs.Cells.{lower_index}
 use Rattle.axis.specs.Exact.{exact_node}
 use Rattle.axis.specs.Locations.{fraction, exact_or, axis_location}
@@ -82,7 +81,7 @@ pub location_fair : (xs : List Float) (p : Float) → Axis xs → finite p ≡ t
 unfolding axis_location
 location_fair xs p ax fp held u v = go (exact_node xs (lower_index xs p) p)
   where
-    go : (e : MaybeIndex) → Fair (exact_or e (Between (lower_index xs p) (fraction xs (lower_index xs p) p)))
+    go : (e : Option ℕ) → Fair (exact_or e (Between (lower_index xs p) (fraction xs (lower_index xs p) p)))
     go (Some i) = tt
     go None = (fraction_unit xs p ax fp held u v, fraction_fits)
       where

@@ -13,11 +13,9 @@ fn pass_over(vals: &mut [f64], half: usize, f: f64)
     requires { half + half ≤ length vals.old }
     ensures { vals.new ≡ passed_over f half vals.old }
 {
-    let mut i: usize = 0;
-    while i < half {
-        let j = i + half;
-        vals[i] = crate::blend(vals[i], vals[j], f);
-        i += 1;
+    let (low, high) = vals.split_at_mut(half);
+    for (i, a) in low.iter_mut().enumerate() {
+        *a = crate::blend(*a, high[i], f);
     }
 }
 
@@ -26,10 +24,9 @@ fn merge(location: AxisLocation, vals: &mut [f64], half: usize)
     requires { grown location half ≤ length vals.old }
     ensures { vals.new ≡ merged location half vals.old }
 {
-    let AxisLocation::Between { lower: _, frac } = location else {
-        return;
-    };
-    pass_over(vals, half, frac);
+    if let AxisLocation::Between { frac, .. } = location {
+        pass_over(vals, half, frac);
+    }
 }
 
 // How many corners one axis leaves.
@@ -38,20 +35,18 @@ fn half_of(location: AxisLocation, count: usize) -> usize
 {
     match location {
         AxisLocation::Exact(_) => count,
-        AxisLocation::Between { lower: _, frac: _ } => count / 2,
+        AxisLocation::Between { .. } => count / 2,
     }
 }
 
-// How many corners the first n axes have.
-fn corner_count(locations: [AxisLocation; 4], n: usize) -> usize
-    ensures { result ≡ 2 ^ length (diffs (take n locations)) }
+// How many corners some axes have, of which there are at most four.
+fn corner_count(locations: &[AxisLocation]) -> usize
+    requires { length locations.now ≤ 4 }
+    ensures { result ≡ 2 ^ length (diffs locations.now) }
 {
     let mut count: usize = 1;
-    let mut d = layout::least(n, 4);
-    while d > 0 {
-        d -= 1;
-        let location = locations[d];
-        count = crate::grow(location, count);
+    for location in locations {
+        count = crate::grow(*location, count);
     }
     count
 }
@@ -60,17 +55,13 @@ fn corner_count(locations: [AxisLocation; 4], n: usize) -> usize
 fn fold(mut vals: [f64; 16], locations: [AxisLocation; 4], n: usize) -> f64
     ensures { result ≡ butterfly (diffs (take n locations)) vals }
 {
-    let axes = layout::least(n, 4);
-    let mut half = corner_count(locations, axes);
-    let v: &mut [f64] = &mut vals;
-    let mut d: usize = 0;
-    while d < axes {
-        let location = locations[d];
-        half = half_of(location, half);
-        merge(location, v, half);
-        d += 1;
+    let axes = &locations[..n.min(4)];
+    let mut half = corner_count(axes);
+    for location in axes {
+        half = half_of(*location, half);
+        merge(*location, &mut vals, half);
     }
-    v[0]
+    vals[0]
 }
 
 // The fold's value, or 12.
@@ -78,9 +69,8 @@ pub fn fold_answer(vals: [f64; 16], locations: [AxisLocation; 4], n: usize) -> A
     ensures { result ≡ computed (butterfly (diffs (take n locations)) vals) }
 {
     let value = fold(vals, locations, n);
-    let fault = numbers::result_fault(0, value);
-    if fault.number != 0 {
-        return answer::refuse(fault);
+    match numbers::result_fault(0, value) {
+        Ok(()) => Answer::from(value),
+        Err(refusal) => Answer::from(refusal),
     }
-    answer::succeed(value)
 }

@@ -1,7 +1,7 @@
 // What the two linears compute with: the blend of two values, and how many corners one axis more gives.
-#![tactic(auto)]
+#![tactic(auto, unfolding(crate::specs::Blend::blended))]
 
-ghost use Rattle.std.specs.Prelude.{◌≡◌, ◌+◌, min};
+ghost use Rattle.std.specs.Prelude.{◌≡◌};
 ghost use Rattle.blend.specs.Blend.{blended};
 ghost use Rattle.blend.specs.Scaffolding.{more_corners};
 
@@ -21,19 +21,12 @@ pub(crate) fn blend(a: f64, b: f64, f: f64) -> f64
 
 // ---- the corners of a reading
 
-// Twice a count of corners, at most 16.
-fn double(count: usize) -> usize
-    ensures { result ≡ min (count + count) 16 }
-{
-    if count < 8 { count + count } else { 16 }
-}
-
-// How many corners there are with one axis more.
+// How many corners there are with one axis more: twice as many where it is blended, at most 16.
 pub fn grow(location: AxisLocation, count: usize) -> usize
     ensures { result ≡ more_corners location count }
 {
     match location {
         AxisLocation::Exact(_) => count,
-        AxisLocation::Between { lower: _, frac: _ } => double(count),
+        AxisLocation::Between { .. } => count.min(8) * 2,
     }
 }

@@ -1,20 +1,16 @@
 -- "When an answer is an enum, a definition gives this paper's number and values for each of its cases": what C gets in the place of one.
-use Rattle.std.specs.Prelude.{cond, ℕ, eqb, Float}
+use Rattle.std.specs.Prelude.{cond, ℕ, eqb, Float, Option, Some, None}
 use Rattle.axis.specs.Locations.{location_index}
-use Rattle.rust.specs.declared.MaybeIndex.{MaybeIndex}
-use Rattle.rust.specs.declared.MaybeIndex.TheVariants.{Some, None}
 use Rattle.rust.specs.declared.AxisLocation.{AxisLocation}
 use Rattle.rust.specs.declared.AxisLocation.TheVariants.{Exact, Between}
 use Rattle.utils.specs.Calls.{index_of, location_fraction}
 use Rattle.utils.specs.declared.ExactAnswer.{ExactAnswer}
 use Rattle.utils.specs.declared.AxisAnswer.{AxisAnswer}
-use Rattle.utils.specs.declared.Tolerance.{Tolerance}
-use Rattle.utils.specs.declared.Tolerance.TheVariants.{Lent, Default}
 use Rattle.board.specs.declared.plain.PlainExact.{PlainExact}
 use Rattle.board.specs.declared.plain.PlainLocation.{PlainLocation}
 
 -- "else none": 1 where there is such a node
-abbrev pub found_of : MaybeIndex → ℕ
+abbrev pub found_of : Option ℕ → ℕ
 found_of (Some i) = 1
 found_of None = 0
 
@@ -31,5 +27,5 @@ plain_location a =
     record { answer = a.answer; between = between_of a.location; index = location_index a.location; fraction = location_fraction a.location }
 
 -- a tolerance that is lent, or the default where lent is 0
-unfoldable pub tolerance_by : ℕ → Float → Tolerance
-tolerance_by lent tolerance = cond (eqb lent 0) Default (Lent tolerance)
+unfoldable pub tolerance_by : ℕ → Float → Option Float
+tolerance_by lent tolerance = cond (eqb lent 0) None (Some tolerance)

@@ -3,8 +3,8 @@ ghost use Rattle.std.specs.Prelude.{◌≡◌};
 ghost use Rattle.board.specs.Plain.{plain_exact, plain_location, tolerance_by};
 
 use answer::Answer;
-use rust::{AxisLocation, MaybeIndex};
-use utils::{AxisAnswer, ExactAnswer, Tolerance};
+use rust::AxisLocation;
+use utils::{AxisAnswer, ExactAnswer};
 
 // What `exact_index` answers: found is 1 where a node equals the reading and index is that node; else both are 0.
 #[repr(C)]
@@ -26,53 +26,52 @@ pub struct PlainLocation {
 }
 
 // An index or none, as plain numbers.
-pub(crate) fn plain_exact(exact: ExactAnswer) -> PlainExact
-    ensures { result ≡ plain_exact exact }
-{
-    let answer = exact.answer;
-    let index = exact.index;
-    match index {
-        MaybeIndex::Some(index) => PlainExact {
-            answer,
-            found: 1,
-            index,
-        },
-        MaybeIndex::None => PlainExact {
-            answer,
-            found: 0,
-            index: 0,
-        },
+impl From<ExactAnswer> for PlainExact {
+    ghost from_gives = { λ a r. r ≡ plain_exact a };
+
+    fn from(exact: ExactAnswer) -> PlainExact {
+        let answer = exact.answer;
+        match exact.index {
+            Some(index) => PlainExact {
+                answer,
+                found: 1,
+                index,
+            },
+            None => PlainExact {
+                answer,
+                found: 0,
+                index: 0,
+            },
+        }
     }
 }
 
 // A location, as plain numbers.
-pub(crate) fn plain_location(located: AxisAnswer) -> PlainLocation
-    ensures { result ≡ plain_location located }
-{
-    let answer = located.answer;
-    let location = located.location;
-    match location {
-        AxisLocation::Exact(node) => PlainLocation {
-            answer,
-            between: 0,
-            index: node,
-            fraction: 0.0,
-        },
-        AxisLocation::Between { lower, frac } => PlainLocation {
-            answer,
-            between: 1,
-            index: lower,
-            fraction: frac,
-        },
+impl From<AxisAnswer> for PlainLocation {
+    ghost from_gives = { λ a r. r ≡ plain_location a };
+
+    fn from(located: AxisAnswer) -> PlainLocation {
+        let answer = located.answer;
+        match located.location {
+            AxisLocation::Exact(node) => PlainLocation {
+                answer,
+                between: 0,
+                index: node,
+                fraction: 0.0,
+            },
+            AxisLocation::Between { lower, frac } => PlainLocation {
+                answer,
+                between: 1,
+                index: lower,
+                fraction: frac,
+            },
+        }
     }
 }
 
 // The tolerance that is lent, or the default one where lent is 0.
-pub(crate) fn tolerance_by(lent: u32, tolerance: f64) -> Tolerance
+pub(crate) fn tolerance_by(lent: u32, tolerance: f64) -> Option<f64>
     ensures { result ≡ tolerance_by lent tolerance }
 {
-    if lent == 0 {
-        return Tolerance::Default;
-    }
-    Tolerance::Lent(tolerance)
+    if lent == 0 { None } else { Some(tolerance) }
 }

@@ -20,7 +20,7 @@ pub fn ng_locate_lower_index(grid: &[f64], point: f64) -> IndexAnswer
 pub fn ng_locate_axis(grid: &[f64], point: f64) -> PlainLocation
     ensures { result ≡ plain_location (locate_axis grid.now point) }
 {
-    plain::plain_location(utils::locate_axis(grid, point))
+    PlainLocation::from(utils::locate_axis(grid, point))
 }
 
 // The node that Step takes: at or below a reading by the direction 0, at or above it by 1.
@@ -34,7 +34,7 @@ pub fn ng_locate_step_index(direction: u8, grid: &[f64], point: f64) -> IndexAns
 pub fn ng_exact_index(grid: &[f64], lower: usize, point: f64) -> PlainExact
     ensures { result ≡ plain_exact (exact_index grid.now lower point) }
 {
-    plain::plain_exact(utils::exact_index(grid, lower, point))
+    PlainExact::from(utils::exact_index(grid, lower, point))
 }
 
 // The lower node of a reading's cell on a uniform axis, by its first node and its step.

@@ -3,9 +3,8 @@ use Rattle.std.specs.Prelude.{Bool, false, not, ◌&&◌, ◌||◌, cond, List, 
 use Rattle.std.specs.Float.{fin, nan, binary64}
 use Rattle.std.specs.Float.Ieee.{lt, sub, mul}
 use Rattle.std.specs.Float.Ieee.Scale.{finite}
-use Rattle.answer.specs.Faults.{refusal, when, ◌or◌, first_fault}
+use Rattle.answer.specs.Faults.{Fault, refusal, when, ◌or◌, first_fault}
 use Rattle.answer.specs.Answer.{plus_zero}
-use Rattle.answer.specs.declared.Fault.{Fault}
 use Rattle.layout.specs.Shape.{counts_of, size}
 use Rattle.layout.specs.Layout.{axes_of}
 use Rattle.layout.specs.declared.Shape.{Shape}

@@ -1,14 +1,14 @@
 -- Not for the reader of the promises: what the functions below the calls ask for and give one another.
 -- The checker holds the code to it, and no promise cites it.
-use Rattle.std.specs.Prelude.{◌≡◌, Bool, true, false, List, [], ℕ, ◌+◌, ◌-◌, ◌≤◌, ◌<◌, min, get_or, length, Float}
-use Rattle.answer.specs.Faults.{no_fault, given, first_fault}
-use Rattle.answer.specs.declared.Fault.{Fault}
+use Rattle.std.specs.Prelude.{◌≡◌, List, [], ℕ, ◌≤◌, ◌<◌, get_or, length, Float, Result}
+use Rattle.std.specs.Borrow.{Bor}
+use Rattle.answer.specs.Faults.{Fault, first_fault}
+use Rattle.answer.specs.Rows.{said}
+use Rattle.answer.specs.declared.Refusal.{Refusal}
 use Rattle.layout.specs.Shape.{counts_of, size, total}
 use Rattle.layout.specs.Layout.{axes_of}
 use Rattle.layout.specs.declared.Shape.{Shape}
-use Rattle.checks.specs.Shapes.{shape_fault}
 use Rattle.checks.specs.Passed.{Axis}
-use Rattle.checks.specs.Numbers.{nodes_fault, default_fault}
 use Rattle.checks.specs.declared.shapes.Holding.{Holding}
 
 -- ---- shapes
@@ -20,16 +20,7 @@ pub record Few (s : Shape) : Type 0 where
 
 -- how many nodes and values the counts make
 abbrev pub sums_of : Shape → Holding
-sums_of s = record { fault = no_fault; nodes = total (counts_of s); values = size (counts_of s) }
-
--- how many nodes and values a shape has that passes 1 and 2
-unfoldable pub sizes_of : Shape → Holding
-sizes_of s =
-    record {
-      fault = shape_fault s;
-      nodes = given (shape_fault s) (total (counts_of s)) 0;
-      values = given (shape_fault s) (size (counts_of s)) 0;
-    }
+sums_of s = record { nodes = total (counts_of s); values = size (counts_of s) }
 
 -- ---- axes and grids
 
@@ -40,17 +31,10 @@ pub record Grid (counts : List ℕ) (nodes : List Float) : Type 0 where
   pub small : size counts ≤ 4096
   pub axes : (a : ℕ) → a < length counts → Axis (get_or (axes_of counts nodes) a [])
 
--- where an axis of so many nodes ends that starts at a place: nodes that are not there are not looked at
-pub record End (at count len r : ℕ) : Type 0 where
-  pub is : r ≡ at + min count (len - at)
-  pub on : at ≤ r
-  pub inside : r ≤ len
+-- what judges an axis by its number and its nodes says this fault of each
+abbrev pub Says : (ℕ → Bor (List Float) → Result (Unit {0}) Refusal → Type 0) → (ℕ → List Float → Fault) → Type 0
+Says gives fault = (a : ℕ) (grid : Bor (List Float)) (r : Result (Unit {0}) Refusal) → gives a grid r → said r ≡ fault a grid.now
 
--- 8 of one axis, or 4, 5, 6: the two checks of an axis that go over all axes alike
-abbrev pub axis_row : Bool → ℕ → List Float → Fault
-axis_row true axis nodes = default_fault axis nodes
-axis_row false axis nodes = nodes_fault axis nodes
-
--- the same of all axes
-abbrev pub axes_row : Bool → List ℕ → List Float → Fault
-axes_row uniform counts nodes = first_fault (λ a. axis_row uniform a (get_or (axes_of counts nodes) a [])) 0 (length counts)
+-- the same of all axes, one after the other
+abbrev pub each_axis : (ℕ → List Float → Fault) → List ℕ → List Float → Fault
+each_axis fault counts nodes = first_fault (λ a. fault a (get_or (axes_of counts nodes) a [])) 0 (length counts)

@@ -1,7 +1,6 @@
 -- The checks that every call on a table begins with, "1, 2, 3", and those of an axis that stands alone.
 use Rattle.std.specs.Prelude.{List, ℕ, length, Float}
-use Rattle.answer.specs.Faults.{◌or◌}
-use Rattle.answer.specs.declared.Fault.{Fault}
+use Rattle.answer.specs.Faults.{Fault, ◌or◌}
 use Rattle.layout.specs.Shape.{counts_of, size, total}
 use Rattle.layout.specs.declared.Shape.{Shape}
 use Rattle.checks.specs.Numbers.{axes_count_fault, count_fault, counts_fault, product_fault, length_fault, nodes_fault}

@@ -1,36 +1,29 @@
 // The checks of a list by itself, for every input.
+#![tactic(auto, using(answer::proofs::Loops::begin), unfolding(crate::specs::Numbers::directions_fault, crate::specs::Numbers::readings_fault))]
+
 ghost use Rattle.std.specs.Prelude.{◌≡◌};
+ghost use Rattle.answer.specs.Rows.{said};
 ghost use Rattle.checks.specs.Numbers.{directions_fault, readings_fault};
 
 use crate::{lent, numbers};
-use answer::Fault;
+use answer::Refusal;
 
 // 9 of all axes.
-pub fn directions_fault(directions: &[u8]) -> Fault
-    ensures { result ≡ directions_fault directions.now }
+pub fn directions_fault(directions: &[u8]) -> Result<(), Refusal>
+    ensures { said result ≡ directions_fault directions.now }
 {
-    let mut a: usize = 0;
-    while a < directions.len() {
-        let fault = lent::direction_fault(a, directions[a]);
-        if fault.number != 0 {
-            return fault;
-        }
-        a += 1;
+    for (a, direction) in directions.iter().enumerate() {
+        lent::direction_fault(a, *direction)?;
     }
-    answer::no_fault()
+    Ok(())
 }
 
 // 10 of all axes.
-pub fn readings_fault(readings: &[f64]) -> Fault
-    ensures { result ≡ readings_fault readings.now }
+pub fn readings_fault(readings: &[f64]) -> Result<(), Refusal>
+    ensures { said result ≡ readings_fault readings.now }
 {
-    let mut a: usize = 0;
-    while a < readings.len() {
-        let fault = numbers::reading_fault(a, readings[a]);
-        if fault.number != 0 {
-            return fault;
-        }
-        a += 1;
+    for (a, reading) in readings.iter().enumerate() {
+        numbers::reading_fault(a, *reading)?;
     }
-    answer::no_fault()
+    Ok(())
 }

@@ -1,108 +1,75 @@
 // 1 and 2, which judge a table's shape, with how many nodes and values it has; 3 of the nodes and the values lent with it.
-ghost use Rattle.std.specs.Prelude.{◌≡◌, ◌≤◌};
+#![tactic(auto, using(answer::proofs::Loops::begin, answer::proofs::Checks::hands, answer::proofs::Checks::stops, answer::proofs::Checks::goes_on, answer::proofs::Checks::passes_on, answer::proofs::Checks::both_pass), unfolding(crate::specs::Shapes::shape_fault, crate::specs::Shapes::frame_fault, crate::specs::Numbers::product_fault))]
+
+ghost use Rattle.std.specs.Prelude.{◌≡◌, ◌≤◌, IfOk};
+ghost use Rattle.answer.specs.Rows.{said};
 ghost use Rattle.checks.specs.Numbers.{counts_fault};
 ghost use Rattle.checks.specs.Shapes.{shape_fault, frame_fault};
-ghost use Rattle.checks.specs.Scaffolding.{Few, sums_of, sizes_of};
+ghost use Rattle.checks.specs.Scaffolding.{Few, sums_of};
 
 use crate::{counts, lent};
-use answer::Fault;
+use answer::{Refusal, Row};
 use layout::Shape;
 
 // 2 of the first bad count.
-fn counts_fault(shape: Shape) -> Fault
+fn counts_fault(shape: Shape) -> Result<(), Refusal>
     requires { shape.axes ≤ 4 }
-    ensures { result ≡ counts_fault shape }
+    ensures { said result ≡ counts_fault shape }
 {
-    let axes = shape.axes;
-    let counts = shape.counts;
-    let mut a: usize = 0;
-    while a < axes {
-        let fault = counts::count_fault(a, counts[a]);
-        if fault.number != 0 {
-            return fault;
-        }
-        a += 1;
+    let counts = &shape.counts[..shape.axes];
+    for (a, count) in counts.iter().enumerate() {
+        counts::count_fault(a, *count)?;
     }
-    answer::no_fault()
+    Ok(())
 }
 
-// What a shape says of nodes and values, once it is judged.
+// How many nodes and values a shape has.
 #[derive(Clone, Copy)]
 pub struct Holding {
-    pub fault: Fault,
     pub nodes: usize,
     pub values: usize,
 }
 
-// How many nodes and values a shape has whose counts are few.
+// The same of a shape whose counts are few.
 fn sums_of(shape: Shape) -> Holding
     requires { Few shape }
     ensures { result ≡ sums_of shape }
 {
-    let counts = layout::counts_of(shape);
+    let counts = &shape.counts[..shape.axes];
     let mut nodes: usize = 0;
     let mut values: usize = 1;
-    let mut a = shape.axes;
-    while a > 0 {
-        a -= 1;
-        let count = counts[a];
-        nodes = count + nodes;
-        values = count * values;
+    for count in counts {
+        nodes += *count;
+        values *= *count;
     }
-    Holding {
-        fault: answer::no_fault(),
-        nodes,
-        values,
-    }
+    Holding { nodes, values }
+}
+
+// 1, 2 of a shape, and what it holds.
+pub fn sizes(shape: Shape) -> Result<Holding, Refusal>
+    ensures fault { said result ≡ shape_fault shape }
+    ensures held { IfOk result (λ held. held ≡ sums_of shape) }
+{
+    counts::axes_count_fault(shape.axes)?;
+    counts_fault(shape)?;
+    let sums = sums_of(shape);
+    Row::Count.refuse_if(sums.values > 4096, 0, 0)?;
+    Ok(sums)
 }
 
 // 1, 2 of a shape.
-pub fn shape_fault(shape: Shape) -> Fault
-    ensures { result ≡ shape_fault shape }
+pub fn shape_fault(shape: Shape) -> Result<(), Refusal>
+    ensures { said result ≡ shape_fault shape }
 {
-    let fault = counts::axes_count_fault(shape.axes);
-    if fault.number != 0 {
-        return fault;
-    }
-    let fault = counts_fault(shape);
-    if fault.number != 0 {
-        return fault;
-    }
-    let sums = sums_of(shape);
-    answer::row(sums.values > 4096, 2, 0, 0)
-}
-
-// What a shape holds: nothing where it is refused.
-pub fn sizes(shape: Shape) -> Holding
-    ensures { result ≡ sizes_of shape }
-{
-    let fault = shape_fault(shape);
-    if fault.number != 0 {
-        return Holding {
-            fault,
-            nodes: 0,
-            values: 0,
-        };
-    }
-    let sums = sums_of(shape);
-    Holding {
-        fault,
-        nodes: sums.nodes,
-        values: sums.values,
-    }
+    sizes(shape)?;
+    Ok(())
 }
 
 // 1, 2, 3 of a shape and the lengths of its nodes and values.
-pub fn frame_fault(shape: Shape, nodes: usize, values: usize) -> Fault
-    ensures { result ≡ frame_fault shape nodes values }
+pub fn frame_fault(shape: Shape, nodes: usize, values: usize) -> Result<(), Refusal>
+    ensures { said result ≡ frame_fault shape nodes values }
 {
-    let held = sizes(shape);
-    if held.fault.number != 0 {
-        return held.fault;
-    }
-    let fault = lent::length_fault(0, held.nodes, nodes);
-    if fault.number != 0 {
-        return fault;
-    }
+    let held = sizes(shape)?;
+    lent::length_fault(0, held.nodes, nodes)?;
     lent::length_fault(1, held.values, values)
 }

@@ -1,9 +1,12 @@
 // 8 of one axis: every later gap beside the first one. For every input.
+#![tactic(auto, using(answer::proofs::Loops::begin), unfolding(crate::specs::Numbers::apart, crate::specs::Numbers::gap_fault, crate::specs::Numbers::uniform_fault, crate::specs::Numbers::default_tolerance, crate::specs::Nodes::gap))]
+
 ghost use Rattle.std.specs.Prelude.{◌≡◌, ◌+◌, ◌<◌, ◌≤◌, length};
+ghost use Rattle.answer.specs.Rows.{said};
 ghost use Rattle.checks.specs.Numbers.{apart, gap_fault, uniform_fault, default_tolerance, default_fault};
 
 use crate::ranges;
-use answer::Fault;
+use answer::{Refusal, Row};
 
 // How far two gaps differ.
 fn gaps_apart(spacing: f64, step: f64) -> f64
@@ -17,28 +20,23 @@ fn gaps_apart(spacing: f64, step: f64) -> f64
 }
 
 // 8 of one interval.
-fn gap_fault(axis: usize, grid: &[f64], tolerance: f64, i: usize) -> Fault
+fn gap_fault(axis: usize, grid: &[f64], tolerance: f64, i: usize) -> Result<(), Refusal>
     requires { (1 ≤ i) × (i + 1 < length grid.now) }
-    ensures { result ≡ gap_fault axis grid.now tolerance i }
+    ensures { said result ≡ gap_fault axis grid.now tolerance i }
 {
     let step = grid[1] - grid[0];
     let spacing = grid[i + 1] - grid[i];
-    answer::row(gaps_apart(spacing, step) > tolerance, 8, axis, i)
+    Row::Uniform.refuse_if(gaps_apart(spacing, step) > tolerance, axis, i)
 }
 
 // 8 of the first interval that differs from the first gap by more than the tolerance; fewer than two nodes have no gap.
-pub fn uniform_fault(axis: usize, grid: &[f64], tolerance: f64) -> Fault
-    ensures { result ≡ uniform_fault axis grid.now tolerance }
+pub fn uniform_fault(axis: usize, grid: &[f64], tolerance: f64) -> Result<(), Refusal>
+    ensures { said result ≡ uniform_fault axis grid.now tolerance }
 {
-    let mut i: usize = 1;
-    while i + 1 < grid.len() {
-        let fault = gap_fault(axis, grid, tolerance, i);
-        if fault.number != 0 {
-            return fault;
-        }
-        i += 1;
+    for i in 1..grid.len().saturating_sub(1) {
+        gap_fault(axis, grid, tolerance, i)?;
     }
-    answer::no_fault()
+    Ok(())
 }
 
 // The default tolerance: the first gap times 2^-42. A gap that is not there is a NaN.
@@ -49,8 +47,8 @@ pub fn default_tolerance(grid: &[f64]) -> f64
 }
 
 // 8 of one axis by the default tolerance.
-pub(crate) fn default_fault(axis: usize, grid: &[f64]) -> Fault
-    ensures { result ≡ default_fault axis grid.now }
+pub(crate) fn default_fault(axis: usize, grid: &[f64]) -> Result<(), Refusal>
+    ensures { said result ≡ default_fault axis grid.now }
 {
     uniform_fault(axis, grid, default_tolerance(grid))
 }

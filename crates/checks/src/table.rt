@@ -1,90 +1,55 @@
 // The checks of all axes of a table and of the range of its readings, for every input.
-ghost use Rattle.std.specs.Prelude.{◌≡◌, ◌≤◌, min};
+#![tactic(auto, unfolding(crate::specs::Numbers::axes_fault, crate::specs::Numbers::axes_uniform_fault, crate::specs::Numbers::ranges_fault))]
+
+ghost use Rattle.std.specs.Prelude.{◌≡◌, ℕ, List, Float};
+ghost use Rattle.answer.specs.Faults.{Fault};
+ghost use Rattle.answer.specs.Rows.{said};
 ghost use Rattle.layout.specs.Shape.{counts_of};
 ghost use Rattle.checks.specs.Numbers.{axes_fault, axes_uniform_fault, ranges_fault};
-ghost use Rattle.checks.specs.Scaffolding.{End, axis_row, axes_row};
+ghost use Rattle.checks.specs.Scaffolding.{Says, each_axis};
 
 use crate::{nodes, ranges, spacing};
-use answer::Fault;
+use answer::Refusal;
 use layout::Shape;
 
-// How many axes of a shape have a count.
-fn axes_of(shape: Shape) -> usize
-    ensures { (result ≡ min shape.axes 4) × (result ≤ 4) }
+// Judges each axis of a table by its number and its nodes, one after the other. Nodes that are not there are not looked at.
+fn each_axis<F: Fn(usize, &[f64]) -> Result<(), Refusal>>(
+    shape: Shape,
+    nodes: &[f64],
+    row: F,
+) -> Result<(), Refusal>
+    requires { F.IsAlwaysCallable row }
+    ensures { (fault : ℕ → List Float → Fault) → Says (F.post row) fault → said result ≡ each_axis fault (counts_of shape) nodes.now }
 {
-    layout::least(shape.axes, 4)
-}
-
-// Where an axis of so many nodes ends that starts at a place, in so many nodes.
-fn axis_end(at: usize, count: usize, len: usize) -> usize
-    requires { at ≤ len }
-    ensures { End at count len result }
-{
-    at + layout::least(count, len - at)
-}
-
-// 8 of one axis, or 4, 5, 6.
-fn axis_row(uniform: bool, axis: usize, grid: &[f64]) -> Fault
-    ensures { result ≡ axis_row uniform axis grid.now }
-{
-    if uniform {
-        spacing::default_fault(axis, grid)
-    } else {
-        nodes::nodes_fault(axis, grid)
+    let counts = &shape.counts[..shape.axes.min(4)];
+    let mut rest = nodes;
+    for (a, count) in counts.iter().enumerate() {
+        let (grid, others) = rest.split_at((*count).min(rest.len()));
+        row(a, grid)?;
+        rest = others;
     }
-}
-
-// The same of all axes, one after the other.
-fn axes_row(uniform: bool, shape: Shape, nodes: &[f64]) -> Fault
-    ensures { result ≡ axes_row uniform (counts_of shape) nodes.now }
-{
-    let counts = layout::counts_of(shape);
-    let axes = axes_of(shape);
-    let mut at: usize = 0;
-    let mut a: usize = 0;
-    while a < axes {
-        let end = axis_end(at, counts[a], nodes.len());
-        let fault = axis_row(uniform, a, &nodes[at..end]);
-        if fault.number != 0 {
-            return fault;
-        }
-        at = end;
-        a += 1;
-    }
-    answer::no_fault()
+    Ok(())
 }
 
 // 4, 5, 6 of all axes.
-pub fn axes_fault(shape: Shape, nodes: &[f64]) -> Fault
-    ensures { result ≡ axes_fault (counts_of shape) nodes.now }
+pub fn axes_fault(shape: Shape, nodes: &[f64]) -> Result<(), Refusal>
+    ensures { said result ≡ axes_fault (counts_of shape) nodes.now }
 {
-    axes_row(false, shape, nodes)
+    each_axis(shape, nodes, nodes::nodes_fault)
 }
 
 // 8 of all axes, by the default tolerance.
-pub fn axes_uniform_fault(shape: Shape, nodes: &[f64]) -> Fault
-    ensures { result ≡ axes_uniform_fault (counts_of shape) nodes.now }
+pub fn axes_uniform_fault(shape: Shape, nodes: &[f64]) -> Result<(), Refusal>
+    ensures { said result ≡ axes_uniform_fault (counts_of shape) nodes.now }
 {
-    axes_row(true, shape, nodes)
+    each_axis(shape, nodes, spacing::default_fault)
 }
 
 // 11 of all axes.
-pub fn ranges_fault(shape: Shape, nodes: &[f64], readings: &[f64]) -> Fault
-    ensures { result ≡ ranges_fault (counts_of shape) nodes.now readings.now }
+pub fn ranges_fault(shape: Shape, nodes: &[f64], readings: &[f64]) -> Result<(), Refusal>
+    ensures { said result ≡ ranges_fault (counts_of shape) nodes.now readings.now }
 {
-    let counts = layout::counts_of(shape);
-    let axes = axes_of(shape);
-    let mut at: usize = 0;
-    let mut a: usize = 0;
-    while a < axes {
-        let end = axis_end(at, counts[a], nodes.len());
-        let reading = ranges::at_or_nan(readings, a);
-        let fault = ranges::range_fault(a, &nodes[at..end], reading);
-        if fault.number != 0 {
-            return fault;
-        }
-        at = end;
-        a += 1;
-    }
-    answer::no_fault()
+    each_axis(shape, nodes, |a, grid| {
+        ranges::range_fault(a, grid, ranges::at_or_nan(readings, a))
+    })
 }

@@ -1,12 +1,15 @@
 // 7: the check of a table's values, for every list of them.
+#![tactic(auto, using(answer::proofs::Loops::begin), unfolding(crate::specs::Numbers::value_fault, crate::specs::Numbers::values_fault))]
+
 ghost use Rattle.std.specs.Prelude.{◌≡◌, true, ℕ, ◌+◌, ◌-◌, ◌<◌, ◌≤◌, length, get_or};
 ghost use Rattle.std.specs.Float.{nan};
 ghost use Rattle.std.specs.Float.Ieee.Scale.{finite};
+ghost use Rattle.answer.specs.Rows.{said};
 ghost use Rattle.answer.specs.Faults.{first_fault};
 ghost use Rattle.checks.specs.Numbers.{value_fault, values_fault};
 
 use crate::numbers;
-use answer::Fault;
+use answer::{Refusal, Row};
 
 // Whether eight values are finite, joined without a branch: a number that is not finite stays so, times 0 and in every sum.
 // The order of the sums lets the compiler add two at a time.
@@ -22,40 +25,33 @@ fn eight_finite(values: &[f64], at: usize) -> bool
 }
 
 // 7 at one place.
-fn value_fault(values: &[f64], i: usize) -> Fault
+fn value_fault(values: &[f64], i: usize) -> Result<(), Refusal>
     requires { i < length values.now }
-    ensures { result ≡ value_fault values.now i }
+    ensures { said result ≡ value_fault values.now i }
 {
-    numbers::wild_fault(7, 0, i, values[i])
+    numbers::wild_fault(Row::Value, 0, i, values[i])
 }
 
 // The first fault from a place on, value by value.
-fn values_fault_from(values: &[f64], from: usize) -> Fault
+fn values_fault_from(values: &[f64], from: usize) -> Result<(), Refusal>
     requires { from ≤ length values.now }
-    ensures { result ≡ first_fault (value_fault values.now) from (length values.now - from) }
+    ensures { said result ≡ first_fault (value_fault values.now) from (length values.now - from) }
 {
-    let mut i = from;
-    while i < values.len() {
-        let fault = value_fault(values, i);
-        if fault.number != 0 {
-            return fault;
-        }
-        i += 1;
+    for i in from..values.len() {
+        value_fault(values, i)?;
     }
-    answer::no_fault()
+    Ok(())
 }
 
 // 7 of the first value that is not finite. Eight by eight; the place is searched for only where eight have a fault, and in the rest.
-pub fn values_fault(values: &[f64]) -> Fault
-    ensures { result ≡ values_fault values.now }
+pub fn values_fault(values: &[f64]) -> Result<(), Refusal>
+    ensures { said result ≡ values_fault values.now }
 {
-    let n = values.len();
-    let mut i: usize = 0;
-    while n - i >= 8 {
-        if !eight_finite(values, i) {
-            return values_fault_from(values, i);
+    let whole = values.len() / 8;
+    for k in 0..whole {
+        if !eight_finite(values, 8 * k) {
+            return values_fault_from(values, 8 * k);
         }
-        i += 8;
     }
-    values_fault_from(values, i)
+    values_fault_from(values, 8 * whole)
 }

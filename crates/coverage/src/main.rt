@@ -1,33 +1,44 @@
 // Reads an image and then records from standard input, counts the records, and prints the coverage report.
 #![tactic(auto)]
 
-// records from standard input, block by block
+// records from an input, block by block
 mod feed;
-// the image that was read: loaded or refused
-mod loaded;
 // what is printed of records
 mod print;
 
-ghost use Rattle.std.specs.Prelude.{◌≡◌, length, take};
-ghost use Rattle.program.specs.Input.{image_in};
-ghost use Rattle.coverage.specs.Whole.{Whole};
+ghost use Rattle.program.specs.Coverage.{report_by};
+ghost use Rattle.coverage.specs.Whole.{report_enough};
 
-use program::{Totals, stdin};
+use layout::Shape;
+use program::print::Unprinted;
+use program::whole::Records;
+use program::{Ports, whole};
+use std::io;
+use std::io::{Read, Write};
 
-// One whole run: the image, and what follows it.
-fn run(img: &mut [u8], nodes: &mut [f64], values: &mut [f64]) -> Totals
-    requires { (length nodes.old ≡ 256) × (length values.old ≡ 4096) }
-    ensures img_after { image_in (take result.image img.new) ≡ take result.image img.new }
-    ensures whole { Whole (take result.image img.new) result.after }
-{
-    let size = stdin::read_image(img);
-    let after = loaded::count_image(&img[..size], nodes, values);
-    Totals { image: size, after }
+// One report of all records: a byte after record 1,000,000 is enough.
+struct Report;
+
+impl Records for Report {
+    ghost text = { report_by };
+
+    ghost enough = { report_enough };
+
+    fn feed<R: Read, W: Write>(
+        ports: &mut Ports<R, W>,
+        img: &[u8],
+        shape: Shape,
+        nodes: &[f64],
+        values: &[f64],
+    ) -> Result<(), Unprinted> {
+        feed::count_all(ports, img, shape, nodes, values)
+    }
 }
 
-fn main() {
+fn main(rt: HostRuntime) {
+    let mut ports = Ports::new(rt.stdin(), io::writer(&rt));
     let mut img = [0u8; image::MOST_BYTES];
     let mut nodes = [0.0f64; 256];
     let mut values = [0.0f64; 4096];
-    run(&mut img, &mut nodes, &mut values);
+    whole::run::<Report, _, _>(&mut ports, &mut img, &mut nodes, &mut values);
 }

@@ -7,8 +7,7 @@ use Prim.Native.Nat.{ℕ, zero, suc, ◌+◌, ◌*◌, ◌≤◌}
 use native.Mathlib.Omega.{arith}
 use lib.Dec.{ltb, lit≤}
 use lib.ListN.{length}
-use Rattle.answer.specs.Faults.{refusal, no_fault, good, ◌or◌, first_fault}
-use Rattle.answer.specs.declared.Fault.{Fault}
+use Rattle.answer.specs.Faults.{Fault, refusal, no_fault, good, ◌or◌, first_fault}
 use Rattle.answer.proofs.Numbers.{when_upto, or_upto, first_upto}
 use Rattle.answer.proofs.Orders as orders
 use Rattle.answer.proofs.Tests.{either}

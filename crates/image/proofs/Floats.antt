@@ -6,13 +6,18 @@ use Prim.Native.Nat.{ℕ, zero, suc, ◌+◌, ◌-◌, ◌*◌, ◌≤◌, ◌<�
 use native.Mathlib.Nat.{add-zero}
 use native.Mathlib.Omega.{arith}
 use lib.ListN.{length, take, drop, get_or, set, length-append, length-take}
-use lib.Seq.{sets, sets-eq, take_at, get_or-take}
+use lib.Seq.{sets, get_or-take}
 use lib.Ieee.{Float}
+use Rattle.std.proofs.Common.{append_assoc, length-drop}
+use Rattle.std.proofs.lemmas.List.{append-nil, take_all}
+use Rattle.std.proofs.lemmas.Slice.{take-put_mid}
+use borrow.Rule.Slice.PartMut.{put_mid}
 use Rattle.answer.specs.Faults.{good, ◌or◌}
+use Rattle.answer.specs.Answer.{plus_zero}
 use Rattle.layout.specs.Shape.{counts_of, size, total}
 use Rattle.layout.specs.Layout.{tabulate}
 use Rattle.checks.specs.Shapes.{shape_fault}
-use Rattle.checks.specs.Numbers.{axes_fault, values_fault}
+use Rattle.checks.specs.Numbers.{room_fault}
 use Rattle.checks.specs.declared.shapes.Holding.{Holding}
 use Rattle.layout.specs.declared.Shape.{Shape}
 use Rattle.layout.proofs.Layouts.{tabulate_same}
@@ -20,8 +25,8 @@ use Rattle.checks.proofs.shapes.Frames.{shape_four, shape_few, shape_size}
 use Rattle.little_endian.specs.Words.{float_at}
 use Rattle.image.specs.Image.{floats_at, nodes_from, nodes_in, values_in}
 use Rattle.image.specs.Fields.{axes_field, count_field, offset_field, shape_of}
-use Rattle.image.specs.Load.{contents_fault}
-use Rattle.image.specs.Scaffolding.{ShapeJudged, Holds, Rooms, OutputsFilled}
+use Rattle.image.specs.Load.{rooms_fault}
+use Rattle.image.specs.Scaffolding.{ShapeJudged, Held}
 
 -- ---- a judged shape's nodes are few
 total_few : (cs : List ℕ) → ((a : ℕ) → a < length cs → get_or cs a 0 ≤ 64) → total cs ≤ 64 * length cs
@@ -52,30 +57,13 @@ sets_append (x ∷ a) b l i =
     let e : suc i + length a ≡ i + suc (length a) = omega arith in
     sets_append a b (set l i x) (suc i) ∙ ap (λ (k : ℕ). sets (sets (set l i x) (suc i) a) k b) e
 
--- what is left to read, from float i on, written after what is there, is the whole
-module _ (img : List ℕ) (at to i count : ℕ) where
-  more : i < count → floats_at img (at + 8 * i) (count - i) ≡ float_at img (at + 8 * i) ∷ floats_at img (at + 8 * (i + 1)) (count - (i + 1))
-  unfolding floats_at
-  more h =
-      let n : count - i ≡ suc (count - (i + 1)) = omega arith in
-      let next : at + 8 * i + 8 ≡ at + 8 * (i + 1) = omega arith in
-      ap (floats_at img (at + 8 * i)) n ∙ ap (λ (j : ℕ). float_at img (at + 8 * i) ∷ floats_at img j (count - (i + 1))) next
-
-  pub read_step : (out : List Float) (x : Float) → i < count → x ≡ float_at img (at + 8 * i)
-      → sets (set out (to + i) x) (to + (i + 1)) (floats_at img (at + 8 * (i + 1)) (count - (i + 1))) ≡ sets out (to + i) (floats_at img (at + 8 * i) (count - i))
-  read_step out x h e =
-      let next : to + (i + 1) ≡ suc (to + i) = omega arith in
-      ap₂ (λ (y : Float) (j : ℕ). sets (set out (to + i) y) j (floats_at img (at + 8 * (i + 1)) (count - (i + 1)))) e next ∙ ap (sets out (to + i)) (sym (more h))
-
-  pub read_end : (out : List Float) → count ≤ i → sets out (to + i) (floats_at img (at + 8 * i) (count - i)) ≡ out
-  unfolding floats_at
-  read_end out h = let none : count - i ≡ 0 = omega arith in ap (λ (k : ℕ). sets out (to + i) (floats_at img (at + 8 * i) k)) none
-
-pub read_start : (img : List ℕ) (at to count : ℕ) (out : List Float) → sets out (to + 0) (floats_at img (at + 8 * 0) (count - 0)) ≡ sets out to (floats_at img at count)
-read_start img at to count out =
-    let a : at + 8 * 0 ≡ at = omega arith in
-    let b : count - 0 ≡ count = omega arith in
-    ap₂ (sets out) (add-zero to) (ap₂ (floats_at img) a b)
+-- floats that were read one by one
+pub floats_all : (img : List ℕ) (at : ℕ) (out : List Float) → ((k : ℕ) → k < length out → get_or out k plus_zero ≡ float_at img (at + 8 * k)) → out ≡ floats_at img at (length out)
+unfolding floats_at
+floats_all img at [] h = refl
+floats_all img at (x ∷ out) h =
+    ap₂ (λ (y : Float) (r : List Float). y ∷ r) (h 0 (omega arith) ∙ ap (float_at img) (omega arith))
+    (floats_all img (at + 8) out (λ k l. h (suc k) (omega arith) ∙ ap (float_at img) (omega arith)))
 
 -- ---- nodes, axis after axis
 module _ (img : List ℕ) (axes a : ℕ) (h : a < axes) where
@@ -95,26 +83,38 @@ module _ (img : List ℕ) (axes a : ℕ) (h : a < axes) where
       ∙ length-append (floats_at img (offset_field img a) (count_field img a)) (nodes_from img (a + 1) (axes - (a + 1)))
       ∙ ap (λ (k : ℕ). k + length (nodes_from img (a + 1) (axes - (a + 1)))) (length_floats img (offset_field img a) (count_field img a))
 
-  pub nodes_step : (to n at : ℕ) (out next : List Float) → n ≡ count_field img a → at ≡ offset_field img a → next ≡ sets out to (floats_at img at n)
-      → sets next (to + n) (nodes_from img (a + 1) (axes - (a + 1))) ≡ sets out to (nodes_from img a (axes - a))
-  nodes_step to n at out next en ea e =
-      let fs = floats_at img (offset_field img a) (count_field img a) in
-      let same : next ≡ sets out to (floats_at img (offset_field img a) (count_field img a)) = e ∙ ap₂ (λ (i j : ℕ). sets out to (floats_at img i j)) ea en in
-      let long : to + n ≡ to + length (floats_at img (offset_field img a) (count_field img a)) = ap (λ (k : ℕ). to + k) (en ∙ sym (length_floats img (offset_field img a) (count_field img a))) in
-      ap₂ (λ (l : List Float) (k : ℕ). sets l k (nodes_from img (a + 1) (axes - (a + 1)))) same long
-      ∙ sym (sets_append fs (nodes_from img (a + 1) (axes - (a + 1))) out to)
-      ∙ ap (sets out to) (sym nodes_open)
-
 -- what is read so far: the nodes of the axes from a on are left, and go from `to` on
-pub record Reading (img : List ℕ) (axes : ℕ) (out₀ out : List Float) (to a : ℕ) : Type 0 where
-  pub on : a ≤ axes
-  pub same : length out ≡ length out₀
-  pub fits : to + length (nodes_from img a (axes - a)) ≤ length out₀
-  pub left : sets out to (nodes_from img a (axes - a)) ≡ sets out₀ 0 (nodes_from img 0 axes)
+pub record Reading (img : List ℕ) (axes : ℕ) (out : List Float) (to a : ℕ) : Type 0 where
+  pub fits : to + length (nodes_from img a (axes - a)) ≡ length out
+  pub left : take to out ++ nodes_from img a (axes - a) ≡ nodes_from img 0 axes
 
-pub nodes_end : (img : List ℕ) (axes a to : ℕ) (out : List Float) → axes ≤ a → sets out to (nodes_from img a (axes - a)) ≡ out
-unfolding nodes_from
-nodes_end img axes a to out h = let none : axes - a ≡ 0 = omega arith in ap (λ (k : ℕ). sets out to (nodes_from img a k)) none
+module _ (img : List ℕ) (axes : ℕ) (out : List Float) (to a : ℕ) (r : Reading img axes out to a) where
+  pub read_room : a < axes → to + count_field img a ≤ length out
+  read_room h = omega (arith, r.fits, nodes_length img axes a h)
+
+  -- the floats of one axis, read into their part
+  pub read_more : a < axes → (n k : ℕ) → n ≡ count_field img a → k ≡ n → (fs : List Float) → fs ≡ floats_at img (offset_field img a) n → Reading img axes (put_mid to k out fs) (to + n) (a + 1)
+  read_more h n k e m fs f =
+      let long : length fs ≡ n = ap length f ∙ length_floats img (offset_field img a) n in
+      let rest = nodes_from img (a + 1) (axes - (a + 1)) in
+      let room : to + n ≤ length out = omega (arith, e, read_room h) in
+      record {
+        fits = omega (arith, r.fits, nodes_length img axes a h, e, m, long, room, length-append (take to out) (fs ++ drop k (drop to out)), length-append fs (drop k (drop to out)), length-take to out, length-drop k (drop to out), length-drop to out);
+        left =
+            ap (λ (l : List Float). l ++ rest) (take-put_mid to k out fs (to + n) (omega (arith, long)) (omega (arith, room)))
+            ∙ append_assoc (take to out) fs rest
+            ∙ ap (λ (l : List Float). take to out ++ (l ++ rest)) (f ∙ ap (floats_at img (offset_field img a)) e)
+            ∙ ap (λ (l : List Float). take to out ++ l) (sym (nodes_open img axes a h))
+            ∙ r.left;
+      }
+
+  pub read_all : axes ≤ a → out ≡ nodes_from img 0 axes
+  unfolding nodes_from
+  read_all h =
+      let none : axes - a ≡ 0 = omega arith in
+      let left : take to out ++ [] ≡ nodes_from img 0 axes = ap (λ (k : ℕ). take to out ++ nodes_from img a k) (sym none) ∙ r.left in
+      let full : length out ≤ to = omega (arith, r.fits, ap (λ (k : ℕ). length (nodes_from img a k)) none) in
+      sym (take_all to out full) ∙ sym (append-nil (take to out)) ∙ left
 
 -- how many nodes: what the shape says
 from_total : (img : List ℕ) (a k : ℕ) → length (nodes_from img a k) ≡ total (tabulate k (λ i. count_field img (a + i)))
@@ -151,21 +151,38 @@ pub values_size : (img : List ℕ) → length (values_in img) ≡ size (counts_o
 unfolding values_in
 values_size img = length_floats img _ (size (counts_of (shape_of img)))
 
--- ---- a list written from its front
-pub sets_front : {A : Type 0} (xs out : List A) → length xs ≤ length out → sets out 0 xs ≡ xs ++ drop (length xs) out
-sets_front xs out h = let e : 0 + length xs ≡ length xs = omega arith in sets-eq xs out 0 (omega (arith, h)) ∙ ap (λ (k : ℕ). xs ++ drop k out) e
+pub read_none : (img : List ℕ) (out : List Float) → ShapeJudged img → length out ≡ total (counts_of (shape_of img)) → Reading img (axes_field img) out 0 0
+unfolding nodes_in
+read_none img out h e =
+    let all : axes_field img - 0 ≡ axes_field img = omega arith in
+    record {
+      fits = omega (arith, e, nodes_total img h, ap (λ (k : ℕ). length (nodes_from img 0 k)) all);
+      left = ap (nodes_from img 0) all;
+    }
 
-pub front_read : (xs out : List Float) (n : ℕ) → n ≡ length xs → length xs ≤ length out → take n (sets out 0 xs) ≡ xs
-front_read xs out n e h = ap₂ (λ (k : ℕ) (l : List Float). take k l) e (sets_front xs out h) ∙ take_at xs (drop (length xs) out) (length xs) refl
+-- what a judged image holds
+module _ (img : List ℕ) (held : Holding) (h : Held img held) where
+  pub nodes_held : held.nodes ≡ total (counts_of (shape_of img))
+  nodes_held = ap (λ (x : Holding). x.nodes) h.is
 
--- the nodes and the values that were read into two spaces, judged there
-pub fronts_judged : (img : List ℕ) (s : Shape) (held : Holding) (ns vs ns' vs' : List Float) → s ≡ shape_of img → Holds img held → Rooms img (length ns) (length vs)
-    → OutputsFilled img ns vs ns' vs' → (axes_fault (counts_of s) (take held.nodes ns') or values_fault (take held.values vs')) ≡ contents_fault img
-unfolding contents_fault
-fronts_judged img s held ns vs ns' vs' e h r f =
-    let en = nodes_total img r.judged in
-    let ev = values_size img in
-    let n : take held.nodes ns' ≡ nodes_in img = ap (take held.nodes) f.nodes_read ∙ front_read (nodes_in img) ns held.nodes (h.nodes ∙ sym en) (omega (arith, en, r.nodes_room)) in
-    let v : take held.values vs' ≡ values_in img = ap (take held.values) f.values_read ∙ front_read (values_in img) vs held.values (h.values ∙ sym ev) (omega (arith, ev, r.values_room)) in
-    ap₂ (λ (t : Shape) (xs : List Float). axes_fault (counts_of t) xs or values_fault (take held.values vs')) e n
-    ∙ ap (λ (ys : List Float). axes_fault (counts_of (shape_of img)) (nodes_in img) or values_fault ys) v
+  pub values_held : held.values ≡ size (counts_of (shape_of img))
+  values_held = ap (λ (x : Holding). x.values) h.is
+
+  -- and the room that it asks for
+  pub rooms_held : (nodes values : ℕ) → (room_fault 0 held.nodes nodes or room_fault 1 held.values values) ≡ rooms_fault (shape_of img) nodes values
+  unfolding rooms_fault
+  rooms_held nodes values = ap₂ (λ (n v : ℕ). room_fault 0 n nodes or room_fault 1 v values) nodes_held values_held
+
+  pub nodes_few : held.nodes ≤ 256
+  nodes_few = omega (arith, nodes_held, total_small (shape_of img) h.judged)
+
+  pub values_few : held.values ≤ 4096
+  values_few = omega (arith, values_held, size_small img h.judged)
+
+-- what was read, in front of what lies beyond it
+module _ (img : List ℕ) (held : Holding) (h : Held img held) (xs out : List Float) where
+  pub nodes_front : xs ≡ nodes_in img → xs ++ drop held.nodes out ≡ nodes_in img ++ drop (length (nodes_in img)) out
+  nodes_front e = ap₂ (λ (l : List Float) (n : ℕ). l ++ drop n out) e (nodes_held img held h ∙ sym (nodes_total img h.judged))
+
+  pub values_front : xs ≡ values_in img → xs ++ drop held.values out ≡ values_in img ++ drop (length (values_in img)) out
+  values_front e = ap₂ (λ (l : List Float) (n : ℕ). l ++ drop n out) e (values_held img held h ∙ sym (values_size img))

@@ -8,9 +8,8 @@ use lib.ListN.{length, take}
 use Rattle.answer.specs.Faults.{good}
 use Rattle.answer.proofs.Orders.{given-good}
 use Rattle.answer.proofs.Outputs.{given_front}
-use Rattle.checks.specs.Scaffolding.{sizes_of}
+use Rattle.checks.specs.Scaffolding.{sums_of}
 use Rattle.checks.specs.declared.shapes.Holding.{Holding}
-use Rattle.checks.proofs.shapes.Frames.{holds_nodes, holds_values}
 use Rattle.layout.specs.Shape.{no_shape}
 use Rattle.image.specs.Fields.{shape_of}
 use Rattle.image.specs.Image.{nodes_in, values_in}
@@ -25,12 +24,12 @@ module _ {img : List ℕ} {ns vs ns' vs' : List Float} {r : LoadAnswer} (l : Loa
   front_shape = ap (λ (a : LoadAnswer). a.shape) l.answer ∙ given-good (load_fault img (length ns) (length vs)) (shape_of img) no_shape g
 
   -- by the sizes of the shape that it answered
-  module _ (h : Holding) (e : h ≡ sizes_of r.shape) where
+  module _ (h : Holding) (e : h ≡ sums_of r.shape) where
     pub front_many : length (nodes_in img) ≡ h.nodes
-    front_many = nodes_total img (loaded_shape img (length ns) (length vs) g) ∙ sym (holds_nodes (shape_of img) (loaded_shape img (length ns) (length vs) g) h (e ∙ ap sizes_of front_shape))
+    front_many = nodes_total img (loaded_shape img (length ns) (length vs) g) ∙ sym (ap (λ (x : Holding). x.nodes) (e ∙ ap sums_of front_shape))
 
     pub front_large : length (values_in img) ≡ h.values
-    front_large = values_size img ∙ sym (holds_values (shape_of img) (loaded_shape img (length ns) (length vs) g) h (e ∙ ap sizes_of front_shape))
+    front_large = values_size img ∙ sym (ap (λ (x : Holding). x.values) (e ∙ ap sums_of front_shape))
 
     pub front_nodes : take h.nodes ns' ≡ nodes_in img
     front_nodes = ap₂ take (sym front_many) l.nodes_out ∙ given_front (load_fault img (length ns) (length vs)) (nodes_in img) ns g

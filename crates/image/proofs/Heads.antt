@@ -1,34 +1,31 @@
 -- The header: what its checks say once they are passed. Assumes nothing.
-use mathlib.Core.Path.{◌≡◌, ap, ap₂, ◌∙◌}
+use mathlib.Core.Path.{◌≡◌, ap, ◌∙◌}
 use mathlib.Core.Bool.{true, not, ◌&&◌}
-use mathlib.Core.List.{List, [], ◌∷◌}
+use mathlib.Core.List.{List}
 use Prim.Native.Nat.{ℕ, ◌+◌, ◌*◌, ◌≤◌, ◌<◌}
 use native.Mathlib.Omega.{arith}
 use borrow.Author.Tests.{leb-true, eqb-true}
 use lib.Dec.{leb, eqb}
 use lib.ListN.{length, get_or}
 use Rattle.answer.specs.Faults.{good, first_fault}
+use Rattle.std.proofs.Common.{Ok}
+use Rattle.answer.specs.Rows.{said}
 use Rattle.answer.proofs.Orders as orders
+use Rattle.answer.proofs.Checks.{passes}
 use Rattle.checks.specs.Numbers.{axes_count_fault, count_fault, product_fault, field_fault, short_fault, stated_fault}
 use Rattle.checks.proofs.counts.Rows.{axes_four}
 use Rattle.answer.proofs.Tests.{not_false, and_left, and_right}
 use Rattle.layout.specs.Layout.{tabulate}
 use Rattle.checks.specs.Shapes.{shape_fault}
+use Rattle.checks.specs.Scaffolding.{sums_of}
+use Rattle.checks.specs.declared.shapes.Holding.{Holding}
 use Rattle.layout.specs.declared.Shape.{Shape}
 use Rattle.layout.proofs.Layouts.{get_d_tabulate}
 use Rattle.little_endian.specs.Words.{word_at}
 use Rattle.image.specs.Fields.{axes_field, count_field, shape_of}
 use Rattle.image.specs.Head.{start_fault, count_row, head_fault}
-use Rattle.image.specs.Scaffolding.{ShapeJudged}
+use Rattle.image.specs.Scaffolding.{ShapeJudged, Held}
 use Rattle.image.proofs.Tests.{field_is, count_used, count_unused}
-
-pub shape_same : (img : List ℕ) (n a b c d : ℕ) → n ≡ axes_field img → a ≡ count_field img 0 → b ≡ count_field img 1 → c ≡ count_field img 2 → d ≡ count_field img 3
-    → ◌≡◌ {A = Shape} (record { axes = n; counts = a ∷ b ∷ c ∷ d ∷ [] }) (shape_of img)
-unfolding shape_of
-shape_same img n a b c d e p q r s =
-    ap (λ (m : ℕ). record { axes = m; counts = a ∷ b ∷ c ∷ d ∷ [] }) e
-    ∙ ap₂ (λ (x y : ℕ). record { axes = axes_field img; counts = x ∷ y ∷ c ∷ d ∷ [] }) p q
-    ∙ ap₂ (λ (x y : ℕ). record { axes = axes_field img; counts = count_field img 0 ∷ count_field img 1 ∷ x ∷ y ∷ [] }) r s
 
 module _ (img : List ℕ) where
   pub start_axes : good (start_fault img) ≡ true → good (axes_count_fault (axes_field img)) ≡ true
@@ -50,6 +47,14 @@ module _ (img : List ℕ) where
           orders.or_good (axes_count_fault (axes_field img)) _ h
           ∙ orders.or_good (first_fault (λ a. count_fault a (get_or (tabulate 4 (count_field img)) a 0)) 0 (axes_field img)) _
           (ap good (orders.none_good (λ a. count_fault a (get_or (tabulate 4 (count_field img)) a 0)) 0 (axes_field img) each) ∙ orders.good-no_fault)
+
+-- the same where the code has asked them, and what the shape holds then
+module _ (img : List ℕ) (s : Shape) (e : s ≡ shape_of img) where
+  pub head_product : {A : Type 0} (x : A) → said (Ok x) ≡ start_fault img → {B : Type 0} (y : B) → said (Ok y) ≡ first_fault (count_row img) 0 4 → shape_fault s ≡ product_fault (shape_of img)
+  head_product x p y q = ap shape_fault e ∙ product_only img (start_axes img (passes x _ p)) (passes y _ q)
+
+  pub head_held : (held : Holding) → said (Ok held) ≡ shape_fault s → held ≡ sums_of s → Held img held
+  head_held held p q = record { judged = passes held _ (p ∙ ap shape_fault e); is = q ∙ ap sums_of e }
 
 -- where the whole header passes, so does its shape
 pub head_shape : (img : List ℕ) → good (head_fault img) ≡ true → ShapeJudged img

@@ -1,112 +1,64 @@
--- The areas as the code has them: a list of where each begins, and one of how many floats it has. Assumes nothing.
-use mathlib.Core.Path.{◌≡◌, refl, sym, ap, ap₂, ◌∙◌, subst}
-use mathlib.Core.List.{List, [], ◌∷◌}
-use mathlib.Core.Logic.{◌⊎◌, inl, inr}
+-- The areas as the code has them, one after the other: what is asked of them is what is asked of the image. Assumes nothing.
+use mathlib.Core.Path.{◌≡◌, ap, ap₂, ◌∙◌}
+use mathlib.Core.List.{List}
 use Prim.Native.Nat.{ℕ, zero, suc, ◌+◌, ◌-◌, ◌*◌, ◌≤◌, ◌<◌}
-use native.Mathlib.Nat.{eq-or-lt_of_le}
 use native.Mathlib.Omega.{arith}
-use lib.ListN.{length, get_or, set}
-use lib.Seq.{get_or-set_same, get_or-set_other}
-use Rattle.answer.specs.Faults.{first_fault}
+use lib.ListN.{length, take}
+use lib.Seq.{length-take-le, get_or-take}
+use Rattle.answer.specs.Faults.{Fault, no_fault, first_fault, ◌or◌}
 use Rattle.answer.proofs.Orders as orders
 use Rattle.checks.specs.Numbers.{area_fault, shared_fault}
-use Rattle.layout.specs.Shape.{counts_of, size}
-use Rattle.image.specs.Fields.{axes_field, count_field, offset_field, values_field, shape_of, area_of}
-use Rattle.image.specs.Load.{areas_fault, pairs_fault}
-use Rattle.image.specs.Scaffolding.{ShapeJudged, Bounded, AreasIn, area_in, asked_of}
+use Rattle.image.specs.Fields.{axes_field, area_of}
+use Rattle.image.specs.Load.{pair_row, areas_fault, pairs_fault}
+use Rattle.image.specs.Scaffolding.{Areas, nth, alone_row, shared_row, later_row}
 use Rattle.image.specs.declared.areas.Area.{Area}
-use Rattle.image.specs.declared.areas.Areas.{Areas}
-use Rattle.image.specs.declared.areas.Asked.TheVariants.{Alone, SharedWith}
-use Rattle.image.proofs.Floats.{axes_four, size_small}
-use Rattle.image.proofs.Sharing.{area_axis, area_values}
 
--- ---- a number for each axis, and after the last that is used the values'
-abbrev pub five : (ℕ → ℕ) → ℕ → ℕ → List ℕ
-five f axes last = set (f 0 ∷ f 1 ∷ f 2 ∷ f 3 ∷ 0 ∷ []) axes last
+-- what holds of each of five
+pub five_each : (P : ℕ → Type 0) → P 0 → P 1 → P 2 → P 3 → P 4 → (k : ℕ) → k ≤ 4 → P k
+five_each P p q r s t zero l = p
+five_each P p q r s t (suc zero) l = q
+five_each P p q r s t (suc (suc zero)) l = r
+five_each P p q r s t (suc (suc (suc zero))) l = s
+five_each P p q r s t (suc (suc (suc (suc zero)))) l = t
+five_each P p q r s t (suc (suc (suc (suc (suc k))))) l = absurd (omega arith)
 
-pub five_are : (f : ℕ → ℕ) (a b c d n v axes last : ℕ) → a ≡ f 0 → b ≡ f 1 → c ≡ f 2 → d ≡ f 3 → n ≡ axes → v ≡ last
-    → set (a ∷ b ∷ c ∷ d ∷ 0 ∷ []) n v ≡ five f axes last
-five_are f a b c d n v axes last p q r s t u =
-    ap₂ (λ (x y : ℕ). set (x ∷ y ∷ c ∷ d ∷ 0 ∷ []) n v) p q
-    ∙ ap₂ (λ (x y : ℕ). set (f 0 ∷ f 1 ∷ x ∷ y ∷ 0 ∷ []) n v) r s
-    ∙ ap₂ (λ (x y : ℕ). five f x y) t u
+-- where the last of several places has no fault, it may be left out
+last_none : (f : ℕ → Fault) (i k : ℕ) → f (i + k) ≡ no_fault → first_fault f i (suc k) ≡ first_fault f i k
+unfolding first_fault
+last_none f i zero h = ap (λ (x : Fault). x or no_fault) (ap f (omega arith) ∙ h) ∙ orders.or_no_fault no_fault
+last_none f i (suc k) h = ap (λ (x : Fault). f i or x) (last_none f (suc i) k (ap f (omega arith) ∙ h))
 
-module _ (f : ℕ → ℕ) (axes last : ℕ) (four : axes ≤ 4) where
-  first_four : (k : ℕ) → k < 4 → get_or (f 0 ∷ f 1 ∷ f 2 ∷ f 3 ∷ 0 ∷ []) k 0 ≡ f k
-  first_four zero l = refl
-  first_four (suc zero) l = refl
-  first_four (suc (suc zero)) l = refl
-  first_four (suc (suc (suc zero))) l = refl
-  first_four (suc (suc (suc (suc k)))) l = absurd (omega arith)
+-- those that an image uses, of all that are read
+module _ (img : List ℕ) (all : List Area) (n : ℕ) (l : Areas img all) (e : n ≡ axes_field img) where
+  abbrev areas : List Area
+  areas = take (n + 1) all
 
-  five_axis : (k : ℕ) → k < axes → get_or (five f axes last) k 0 ≡ f k
-  five_axis k l = get_or-set_other (f 0 ∷ f 1 ∷ f 2 ∷ f 3 ∷ 0 ∷ []) axes k last 0 (λ e. omega (arith, e, l)) ∙ first_four k (omega (arith, l, four))
+  used_long : length areas ≡ axes_field img + 1
+  used_long = length-take-le (n + 1) all (omega (arith, e, l.five, l.four)) ∙ ap (λ (k : ℕ). k + 1) e
 
-  five_values : get_or (five f axes last) axes 0 ≡ last
-  five_values = get_or-set_same (f 0 ∷ f 1 ∷ f 2 ∷ f 3 ∷ 0 ∷ []) axes last 0 (omega (arith, four))
+  used_area : (k : ℕ) → k < axes_field img + 1 → nth areas k ≡ area_of img k
+  used_area k h = get_or-take (n + 1) all k _ (omega (arith, e, h)) ∙ (l.each k (omega (arith, h, l.four))).is
 
--- a bound of each of four
-pub each_below : (f : ℕ → ℕ) (most : ℕ) → f 0 < most → f 1 < most → f 2 < most → f 3 < most → (k : ℕ) → k < 4 → f k < most
-each_below f most p q r s zero l = p
-each_below f most p q r s (suc zero) l = q
-each_below f most p q r s (suc (suc zero)) l = r
-each_below f most p q r s (suc (suc (suc zero))) l = s
-each_below f most p q r s (suc (suc (suc (suc k)))) l = absurd (omega arith)
-
--- ---- read from a header
-module _ (img : List ℕ) (h : ShapeJudged img) (near : (k : ℕ) → k < 4 → offset_field img k < 4294967296) (few : (k : ℕ) → k < 4 → count_field img k < 65536) (far : values_field img < 4294967296) where
-  abbrev read : Areas
-  read = record { axes = axes_field img; at = five (offset_field img) (axes_field img) (values_field img); floats = five (count_field img) (axes_field img) (size (counts_of (shape_of img))) }
-
-  read_is : (k : ℕ) → k ≤ axes_field img → area_in read k ≡ area_of img k
-  read_is k l = go (eq-or-lt_of_le l)
-    where
-      go : (k ≡ axes_field img) ⊎ (k < axes_field img) → area_in read k ≡ area_of img k
-      go (inl e) =
-          ap (area_in read) e
-          ∙ ap₂ (λ (x y : ℕ). record { at = x; floats = y }) (five_values (offset_field img) (axes_field img) (values_field img) (axes_four img h)) (five_values (count_field img) (axes_field img) (size (counts_of (shape_of img))) (axes_four img h))
-          ∙ sym (area_values img k (omega (arith, e)))
-      go (inr m) =
-          ap₂ (λ (x y : ℕ). record { at = x; floats = y }) (five_axis (offset_field img) (axes_field img) (values_field img) (axes_four img h) k m) (five_axis (count_field img) (axes_field img) (size (counts_of (shape_of img))) (axes_four img h) k m)
-          ∙ sym (area_axis img k m)
-
-  read_bounded : (k : ℕ) → k ≤ axes_field img → Bounded (area_in read k).at (area_in read k).floats
-  read_bounded k l = go (eq-or-lt_of_le l)
-    where
-      go : (k ≡ axes_field img) ⊎ (k < axes_field img) → Bounded (area_in read k).at (area_in read k).floats
-      go (inl e) =
-          let is = read_is k l ∙ area_values img k (omega (arith, e)) in
-          record { near = omega (arith, ap (λ (x : Area). x.at) is, far); few = omega (arith, ap (λ (x : Area). x.floats) is, size_small img h) }
-      go (inr m) =
-          let is = read_is k l ∙ area_axis img k m in
-          let four : k < 4 = omega (arith, m, axes_four img h) in
-          record { near = omega (arith, ap (λ (x : Area). x.at) is, near k four); few = omega (arith, ap (λ (x : Area). x.floats) is, few k four) }
-
-  areas_read : AreasIn img read
-  areas_read = record { axes_are = refl; areas_are = read_is; held = record { four = axes_four img h; bounded = read_bounded } }
-
-  pub areas_made : (axes : ℕ) (at floats : List ℕ) → axes ≡ axes_field img → at ≡ five (offset_field img) (axes_field img) (values_field img)
-      → floats ≡ five (count_field img) (axes_field img) (size (counts_of (shape_of img))) → AreasIn img (record { axes = axes; at = at; floats = floats })
-  areas_made axes at floats e p q =
-      subst (AreasIn img)
-      (sym (ap (λ (n : ℕ). record { axes = n; at = at; floats = floats }) e ∙ ap₂ (λ (x y : List ℕ). record { axes = axes_field img; at = x; floats = y }) p q))
-      areas_read
-
--- ---- what is asked of them is what is asked of the image
-module _ (img : List ℕ) (areas : Areas) (l : AreasIn img areas) where
-  pub areas_asked : first_fault (asked_of (Alone (length img)) areas) 0 (areas.axes + 1) ≡ areas_fault img
+  pub areas_asked : first_fault (alone_row (length img) areas) 0 (length areas) ≡ areas_fault img
   unfolding areas_fault
   areas_asked =
-      ap (λ (n : ℕ). first_fault (asked_of (Alone (length img)) areas) 0 (n + 1)) l.axes_are
-      ∙ orders.first_same _ _ 0 (axes_field img + 1) (λ k p q. ap (λ (x : Area). area_fault (length img) k x.at x.floats) (l.areas_are k (omega (arith, q))))
+      ap (first_fault (alone_row (length img) areas) 0) used_long
+      ∙ orders.first_same _ _ 0 (axes_field img + 1) (λ k p q. ap (λ (x : Area). area_fault (length img) k x.at x.floats) (used_area k (omega (arith, q))))
 
-  pub pairs_asked : first_fault (λ i. first_fault (asked_of (SharedWith i) areas) (i + 1) (areas.axes - i)) 0 areas.axes ≡ pairs_fault img
+  later_asked : (i : ℕ) → i < axes_field img → later_row areas i ≡ first_fault (pair_row img i) (i + 1) (axes_field img - i)
+  later_asked i h =
+      ap (first_fault (shared_row areas i) (i + 1)) (omega (arith, used_long))
+      ∙ orders.first_same _ _ (i + 1) (axes_field img - i)
+      (λ j p q. ap₂ (λ (x y : Area). shared_fault i j x.at (8 * x.floats) y.at (8 * y.floats)) (used_area i (omega (arith, h))) (used_area j (omega (arith, p, q))))
+
+  last_later : later_row areas (0 + axes_field img) ≡ no_fault
+  unfolding first_fault
+  last_later = let none : length areas - (0 + axes_field img + 1) ≡ 0 = omega (arith, used_long) in ap (first_fault (shared_row areas (0 + axes_field img)) (0 + axes_field img + 1)) none
+
+  pub pairs_asked : first_fault (later_row areas) 0 (length areas) ≡ pairs_fault img
   unfolding pairs_fault
   pairs_asked =
-      ap (λ (n : ℕ). first_fault (λ i. first_fault (asked_of (SharedWith i) areas) (i + 1) (n - i)) 0 n) l.axes_are
-      ∙ orders.first_same _ _ 0 (axes_field img) each
-    where
-      each : (i : ℕ) → 0 ≤ i → i < 0 + axes_field img → first_fault (asked_of (SharedWith i) areas) (i + 1) (axes_field img - i) ≡ first_fault (λ j. shared_fault i j (area_of img i).at (8 * (area_of img i).floats) (area_of img j).at (8 * (area_of img j).floats)) (i + 1) (axes_field img - i)
-      each i p q =
-          orders.first_same _ _ (i + 1) (axes_field img - i)
-          (λ j r s. ap₂ (λ (x y : Area). shared_fault i j x.at (8 * x.floats) y.at (8 * y.floats)) (l.areas_are i (omega (arith, q))) (l.areas_are j (omega (arith, r, s))))
+      let more : length areas ≡ suc (axes_field img) = omega (arith, used_long) in
+      ap (first_fault (later_row areas) 0) more
+      ∙ last_none (later_row areas) 0 (axes_field img) last_later
+      ∙ orders.first_same _ _ 0 (axes_field img) (λ i p q. later_asked i (omega (arith, q)))

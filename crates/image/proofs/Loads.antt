@@ -1,70 +1,73 @@
 -- What loading answers and writes, put together. Assumes nothing.
-use mathlib.Core.Path.{◌≡◌, refl, ap₂, ◌∙◌}
+use mathlib.Core.Path.{◌≡◌, refl, ap₂}
 use mathlib.Core.Bool.{true}
 use mathlib.Core.List.{List, ◌++◌}
 use Prim.Native.Nat.{ℕ, ◌≤◌}
 use native.Mathlib.Omega.{arith}
 use lib.ListN.{length, drop}
-use lib.Seq.{sets}
-use Rattle.answer.specs.Faults.{good, filled_into}
+use Rattle.std.proofs.Common.{Ok, Err}
+use Rattle.answer.specs.Faults.{Fault, good, filled_into}
 use Rattle.answer.specs.Answer.{refused, fine}
-use Rattle.answer.specs.declared.Fault.{Fault}
+use Rattle.answer.specs.Rows.{fault_of, said}
 use Rattle.answer.specs.declared.Answer.{Answer}
+use Rattle.answer.specs.declared.Refusal.{Refusal}
 use Rattle.answer.proofs.Orders as orders
-use Rattle.answer.proofs.Answers.{then_stops, then_goes_on}
+use Rattle.answer.proofs.Checks as checks
 use Rattle.layout.specs.Shape.{counts_of, size, total, no_shape}
 use Rattle.layout.specs.declared.Shape.{Shape}
-use Rattle.image.specs.Image.{nodes_in, values_in}
+use Rattle.checks.specs.declared.shapes.Holding.{Holding}
 use Rattle.image.specs.Fields.{shape_of}
 use Rattle.image.specs.Load.{rooms_fault, load_fault, load_answer}
-use Rattle.image.specs.Scaffolding.{refused_load, Rooms}
+use Rattle.image.specs.Scaffolding.{Held}
 use Rattle.image.specs.declared.LoadAnswer.{LoadAnswer}
-use Rattle.image.proofs.Laws.{load_means, loaded_shape}
-use Rattle.image.proofs.Floats.{nodes_total, values_size, sets_front}
+use Rattle.image.proofs.Laws.{load_means}
+use Rattle.image.proofs.Floats.{nodes_held, values_held}
 use Rattle.checks.specs.Numbers.{room_fault}
 use Rattle.checks.proofs.lent.Rows.{room_passed}
 
--- r is what the checks gave, and its number was tested
-module _ (img : List ℕ) (nodes values : ℕ) (r : Fault) (e : r ≡ load_fault img nodes values) where
-  pub load-refused : (r.number ≡ 0 → ⊥) → refused_load r ≡ load_answer img nodes values
-  unfolding load_answer refused_load
-  load-refused h =
+-- ---- the answer, by what the checks gave
+module _ (img : List ℕ) (nodes values : ℕ) where
+  pub load-refused : (A : Type 0) (e : Refusal) → said {A = A} (Err e) ≡ load_fault img nodes values → ◌≡◌ {A = LoadAnswer} (record { answer = refused (fault_of e); shape = no_shape }) (load_answer img nodes values)
+  unfolding load_answer
+  load-refused A e s =
       ap₂ (λ (a : Answer) (s : Shape). record { answer = a; shape = s })
-      (then_stops r (load_fault img nodes values) e (refused r) fine h refl)
-      (orders.given-refused r (load_fault img nodes values) e (shape_of img) no_shape h)
+      (checks.then_stops A e (load_fault img nodes values) s (refused (fault_of e)) fine refl)
+      (checks.given-refused A e (load_fault img nodes values) s (shape_of img) no_shape)
 
-  pub load_made : r.number ≡ 0 → (a : Answer) (s : Shape) → a ≡ fine → s ≡ shape_of img
+  pub load_made : {A : Type 0} (x : A) → said (Ok x) ≡ load_fault img nodes values → (a : Answer) (s : Shape) → a ≡ fine → s ≡ shape_of img
       → ◌≡◌ {A = LoadAnswer} (record { answer = a; shape = s }) (load_answer img nodes values)
   unfolding load_answer
-  load_made h a s p q =
+  load_made x h a s p q =
       ap₂ (λ (a : Answer) (s : Shape). record { answer = a; shape = s })
-      (then_goes_on r (load_fault img nodes values) e a fine h p)
-      (orders.given_kept r (load_fault img nodes values) e (shape_of img) no_shape s h q)
+      (checks.then_goes_on x (load_fault img nodes values) h a fine p)
+      (checks.given_kept x (load_fault img nodes values) h s (shape_of img) no_shape q)
 
--- an output after a call, by its answer
-module _ {A : Type 0} (a r : Fault) (e : r ≡ a) (xs out : List A) where
-  pub out_kept : (r.number ≡ 0 → ⊥) → out ≡ filled_into a xs out
+-- ---- an output after a call, by what the checks gave
+module _ {B : Type 0} (a : Fault) (xs out : List B) where
+  pub out_kept : (A : Type 0) (e : Refusal) → said {A = A} (Err e) ≡ a → out ≡ filled_into a xs out
   unfolding filled_into
-  out_kept h = orders.given-refused r a e (xs ++ drop (length xs) out) out h
+  out_kept A e s = checks.given-refused A e a s (xs ++ drop (length xs) out) out
 
-  pub out_filled : r.number ≡ 0 → (after : List A) → length xs ≤ length out → after ≡ sets out 0 xs → after ≡ filled_into a xs out
-  unfolding filled_into
-  out_filled h after l q = orders.given_kept r a e (xs ++ drop (length xs) out) out after h (q ∙ sets_front xs out l)
+  module _ {A : Type 0} (x : A) (s : said (Ok x) ≡ a) (after : List B) where
+    pub out_begun : after ≡ xs ++ drop (length xs) out → after ≡ filled_into a xs out
+    unfolding filled_into
+    out_begun q = checks.given_kept x a s after (xs ++ drop (length xs) out) out q
 
 -- ---- what is known where every check was passed
-module _ (img : List ℕ) (nodes values : ℕ) (h : good (load_fault img nodes values) ≡ true) where
-  pub loaded_rooms : Rooms img nodes values
+module _ (img : List ℕ) (nodes values : ℕ) (held : Holding) (s : said (Ok held) ≡ load_fault img nodes values) (k : Held img held) where
+  passed : good (rooms_fault (shape_of img) nodes values) ≡ true
+  passed = (load_means img nodes values (checks.passes held _ s)).rooms
+
+  pub nodes_fit : held.nodes ≤ nodes
   unfolding rooms_fault
-  loaded_rooms =
-      let enough = (load_means img nodes values h).rooms in
-      record {
-        judged = loaded_shape img nodes values h;
-        nodes_room = room_passed 0 (total (counts_of (shape_of img))) nodes (orders.first-passed (room_fault 0 (total (counts_of (shape_of img))) nodes) _ enough);
-        values_room = room_passed 1 (size (counts_of (shape_of img))) values (orders.second_passed (room_fault 0 (total (counts_of (shape_of img))) nodes) (room_fault 1 (size (counts_of (shape_of img))) values) enough);
-      }
+  nodes_fit = omega (arith, nodes_held img held k, room_passed 0 (total (counts_of (shape_of img))) nodes (orders.first-passed (room_fault 0 (total (counts_of (shape_of img))) nodes) _ passed))
 
-  pub nodes_fit : length (nodes_in img) ≤ nodes
-  nodes_fit = omega (arith, nodes_total img loaded_rooms.judged, loaded_rooms.nodes_room)
-
-  pub values_fit : length (values_in img) ≤ values
-  values_fit = omega (arith, values_size img, loaded_rooms.values_room)
+  pub values_fit : held.values ≤ values
+  unfolding rooms_fault
+  values_fit =
+      omega (
+        arith,
+        values_held img held k,
+        room_passed 1 (size (counts_of (shape_of img))) values
+            (orders.second_passed (room_fault 0 (total (counts_of (shape_of img))) nodes) (room_fault 1 (size (counts_of (shape_of img))) values) passed),
+      )

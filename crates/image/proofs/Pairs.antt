@@ -8,8 +8,7 @@ use native.Mathlib.Nat.{eq-or-lt_of_le}
 use native.Mathlib.Omega.{arith}
 use borrow.Author.Tests.{ltb-true, ltb-false}
 use lib.Dec.{ltb}
-use Rattle.answer.specs.Faults.{refusal, no_fault, good, first_fault}
-use Rattle.answer.specs.declared.Fault.{Fault}
+use Rattle.answer.specs.Faults.{Fault, refusal, no_fault, good, first_fault}
 use Rattle.answer.proofs.Orders as orders
 use Rattle.answer.proofs.Firsts.{First, first_found, first-at}
 use Rattle.checks.specs.Numbers.{sharing}

@@ -2,12 +2,10 @@
 use mathlib.Core.Path.{◌≡◌, refl, sym, ap}
 use mathlib.Core.Bool.{Bool, true, false, cond}
 use mathlib.Core.List.{List}
-use mathlib.Core.Logic.{◌⊎◌, inl, inr}
 use Prim.Native.Nat.{ℕ, ◌+◌, ◌≤◌, ◌<◌, min, max}
 use native.Mathlib.Omega.{arith}
 use borrow.Author.Tests.{lt-ltb, le-ltb, ltb-true}
-use lib.Dec.{ltb}
-use Rattle.answer.specs.Faults.{refusal, no_fault, good}
+use Rattle.answer.specs.Faults.{refusal, good}
 use Rattle.answer.proofs.Orders.{row_met, row_passed, row_good, clash, passed-no_fault}
 use Rattle.checks.specs.Numbers.{sharing, shared_fault}
 use Rattle.layout.specs.Shape.{counts_of, size}
@@ -62,15 +60,6 @@ module _ (at long at' long' : ℕ) where
 
   -- ---- 18
   module _ (i j : ℕ) where
-    pub shared_met : (x : ℕ) → x ≡ max at at' → x < at + long → x < at' + long' → refusal 18 i j ≡ shared_fault i j at long at' long'
-    unfolding shared_fault sharing
-    shared_met x e h k = row_met (ltb from end) 17 i j (lt-ltb from end (omega (arith, e, h, k)))
-
-    pub shared_past : (x : ℕ) → x ≡ max at at' → (at + long ≤ x) ⊎ (at' + long' ≤ x) → no_fault ≡ shared_fault i j at long at' long'
-    unfolding shared_fault sharing
-    shared_past x e (inl h) = row_passed (ltb from end) 17 i j (le-ltb from end (omega (arith, e, h)))
-    shared_past x e (inr h) = row_passed (ltb from end) 17 i j (le-ltb from end (omega (arith, e, h)))
-
     pub shared_told : sharing at long at' long' ≡ true → shared_fault i j at long at' long' ≡ refusal 18 i j
     unfolding shared_fault
     shared_told h = sym (row_met (sharing at long at' long') 17 i j h)

@@ -1,7 +1,6 @@
 -- "Loading checks": those of the header, in their order.
 use Rattle.std.specs.Prelude.{cond, List, ℕ, ◌+◌, ◌-◌, ◌*◌, ltb, length}
-use Rattle.answer.specs.Faults.{◌or◌, first_fault}
-use Rattle.answer.specs.declared.Fault.{Fault}
+use Rattle.answer.specs.Faults.{Fault, ◌or◌, first_fault}
 use Rattle.checks.specs.Numbers.{axes_count_fault, count_fault, product_fault, field_fault, short_fault, stated_fault}
 use Rattle.little_endian.specs.Words.{word_at}
 use Rattle.image.specs.Fields.{axes_field, count_field, offset_field, shape_of}

@@ -1,8 +1,7 @@
 -- "Loading checks", in their order, and what loading answers and writes for every input.
 use Rattle.std.specs.Prelude.{◌≡◌, true, List, ℕ, ◌+◌, ◌-◌, ◌*◌, length, Float}
-use Rattle.answer.specs.Faults.{good, ◌or◌, first_fault, given, filled_into}
+use Rattle.answer.specs.Faults.{Fault, good, ◌or◌, first_fault, given, filled_into}
 use Rattle.answer.specs.Answer.{fine, ◌then◌}
-use Rattle.answer.specs.declared.Fault.{Fault}
 use Rattle.checks.specs.Numbers.{area_fault, room_fault, axes_fault, values_fault, shared_fault}
 use Rattle.layout.specs.Shape.{counts_of, size, total, no_shape}
 use Rattle.layout.specs.declared.Shape.{Shape}

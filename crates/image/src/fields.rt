@@ -1,12 +1,13 @@
 // The numbers that the header of an image says; where the image is too short for one, its bytes that are not there count as 0.
+#![tactic(auto, unfolding(crate::specs::Fields::axes_field, crate::specs::Fields::count_field, crate::specs::Fields::offset_field, crate::specs::Fields::values_field, crate::specs::Fields::shape_of))]
+
 ghost use Rattle.std.specs.Prelude.{◌≡◌, ◌^◌, ◌≤◌};
 ghost use Rattle.little_endian.specs.Words.{word_at};
 ghost use Rattle.image.specs.Fields.{axes_field, count_field, offset_field, values_field, shape_of};
-ghost use Rattle.image.specs.Scaffolding.{Number, ShapeJudged, Holds};
+ghost use Rattle.image.specs.Scaffolding.{Number};
 
-use checks::shapes;
-use checks::shapes::Holding;
 use layout::Shape;
+use std::array;
 
 // A field of n bytes.
 pub(crate) fn field(img: &[u8], at: usize, n: usize) -> usize
@@ -50,21 +51,8 @@ pub(crate) fn values_at(img: &[u8]) -> usize
 pub(crate) fn shape_of(img: &[u8]) -> Shape
     ensures { result ≡ shape_of img.now }
 {
-    let axes = axes_of(img);
-    let a = count_of(img, 0);
-    let b = count_of(img, 1);
-    let c = count_of(img, 2);
-    let d = count_of(img, 3);
     Shape {
-        axes,
-        counts: [a, b, c, d],
+        axes: axes_of(img),
+        counts: array::from_fn(|a| count_of(img, a)),
     }
-}
-
-// How many nodes and values an image has whose shape is judged.
-pub(crate) fn sizes_of(img: &[u8]) -> Holding
-    requires { ShapeJudged img.now }
-    ensures { Holds img.now result }
-{
-    shapes::sizes(shape_of(img))
 }

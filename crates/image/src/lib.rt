@@ -1,9 +1,12 @@
 // The table image: a header of counts and offsets, then nodes and values as f64 bits, anywhere after it, no byte in two areas.
-#![tactic(auto)]
+#![tactic(auto, using(answer::proofs::Checks::hands, answer::proofs::Checks::stops, answer::proofs::Checks::goes_on, answer::proofs::Checks::passes_on, answer::proofs::Checks::both_pass, crate::proofs::Listed::areas_asked, crate::proofs::Listed::pairs_asked, crate::proofs::Loads::nodes_fit, crate::proofs::Loads::values_fit), unfolding(crate::specs::Load::load_fault, crate::specs::Load::rooms_fault))]
 
-ghost use Rattle.std.specs.Prelude.{◌≡◌};
+ghost use Rattle.std.specs.Prelude.{◌≡◌, IfOk};
+ghost use Rattle.answer.specs.Answer.{refused};
+ghost use Rattle.answer.specs.Rows.{fault_of, said};
+ghost use Rattle.layout.specs.Shape.{no_shape};
 ghost use Rattle.image.specs.Load.{load_fault, Loaded};
-ghost use Rattle.image.specs.Scaffolding.{refused_load};
+ghost use Rattle.image.specs.Scaffolding.{Held};
 
 // where the areas lie
 pub(crate) mod areas;
@@ -16,8 +19,10 @@ pub(crate) mod headers;
 // the rows that judge a number of the header, and those that go over the axes
 pub(crate) mod rows;
 
-use answer::{Answer, Fault};
+use answer::{Answer, Refusal};
+use checks::shapes::Holding;
 use layout::Shape;
+use std::convert::From;
 
 // How many bytes a header has.
 pub const HEADER: usize = 40;
@@ -33,37 +38,30 @@ pub struct LoadAnswer {
     pub shape: Shape,
 }
 
-// Every check, before anything is written.
-fn load_fault(img: &[u8], nodes: usize, values: usize) -> Fault
-    ensures { result ≡ load_fault img.now nodes values }
+// Every check, before anything is written, and what the image holds.
+fn load_fault(img: &[u8], nodes: usize, values: usize) -> Result<Holding, Refusal>
+    ensures fault { said result ≡ load_fault img.now nodes values }
+    ensures held { IfOk result (Held img.now) }
 {
-    let fault = headers::head_fault(img);
-    if fault.number != 0 {
-        return fault;
-    }
-    let areas = areas::areas_of(img);
-    let fault = areas::areas_fault(img.len(), areas);
-    if fault.number != 0 {
-        return fault;
-    }
-    let fault = areas::pairs_fault(areas);
-    if fault.number != 0 {
-        return fault;
-    }
-    let fault = contents::rooms_fault(img, nodes, values);
-    if fault.number != 0 {
-        return fault;
-    }
-    contents::contents_fault(img)
+    let held = headers::head_fault(img)?;
+    let all = areas::areas_of(img, held);
+    let areas = &all[..=fields::axes_of(img)];
+    areas::areas_fault(img.len(), areas)?;
+    areas::pairs_fault(areas)?;
+    contents::rooms_fault(held, nodes, values)?;
+    contents::contents_fault(img, held)?;
+    Ok(held)
 }
 
 // The answer of a load that is refused.
-fn refused(fault: Fault) -> LoadAnswer
-    ensures { result ≡ refused_load fault }
-{
-    LoadAnswer {
-        answer: answer::refuse(fault),
-        shape: layout::no_shape(),
+impl From<Refusal> for LoadAnswer {
+    ghost from_gives = { λ r a. a ≡ record { answer = refused (fault_of r); shape = no_shape } };
+
+    fn from(refusal: Refusal) -> LoadAnswer {
+        LoadAnswer {
+            answer: Answer::from(refusal),
+            shape: layout::no_shape(),
+        }
     }
 }
 
@@ -72,11 +70,11 @@ pub fn load(img: &[u8], nodes: &mut [f64], values: &mut [f64]) -> LoadAnswer
     ensures { Loaded img.now nodes.old values.old
         nodes.new values.new result }
 {
-    let fault = load_fault(img, nodes.len(), values.len());
-    if fault.number != 0 {
-        return refused(fault);
-    }
-    contents::read(img, nodes, values);
+    let held = match load_fault(img, nodes.len(), values.len()) {
+        Ok(held) => held,
+        Err(refusal) => return LoadAnswer::from(refusal),
+    };
+    contents::read(img, &mut nodes[..held.nodes], &mut values[..held.values]);
     LoadAnswer {
         answer: answer::pass(),
         shape: fields::shape_of(img),

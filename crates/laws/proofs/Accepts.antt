@@ -30,7 +30,7 @@ module _ (s : Shape) (nodes values : List Float) (counted : length (counts_of s)
   count_is a l = sym (get_or-take s.axes s.counts a 0 l) ∙ sym (length-axis (counts_of s) nodes flat a (omega (arith, counted)))
 
   shape_good : good (shape_fault s) ≡ true
-  shape_good = orders.passed-no_fault _ (product_fine s no_fault (axes_right s.axes low high) orders.no_fault_number no_fault counts-good orders.no_fault_number (size (counts_of s)) refl small)
+  shape_good = orders.passed-no_fault _ (product_fine s (axes_right s.axes low high) counts-good small)
     where
       each : (a : ℕ) → 0 ≤ a → a < 0 + s.axes → good (count_fault a (get_or s.counts a 0)) ≡ true
       each a l m =

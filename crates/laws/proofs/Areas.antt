@@ -7,9 +7,8 @@ use native.Mathlib.Omega.{arith}
 use borrow.Author.Tests.{eq-eqb, eqb-true}
 use lib.ListN.{length}
 use lib.Ieee.{Float}
-use Rattle.answer.specs.Faults.{refusal, no_fault, good, filled_into}
+use Rattle.answer.specs.Faults.{Fault, refusal, no_fault, good, filled_into}
 use Rattle.answer.specs.Answer.{refused, answered, fine, ◌then◌, plus_zero}
-use Rattle.answer.specs.declared.Fault.{Fault}
 use Rattle.answer.specs.declared.Answer.{Answer}
 use Rattle.answer.proofs.Orders as orders
 use Rattle.answer.proofs.Answers.{then_good, then_bad, then_number}

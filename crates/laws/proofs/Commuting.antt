@@ -9,9 +9,8 @@ use lib.Dec.{leb}
 use lib.ListN.{length}
 use lib.Ieee.{Float}
 use lib.Ieee.Scale.{finite}
-use Rattle.answer.specs.Faults.{good, refusal, when, ◌or◌, given, filled_into}
+use Rattle.answer.specs.Faults.{Fault, good, refusal, when, ◌or◌, given, filled_into}
 use Rattle.answer.specs.Answer.{refused, fine, ◌then◌}
-use Rattle.answer.specs.declared.Fault.{Fault}
 use Rattle.answer.proofs.Orders as orders
 use Rattle.answer.proofs.Answers.{then_bad}
 use Rattle.layout.specs.Shape.{counts_of, size, no_shape}

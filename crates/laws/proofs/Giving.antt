@@ -7,9 +7,8 @@ use native.Mathlib.Omega.{arith}
 use lib.ListN.{length, take, get_or}
 use lib.Ieee.{Float, nan, inf, fin, eq}
 use lib.Ieee.Scale.{finite}
-use Rattle.answer.specs.Faults.{good, refusal}
+use Rattle.answer.specs.Faults.{Fault, good, refusal}
 use Rattle.answer.specs.Answer.{refused, answered, fine}
-use Rattle.answer.specs.declared.Fault.{Fault}
 use Rattle.answer.specs.declared.Answer.{Answer}
 use Rattle.answer.proofs.Orders as orders
 use Rattle.answer.proofs.Answers.{then_good}

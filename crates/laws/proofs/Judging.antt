@@ -6,9 +6,8 @@ use Prim.Native.Nat.{ℕ, ◌≤◌}
 use native.Mathlib.Omega.{arith}
 use lib.ListN.{length, take, drop, length-append, length-drop}
 use lib.Ieee.{Float}
-use Rattle.answer.specs.Faults.{good, given, filled_into}
+use Rattle.answer.specs.Faults.{Fault, good, given, filled_into}
 use Rattle.answer.specs.Answer.{answered, fine, ◌then◌}
-use Rattle.answer.specs.declared.Fault.{Fault}
 use Rattle.answer.specs.declared.Answer.{Answer}
 use Rattle.answer.proofs.Orders as orders
 use Rattle.answer.proofs.Answers.{Told, quiet, then_good, then_number}

@@ -11,9 +11,8 @@ use lib.ListN.{length, take, drop, get_or, get_or-eq_default}
 use lib.Ieee.{Float, nan, binary64, mul, sub, fits}
 use lib.Ieee.Scale.{finite}
 use lib.Ieee.Fits.{nan-fits, add-fits}
-use Rattle.answer.specs.Faults.{refusal, good, filled_into, first_fault}
+use Rattle.answer.specs.Faults.{Fault, refusal, good, filled_into, first_fault}
 use Rattle.answer.specs.Answer.{refused, fine}
-use Rattle.answer.specs.declared.Fault.{Fault}
 use Rattle.answer.proofs.Orders as orders
 use Rattle.answer.proofs.Answers.{then_good, then_bad}
 use Rattle.answer.proofs.Outputs.{given_front}

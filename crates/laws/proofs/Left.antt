@@ -11,9 +11,8 @@ use lib.ListN.{length, take, drop, get_or, length-take}
 use lib.Seq.{get_or-take, ext_get_or}
 use lib.Ieee.{Float, nan, lt}
 use lib.Ieee.Scale.{finite}
-use Rattle.answer.specs.Faults.{refusal, good, when, ◌or◌, first_fault}
+use Rattle.answer.specs.Faults.{Fault, refusal, good, when, ◌or◌, first_fault}
 use Rattle.answer.specs.Answer.{◌then◌}
-use Rattle.answer.specs.declared.Fault.{Fault}
 use Rattle.answer.specs.declared.Answer.{Answer}
 use Rattle.answer.proofs.Orders as orders
 use Rattle.checks.specs.Nodes.{node}

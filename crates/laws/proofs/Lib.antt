@@ -17,3 +17,4 @@ pub mod Commuting
 pub mod Promises
 pub mod Counting
 pub mod Areas
+pub mod Kept

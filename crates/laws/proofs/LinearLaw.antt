@@ -7,9 +7,8 @@ use native.Mathlib.Omega.{arith}
 use lib.ListN.{length, get_or}
 use lib.Ieee.{Float, nan, lt}
 use lib.Ieee.Scale.{finite}
-use Rattle.answer.specs.Faults.{refusal, good}
+use Rattle.answer.specs.Faults.{Fault, refusal, good}
 use Rattle.answer.specs.Answer.{answered, ◌then◌}
-use Rattle.answer.specs.declared.Fault.{Fault}
 use Rattle.answer.proofs.Orders as orders
 use Rattle.checks.specs.Passed.{Axis}
 use Rattle.checks.specs.Nodes.{gap}

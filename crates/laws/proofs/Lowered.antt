@@ -6,9 +6,8 @@ use native.Mathlib.Omega.{arith}
 use borrow.Author.Tests.{lt-ltb, le-ltb}
 use lib.Dec.{eqb, ltb}
 use lib.Ieee.{Float}
-use Rattle.answer.specs.Faults.{refusal, no_fault, good, when, ◌or◌, first_fault}
+use Rattle.answer.specs.Faults.{Fault, refusal, no_fault, good, when, ◌or◌, first_fault}
 use Rattle.answer.specs.Answer.{refused, answered, ◌then◌}
-use Rattle.answer.specs.declared.Fault.{Fault}
 use Rattle.answer.specs.declared.Answer.{Answer}
 use Rattle.answer.proofs.Orders as orders
 use Rattle.answer.proofs.Tests.{and_false}

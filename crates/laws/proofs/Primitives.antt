@@ -1,4 +1,5 @@
 -- The page of promises of the seven primitives (laws/specs/Primitives.antt), by the theorems there are. Assumes nothing.
+use Rattle.std.proofs.Common.{Option, Some, None}
 use mathlib.Core.Path.{◌≡◌, refl, sym, ap, ap₂, ◌∙◌, subst}
 use mathlib.Core.Bool.{Bool, true, false, not, ◌||◌, cond}
 use mathlib.Core.List.{List}
@@ -9,9 +10,8 @@ use lib.Dec.{ltb}
 use lib.ListN.{length}
 use lib.Ieee.{Float, lt}
 use lib.Ieee.Scale.{finite}
-use Rattle.answer.specs.Faults.{refusal, no_fault, good, when, given, ◌or◌}
+use Rattle.answer.specs.Faults.{Fault, refusal, no_fault, good, when, given, ◌or◌}
 use Rattle.answer.specs.Answer.{plus_zero, refused, answered, fine, ◌then◌}
-use Rattle.answer.specs.declared.Fault.{Fault}
 use Rattle.answer.specs.declared.Answer.{Answer}
 use Rattle.answer.proofs.Orders as orders
 use Rattle.answer.proofs.Answers.{Quiet, quiet, then_good, then_bad, then_number}
@@ -25,8 +25,6 @@ use Rattle.checks.proofs.lent.Rows.{direction_fine, direction_passed}
 use Rattle.checks.proofs.numbers.Rows.{reading_fine, reading_finite, finite_fine, finite_passed, wild_passed, result_fine, result_wild}
 use Rattle.rust.specs.Utils as rust
 use Rattle.rust.specs.Utils.{Validated, ok, non_uniform}
-use Rattle.rust.specs.declared.MaybeIndex.{MaybeIndex}
-use Rattle.rust.specs.declared.MaybeIndex.TheVariants.{Some, None}
 use Rattle.rust.specs.declared.AxisLocation.{AxisLocation}
 use Rattle.rust.specs.declared.AxisLocation.TheVariants.{Exact, Between}
 use Rattle.axis.specs.Cells.{lower_index}
@@ -38,7 +36,6 @@ use Rattle.axis.proofs.Located.{uniform_index_fits}
 use Rattle.axis.proofs.cells.Cells.{cell_inside}
 use Rattle.axis.proofs.Texts.{uniform_row, lower_text, exact_text, axis_text, step_index_text, uniform_index_text, validate_text, epsilon_text, row_passed}
 use Rattle.utils.specs.Calls.{index_of, location_fraction, index_answer, exact_answer, axis_answer, axis_reading_fault, lower_fault, exact_fault, locate_fault, directed_fault, uniform_read_fault, spacing_fault, tolerance_of, locate_lower_index, exact_index, locate_axis, locate_step_index, locate_lower_index_uniform, validate_uniform_grid, validate_uniform_grid_epsilon}
-use Rattle.utils.specs.declared.Tolerance.TheVariants.{Lent, Default}
 use Rattle.board.specs.Plain.{found_of, plain_exact, between_of, plain_location, tolerance_by}
 use Rattle.laws.specs.Primitives.{Tells, Judges, Gives, Readable, Stepped, Tolerant, index_case, location_case, exact, located, Primitives}
 
@@ -72,7 +69,7 @@ gives Good f x y zeros passes passed same = record {
 gives_case : {A B : Type 0} {Good : Type 0} {f : Fault} {answer : Answer} {given x zeros : A} (by : A → B) → Gives Good f answer given x zeros → Gives Good f answer (by given) (by x) (by zeros)
 gives_case by g = record { judges = g.judges; gives = λ h. ap by (g.gives h); empty = λ h. ap by (g.empty h) }
 
-index_plain : (i : MaybeIndex) → index_case i ≡ (found_of i, index_of i)
+index_plain : (i : Option ℕ) → index_case i ≡ (found_of i, index_of i)
 index_plain (Some i) = refl
 index_plain None = refl
 
@@ -258,7 +255,7 @@ module _ (nodes : List Float) (lent row : Fault) (v : Validated) (Lend : Type 0)
       then_bad (axis_fault nodes or lent or row) fine (ap good f ∙ orders.bad_refused 7 0 i) ∙ ap refused f
 
 module _ (nodes : List Float) (tolerance : Float) where
-  pub lent_check : Judges ((Axis nodes × Tolerant tolerance) × (rust.validate_uniform_grid nodes 0 tolerance ≡ ok)) (spacing_fault nodes (Lent tolerance)) (validate_uniform_grid nodes tolerance)
+  pub lent_check : Judges ((Axis nodes × Tolerant tolerance) × (rust.validate_uniform_grid nodes 0 tolerance ≡ ok)) (spacing_fault nodes (Some tolerance)) (validate_uniform_grid nodes tolerance)
   unfolding validate_uniform_grid validate_uniform_grid_epsilon spacing_fault tolerance_of
   lent_check =
       judges ((Axis nodes × Tolerant tolerance) × (rust.validate_uniform_grid nodes 0 tolerance ≡ ok)) _
@@ -270,7 +267,7 @@ module _ (nodes : List Float) (tolerance : Float) where
   lent_check_names = names nodes (tolerance_fault tolerance) (uniform_fault 0 nodes tolerance) (rust.validate_uniform_grid nodes 0 tolerance) (Tolerant tolerance) (tolerance_good tolerance) (tolerance_passed tolerance) (λ a. validate_text 0 nodes tolerance)
 
 module _ (nodes : List Float) (tolerance : Float) where
-  pub default_check : Judges (Axis nodes × (rust.validate_uniform_grid_epsilon nodes 0 ≡ ok)) (spacing_fault nodes Default) (validate_uniform_grid_epsilon nodes (tolerance_by 0 tolerance))
+  pub default_check : Judges (Axis nodes × (rust.validate_uniform_grid_epsilon nodes 0 ≡ ok)) (spacing_fault nodes None) (validate_uniform_grid_epsilon nodes (tolerance_by 0 tolerance))
   unfolding validate_uniform_grid_epsilon spacing_fault tolerance_of tolerance_by
   default_check =
       judges (Axis nodes × (rust.validate_uniform_grid_epsilon nodes 0 ≡ ok)) _
@@ -283,7 +280,7 @@ module _ (nodes : List Float) (tolerance : Float) where
 
   lent_epsilon : (lent : ℕ) → (lent ≡ 0 → ⊥) → validate_uniform_grid_epsilon nodes (tolerance_by lent tolerance) ≡ validate_uniform_grid nodes tolerance
   unfolding validate_uniform_grid tolerance_by
-  lent_epsilon lent h = ap (λ (b : Bool). validate_uniform_grid_epsilon nodes (cond b Default (Lent tolerance))) (ne_eqb lent 0 h)
+  lent_epsilon lent h = ap (λ (b : Bool). validate_uniform_grid_epsilon nodes (cond b None (Some tolerance))) (ne_eqb lent 0 h)
 
 pub primitives : Primitives
 primitives = record {

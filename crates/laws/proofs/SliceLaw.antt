@@ -9,9 +9,8 @@ use lib.Dec.{ltb}
 use lib.ListN.{length, get_or}
 use lib.Ieee.{Float, nan}
 use lib.Ieee.Scale.{finite}
-use Rattle.answer.specs.Faults.{good}
+use Rattle.answer.specs.Faults.{Fault, good}
 use Rattle.answer.specs.Answer.{answered, ◌then◌}
-use Rattle.answer.specs.declared.Fault.{Fault}
 use Rattle.answer.proofs.Orders as orders
 use Rattle.checks.specs.Passed.{Axis}
 use Rattle.checks.specs.Numbers.{direction_fault, length_fault, value_fault, values_fault, directions_fault, range_fault}

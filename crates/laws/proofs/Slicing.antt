@@ -5,9 +5,8 @@ use mathlib.Core.List.{List}
 use Prim.Native.Nat.{ℕ}
 use lib.ListN.{length, take}
 use lib.Ieee.{Float}
-use Rattle.answer.specs.Faults.{good, filled_into}
+use Rattle.answer.specs.Faults.{Fault, good, filled_into}
 use Rattle.answer.specs.Answer.{fine}
-use Rattle.answer.specs.declared.Fault.{Fault}
 use Rattle.answer.proofs.Answers.{then_number}
 use Rattle.answer.proofs.Outputs.{given_front}
 use Rattle.answer.proofs.Answers.{then_number}

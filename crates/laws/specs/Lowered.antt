@@ -1,6 +1,6 @@
 -- How a slice's answer is numbered beside the whole table's.
 use Rattle.std.specs.Prelude.{◌&&◌, ◌||◌, cond, ℕ, ◌-◌, ltb, eqb}
-use Rattle.answer.specs.declared.Fault.{Fault}
+use Rattle.answer.specs.Faults.{Fault}
 use Rattle.answer.specs.declared.Answer.{Answer}
 
 -- demand 3: "axes in 10 and 11 one lower", those above the removed one

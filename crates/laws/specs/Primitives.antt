@@ -1,22 +1,18 @@
 -- THE PAGE OF PROMISES, of the seven primitives on one axis: which input each accepts, that it then gives what the Rust's text gives, and what a refusal
 -- holds. Nothing but statements; `primitives` (laws/proofs/Primitives.antt) inhabits the record.
-use Rattle.std.specs.Prelude.{◌≡◌, true, false, List, ℕ, ◌+◌, ◌≤◌, ◌<◌, length, Float}
+use Rattle.std.specs.Prelude.{◌≡◌, true, false, List, ℕ, ◌+◌, ◌≤◌, ◌<◌, length, Float, Option, Some, None}
 use Rattle.std.specs.Float.Ieee.{lt}
 use Rattle.std.specs.Float.Ieee.Scale.{finite}
-use Rattle.answer.specs.Faults.{refusal, good}
+use Rattle.answer.specs.Faults.{Fault, refusal, good}
 use Rattle.answer.specs.Answer.{plus_zero, refused, fine}
-use Rattle.answer.specs.declared.Fault.{Fault}
 use Rattle.answer.specs.declared.Answer.{Answer}
 use Rattle.checks.specs.Passed.{Axis}
 use Rattle.rust.specs.Utils as rust
 use Rattle.rust.specs.Utils.{ok, non_uniform}
-use Rattle.rust.specs.declared.MaybeIndex.{MaybeIndex}
-use Rattle.rust.specs.declared.MaybeIndex.TheVariants.{Some, None}
 use Rattle.rust.specs.declared.AxisLocation.{AxisLocation}
 use Rattle.rust.specs.declared.AxisLocation.TheVariants.{Exact, Between}
 use Rattle.utils.specs.Calls.{axis_reading_fault, exact_fault, locate_fault, directed_fault, uniform_read_fault, spacing_fault}
 use Rattle.utils.specs.Calls.{locate_lower_index, exact_index, locate_axis, locate_step_index, locate_lower_index_uniform, validate_uniform_grid, validate_uniform_grid_epsilon}
-use Rattle.utils.specs.declared.Tolerance.TheVariants.{Lent, Default}
 use Rattle.board.specs.Plain.{plain_exact, plain_location, tolerance_by}
 use Rattle.board.specs.declared.plain.PlainExact.{PlainExact}
 use Rattle.board.specs.declared.plain.PlainLocation.{PlainLocation}
@@ -54,7 +50,7 @@ abbrev pub Tolerant : Float → Type 0
 Tolerant tolerance = (finite tolerance ≡ true) × (lt tolerance plus_zero ≡ false)
 
 -- "When an answer is an enum, a definition gives this paper's number and values for each of its cases": an index, or none; a node, or a lower index with a fraction
-abbrev pub index_case : MaybeIndex → ℕ × ℕ
+abbrev pub index_case : Option ℕ → ℕ × ℕ
 index_case (Some i) = (1, i)
 index_case None = (0, 0)
 
@@ -91,13 +87,13 @@ pub record Primitives : Type 0 where
   pub uniform_fits : (first step : Float) (n : ℕ) (p : Float) → 2 ≤ n → rust.locate_lower_index_uniform first step n p + 1 < n
   -- the two checks give a verdict alone: accepted where the Rust's says `Ok(())`, and 8 at the interval that it names
   pub lent_check : (nodes : List Float) (tolerance : Float)
-      → Judges ((Axis nodes × Tolerant tolerance) × (rust.validate_uniform_grid nodes 0 tolerance ≡ ok)) (spacing_fault nodes (Lent tolerance)) (validate_uniform_grid nodes tolerance)
+      → Judges ((Axis nodes × Tolerant tolerance) × (rust.validate_uniform_grid nodes 0 tolerance ≡ ok)) (spacing_fault nodes (Some tolerance)) (validate_uniform_grid nodes tolerance)
   pub lent_check_names : (nodes : List Float) (tolerance : Float) (i : ℕ)
       → Axis nodes → Tolerant tolerance → rust.validate_uniform_grid nodes 0 tolerance ≡ non_uniform 0 i → validate_uniform_grid nodes tolerance ≡ refused (refusal 8 0 i)
   -- .. the second by a lent tolerance where its flag is not 0, and else by the default
   pub lent_epsilon : (nodes : List Float) (lent : ℕ) (tolerance : Float) → (lent ≡ 0 → ⊥)
       → validate_uniform_grid_epsilon nodes (tolerance_by lent tolerance) ≡ validate_uniform_grid nodes tolerance
   pub default_check : (nodes : List Float) (tolerance : Float)
-      → Judges (Axis nodes × (rust.validate_uniform_grid_epsilon nodes 0 ≡ ok)) (spacing_fault nodes Default) (validate_uniform_grid_epsilon nodes (tolerance_by 0 tolerance))
+      → Judges (Axis nodes × (rust.validate_uniform_grid_epsilon nodes 0 ≡ ok)) (spacing_fault nodes None) (validate_uniform_grid_epsilon nodes (tolerance_by 0 tolerance))
   pub default_check_names : (nodes : List Float) (tolerance : Float) (i : ℕ)
       → Axis nodes → rust.validate_uniform_grid_epsilon nodes 0 ≡ non_uniform 0 i → validate_uniform_grid_epsilon nodes (tolerance_by 0 tolerance) ≡ refused (refusal 8 0 i)

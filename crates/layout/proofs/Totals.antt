@@ -1,7 +1,7 @@
 -- Counts, and how many nodes and values they make: what the loops over them need. Assumes nothing.
-use mathlib.Core.Path.{◌≡◌, refl, sym, ap, ap₂, ◌∙◌, subst}
+use mathlib.Core.Path.{◌≡◌, sym, ap, ap₂, ◌∙◌, subst}
 use mathlib.Core.Logic.{◌⊎◌, inl, inr}
-use mathlib.Core.List.{List, [], ◌∷◌, map}
+use mathlib.Core.List.{List, [], ◌∷◌}
 use Prim.Native.Nat.{ℕ, suc, ◌+◌, ◌-◌, ◌*◌, ◌^◌, ◌≤◌, ◌<◌, min}
 use native.Mathlib.Nat.{mul-le-mul, pow-le-pow_right, pow-suc, le_trans, eq-or-lt_of_le}
 use native.Mathlib.Numerals.{add-one}
@@ -9,14 +9,6 @@ use native.Mathlib.Omega.{arith}
 use lib.ListN.{length, take, drop, get_or, length-take, length-drop, drop_of_length-le}
 use lib.Seq.{drop-cons, get_or-take, get_or-drop, take_all, length-take-le}
 use Rattle.layout.specs.Shape.{size, total}
-
--- ---- a shape has four counts: so the checker says it of a field that is an array
-pub length_ids : {n : ℕ} (l : List ℕ) → length (map (λ v. v) l) ≡ n → length l ≡ n
-length_ids l h = same l ∙ h
-  where
-    same : (l : List ℕ) → length l ≡ length (map (λ v. v) l)
-    same [] = refl
-    same (x ∷ l) = ap suc (same l)
 
 -- ---- one more of the first n
 pub ahead : {A : Type 0} (l : List A) (n d : ℕ) (z : A) → d < n → n ≤ length l → drop d (take n l) ≡ get_or l d z ∷ drop (d + 1) (take n l)

@@ -2,9 +2,8 @@
 // index lists and flat places (Layouts), one axis put in or left out (Removals), where each axis starts (Walks).
 #![tactic(auto)]
 
-ghost use Rattle.std.specs.Prelude.{◌≡◌, min};
+ghost use Rattle.std.specs.Prelude.{◌≡◌};
 ghost use Rattle.layout.specs.Shape.{no_shape};
-ghost use Rattle.layout.specs.Scaffolding.{Four};
 
 // A lent shape: how many axes, and the count of nodes of each. Counts past the axes are not looked at.
 #[repr(C)]
@@ -22,18 +21,4 @@ pub fn no_shape() -> Shape
         axes: 0,
         counts: [0; 4],
     }
-}
-
-// The counts of a shape, of which there are four: what every loop over the axes has to know.
-pub fn counts_of(shape: Shape) -> [usize; 4]
-    ensures { Four shape.counts result }
-{
-    shape.counts
-}
-
-// The less of two.
-pub fn least(a: usize, b: usize) -> usize
-    ensures { result ≡ min a b }
-{
-    if a < b { a } else { b }
 }

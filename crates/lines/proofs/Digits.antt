@@ -2,8 +2,8 @@
 use mathlib.Core.Path.{◌≡◌, refl, sym, ap, ◌∙◌}
 use mathlib.Core.Bool.{Bool, true, false, cond}
 use mathlib.Core.List.{List, [], ◌∷◌, ◌++◌}
-use Prim.Native.Nat.{ℕ, zero, suc, ◌+◌, ◌-◌, ◌*◌, ◌/◌, ◌%◌, ◌^◌, ◌≤◌, ◌<◌}
-use native.Mathlib.Nat.{pow-suc}
+use Prim.Native.Nat.{ℕ, zero, suc, ◌+◌, ◌-◌, ◌*◌, ◌/◌, ◌%◌, ◌^◌, ◌≤◌, ◌<◌, max}
+use native.Mathlib.Nat.{pow-suc, one-le-pow}
 use native.Mathlib.Omega.{arith}
 use lib.Dec.{ltb}
 use lib.ListN.{length, set, length-append, length-set}
@@ -11,7 +11,7 @@ use borrow.Author.Tests.{lt-ltb, le-ltb, ltb-true, ltb-false}
 use Rattle.lines.specs.Put.{put}
 use Rattle.lines.specs.Scaffolding.{Wrote}
 use Rattle.lines.specs.Digit.{glyph_of, digits, places, decimal}
-use Rattle.lines.proofs.Puts.{put_none, put_last}
+use Rattle.lines.proofs.Puts.{put_none, put_last, wrote_one, wrote_copy}
 
 pub glyph_low : (d : ℕ) → d < 10 → glyph_of d ≡ 48 + d
 unfolding glyph_of
@@ -96,27 +96,14 @@ places_most (suc k) (suc j) n h = go (ltb n 10) (places_most k j (n / 10) (omega
     go true tenth = omega arith
     go false tenth = omega arith
 
--- on the way: k - 1 digits are counted, and those of `left` are to be counted
-pub record Counting (n left k : ℕ) : Type 0 where
-  pub steps : ℕ
-  pub enough : left < 10 ^ suc steps
-  pub right : k + places steps left ≡ suc (places 19 n)
-
-pub count_start : (n : ℕ) → n < 10 ^ 20 → Counting n n 1
-count_start n h = record { steps = 19; enough = h; right = omega arith }
-
-pub count-step : {n left k : ℕ} → Counting n left k → 10 ≤ left → Counting n (left / 10) (k + 1)
-count-step {n} {left} {k} c h = go c.steps c.enough c.right
-  where
-    go : (s : ℕ) → left < 10 ^ suc s → k + places s left ≡ suc (places 19 n) → Counting n (left / 10) (k + 1)
-    go zero l e = absurd (omega arith)
-    go (suc s) l e = record { steps = s; enough = omega (arith, pow-suc 10 (suc s)); right = omega (arith, e, places-more s left h) }
-
-pub count_end : {n left k : ℕ} → Counting n left k → left < 10 → k ≡ places 19 n
-count_end {n} {left} {k} c h = omega (arith, c.right, places-one c.steps left h)
-
-pub count_small : {n left k : ℕ} → Counting n left k → n < 10 ^ 20 → k ≤ 21
-count_small {n} {left} {k} c h = omega (arith, c.right, places_most 19 19 n h)
+-- one more than the logarithm, which no 0 has
+pub places_log : (k r n m : ℕ) → m ≡ max n 1 → r ≤ k → 10 ^ r ≤ m → m < 10 * 10 ^ r → r + 1 ≡ places k n
+places_log k zero n m e l low high = sym (places-one k n (omega arith))
+places_log zero (suc r) n m e l low high = absurd (omega arith)
+places_log (suc k) (suc r) n m e l low high =
+    let p : 10 ^ suc r ≡ 10 ^ r * 10 = pow-suc 10 r in
+    let one : 1 ≤ 10 ^ r = one-le-pow r 10 (omega arith) in
+    omega (arith, places-more k n (omega arith), places_log k r (n / 10) (m / 10) (omega arith) (omega arith) (omega arith) (omega arith))
 
 -- ---- in decimal
 
@@ -126,3 +113,6 @@ decimal-length n = digits-length 10 (places 19 n) n
 
 pub decimal_most : (j n : ℕ) → n < 10 ^ suc j → length (decimal n) ≤ suc j
 decimal_most j n h = omega (arith, decimal-length n, places_most 19 j n h)
+
+-- what the proofs of the code look for
+pub ruleset texts = (wrote_one, wrote_copy, glyph_at, places_log, digits-length, write_start, write_step, write_end)

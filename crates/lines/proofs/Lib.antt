@@ -1,5 +1,6 @@
 pub mod Puts
 pub mod Digits
+pub mod Fields
 pub mod Backs
 pub mod Shows
 pub mod Blocks

@@ -1,15 +1,14 @@
 -- The laws of what is put into a buffer, and of writers one after another.
 use mathlib.Core.Path.{◌≡◌, refl, sym, ap, ◌∙◌}
-use mathlib.Core.Bool.{true, false}
 use mathlib.Core.List.{List, [], ◌∷◌, ◌++◌, append_assoc}
-use Prim.Native.Nat.{ℕ, suc, ◌+◌, ◌≤◌, ◌<◌}
+use Prim.Native.Nat.{ℕ, suc, ◌+◌, ◌-◌, ◌≤◌, ◌<◌}
 use native.Mathlib.Nat.{add-zero, add_assoc}
 use native.Mathlib.Numerals.{add-one}
 use native.Mathlib.Omega.{arith}
-use lib.ListN.{length, take, drop, get_or, set, length-append, length-take, length-drop, take-append-drop}
-use lib.Seq.{take-suc, set_split, take-set-le, take_at, drop_at, length-take-le, drop-append-add, drop-drop}
+use lib.ListN.{length, take, drop, set, length-append, length-take, length-drop, take-append-drop}
+use lib.Seq.{set_split, take-set-le, take_at, drop_at, length-take-le, drop-append-add, drop-drop}
 use borrow.Author.Tests.{le-leb}
-use lib.Dec.{leb}
+use borrow.Rule.Slice.PartMut.{put_mid}
 use Rattle.lines.specs.Put.{put, room_for, all_into}
 use Rattle.lines.specs.Scaffolding.{Wrote}
 
@@ -77,27 +76,11 @@ wrote_take {d} {xs} {e} {r} w =
     let n : length xs ≡ r = omega (arith, w.next) in
     ap (take r) w.bytes ∙ take_at xs (drop (0 + length xs) d) r n
 
--- ---- a copy
+pub wrote_copy : (d : List ℕ) (at : ℕ) (xs ys : List ℕ) → ys ≡ xs → Wrote d at xs (put_mid at (at + length xs - at) d ys) (at + length xs)
+unfolding put
+wrote_copy d at xs ys e = let k : at + length xs - at ≡ length xs = omega arith in record { bytes = rw (k, e, drop-drop); next = refl }
 
-pub copy_step : {d : List ℕ} {at : ℕ} (src : List ℕ) (i : ℕ) {e : List ℕ} {b : ℕ} → i < length src → at + length src ≤ length d
-    → Wrote d at (take i src) e (at + i) → b ≡ get_or src i 0 → Wrote d at (take (i + 1) src) (set e (at + i) b) (at + (i + 1))
-copy_step {d} {at} src i {e} {b} h l w g =
-    let n : length (take i src) ≡ i = length-take-le i src (omega arith) in
-    let m : length e ≡ length d = wrote_length w (omega (arith, n)) in
-    let k : at + i + 1 ≡ at + (i + 1) = omega arith in
-    rw (add-one i, take-suc src i 0 h, ← g, ← add-one i, ← k) (then w (omega arith) (wrote_one e (at + i) b (omega arith)))
-
--- ---- bytes put where they all have room
-
-module _ (xs d : List ℕ) (at : ℕ) where
-  pub all_left : leb (at + length xs) (length d) ≡ false → d ≡ all_into xs d at
-  unfolding all_into room_for
-  all_left h = rw h
-
-  pub all_put : leb (at + length xs) (length d) ≡ true → {e : List ℕ} → e ≡ put d at xs → e ≡ all_into xs d at
-  unfolding all_into room_for
-  all_put h q = rw h q
-
-  -- for a caller that saw to the room
-  pub all_there : at + length xs ≤ length d → all_into xs d at ≡ put d at xs
-  all_there h = sym (all_put (le-leb (at + length xs) (length d) h) refl)
+-- ---- bytes put where they all have room, for a caller that saw to it
+pub all_there : (xs d : List ℕ) (at : ℕ) → at + length xs ≤ length d → all_into xs d at ≡ put d at xs
+unfolding all_into room_for
+all_there xs d at h = rw (le-leb (at + length xs) (length d) h)

@@ -4,25 +4,17 @@ use mathlib.Core.Bool.{Bool, true, false, cond}
 use mathlib.Core.List.{List}
 use Prim.Native.Nat.{ℕ, ◌+◌, ◌^◌, ◌≤◌, ◌<◌}
 use native.Mathlib.Omega.{arith}
-use lib.Dec.{leb, eqb}
+use lib.Dec.{eqb}
 use lib.Ieee.{Float}
 use lib.ListN.{length, length-append}
-use borrow.Author.Tests.{le-leb, eq-eqb, ne_eqb}
+use borrow.Author.Tests.{le-leb}
 use Rattle.answer.specs.declared.Answer.{Answer}
 use Rattle.lines.specs.Digit.{decimal}
 use Rattle.lines.specs.Line.{ok_line, no_line, line_of, longest}
 use Rattle.lines.specs.Put.{room_for, line_into, line_end}
 use Rattle.lines.specs.Scaffolding.{Wrote}
 use Rattle.lines.proofs.Digits.{digits-length, decimal_most}
-
-module _ (a : Answer) where
-  pub line_ok : a.number ≡ 0 → line_of a ≡ ok_line a.value
-  unfolding line_of
-  line_ok h = rw (eq-eqb a.number 0 h)
-
-  pub line_no : (a.number ≡ 0 → ⊥) → line_of a ≡ no_line a.number a.axis a.place
-  unfolding line_of
-  line_no h = rw (ne_eqb a.number 0 h)
+use Rattle.lines.proofs.Fields.{no_is}
 
 -- ---- how long a line is
 
@@ -47,20 +39,11 @@ line_fits a l m n = go (eqb a.number 0)
     go true = omega (arith, ok_length a.value)
     go false = no_fits a.number a.axis a.place l m n
 
--- ---- the line put into a buffer
+-- ---- the line put into a buffer, for a caller that saw to the room
 
-module _ (a : Answer) (d : List ℕ) (at : ℕ) where
-  pub line_left : leb (at + longest) (length d) ≡ false → ((at ≡ line_end a d at) × (d ≡ line_into a d at)) × (at ≤ at + longest)
-  unfolding line_end line_into room_for
-  line_left h = ((rw h, rw h), omega arith)
+pub line_wrote : (a : Answer) (d : List ℕ) (at : ℕ) {e : List ℕ} {r : ℕ} → at + longest ≤ length d → r ≡ line_end a d at → e ≡ line_into a d at → Wrote d at (line_of a) e r
+unfolding line_end line_into room_for
+line_wrote a d at h p q = let t = le-leb (at + longest) (length d) h in record { bytes = rw t at q; next = rw t at p }
 
-  module _ {e : List ℕ} {r : ℕ} where
-    pub line-put : leb (at + longest) (length d) ≡ true → length (line_of a) ≤ longest → Wrote d at (line_of a) e r
-        → ((r ≡ line_end a d at) × (e ≡ line_into a d at)) × (r ≤ at + longest)
-    unfolding line_end line_into room_for
-    line-put h l w = ((rw h w.next, rw h w.bytes), omega (arith, w.next))
-
-    -- for a caller that saw to the room
-    pub line_wrote : at + longest ≤ length d → r ≡ line_end a d at → e ≡ line_into a d at → Wrote d at (line_of a) e r
-    unfolding line_end line_into room_for
-    line_wrote h p q = let t = le-leb (at + longest) (length d) h in record { bytes = rw t at q; next = rw t at p }
+-- what the proofs of the code look for
+pub ruleset shows = (ok_length, no_fits, no_is)

@@ -1,6 +1,7 @@
 -- Not for the reader of the promises: what the functions below the calls ask for and give one another.
 -- The checker holds the code to it, and no promise cites it.
-use Rattle.std.specs.Prelude.{◌≡◌, List, ◌++◌, ℕ, ◌+◌, ◌≤◌, length, take}
+use Rattle.std.specs.Prelude.{◌≡◌, List, [], ◌∷◌, ◌++◌, ℕ, ◌+◌, ◌≤◌, length, take}
+use Rattle.lines.specs.Digit.{decimal}
 use Rattle.lines.specs.Put.{put}
 use Rattle.lines.specs.Stream.{Rule, lines_of}
 
@@ -14,6 +15,15 @@ pub record Filled (held : ℕ) (b c : List ℕ) (r : ℕ) : Type 0 where
 pub record Wrote (d : List ℕ) (at : ℕ) (xs e : List ℕ) (r : ℕ) : Type 0 where
   pub bytes : e ≡ put d at xs
   pub next : r ≡ at + length xs
+
+-- numbers in decimal, each after a blank
+unfoldable pub fields : List ℕ → List ℕ
+fields [] = []
+fields (n ∷ ns) = (32 ∷ decimal n) ++ fields ns
+
+-- a line of a word and numbers
+unfoldable pub fields_line : List ℕ → List ℕ → List ℕ
+fields_line word ns = word ++ fields ns ++ (10 ∷ [])
 
 -- Of the bytes `held`, with `most` records to come, xs is printed and `rest` is left, with `left` records to come. Whatever
 -- bytes come next, xs and then what is printed of the rest and them is what is printed of them all.

@@ -1,9 +1,8 @@
 // An answer's line put into a buffer, and the coverage report. What is printed of records, block by block, is in specs/Stream.antt.
-#![tactic(auto)]
+#![tactic(auto, using(crate::proofs::Shows::shows), unfolding(crate::specs::Put::line_end, crate::specs::Put::line_into, crate::specs::Put::room_for, crate::specs::Put::all_into, crate::specs::Line::line_of))]
 
 ghost use Rattle.std.specs.Prelude.{◌≡◌, ◌+◌, ◌≤◌, length, leb};
-ghost use Rattle.lines.specs.Digit.{decimal};
-ghost use Rattle.lines.specs.Line.{ok_line, no_line, longest};
+ghost use Rattle.lines.specs.Line.{ok_line, longest};
 ghost use Rattle.lines.specs.Put.{line_into, line_end, all_into};
 ghost use Rattle.lines.specs.Scaffolding.{Wrote};
 
@@ -31,13 +30,6 @@ fn put_ok(value: f64, out: &mut [u8], at: usize) -> usize
     text::put_byte(b'\n', out, b)
 }
 
-fn put_no(number: u64, axis: u64, place: u64, out: &mut [u8], at: usize) -> usize
-    requires { at + (length (decimal number) + length (decimal axis) + length (decimal place) + 6) ≤ length out.old }
-    ensures { Wrote out.old at (no_line number axis place) out.new result }
-{
-    text::put_three(b"no ", number, axis, place, out, at)
-}
-
 // Puts an answer's line at a place and gives the place past it; writes nothing where a longest line has no room.
 pub fn put_line(a: Answer, out: &mut [u8], at: usize) -> usize
     ensures value { (result ≡ line_end a out.old at) × (out.new ≡ line_into a out.old at) }
@@ -49,7 +41,8 @@ pub fn put_line(a: Answer, out: &mut [u8], at: usize) -> usize
     if a.number == 0 {
         put_ok(a.value, out, at)
     } else {
-        put_no(a.number as u64, a.axis as u64, a.place as u64, out, at)
+        let numbers = [u64::from(a.number), a.axis as u64, a.place as u64];
+        text::put_fields(b"no", &numbers, out, at)
     }
 }
 
@@ -57,8 +50,7 @@ pub fn put_line(a: Answer, out: &mut [u8], at: usize) -> usize
 pub fn put_all(src: &[u8], out: &mut [u8], at: usize)
     ensures { out.new ≡ all_into src.now out.old at }
 {
-    if !within(at, src.len(), out.len()) {
-        return;
+    if within(at, src.len(), out.len()) {
+        text::put_bytes(src, out, at);
     }
-    text::put_bytes(src, out, at);
 }

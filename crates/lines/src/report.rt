@@ -1,24 +1,16 @@
 // The coverage report of a table's axes and a tally, put at the front of a buffer.
-ghost use Rattle.std.specs.Prelude.{◌≡◌, cond, [], ◌+◌, ◌-◌, ◌<◌, ◌≤◌, min, length, take, get_or};
-ghost use Rattle.answer.specs.Faults.{refusal};
-ghost use Rattle.answer.specs.Answer.{refused};
-ghost use Rattle.lines.specs.Line.{line_of, longest};
-ghost use Rattle.lines.specs.Report.{cell_line, number_line, joined, cell_lines, number_lines, held, cell_at};
+#![tactic(auto, using(crate::proofs::Reports::reports))]
+
+ghost use Rattle.std.specs.Prelude.{◌≡◌, ◌+◌, ◌<◌, ◌≤◌, length, take, get_or};
+ghost use Rattle.lines.specs.Report.{cell_line, joined, cell_lines, number_lines, held, cell_at};
 ghost use Rattle.lines.specs.Report.{tally_report, report_into, report_end};
 ghost use Rattle.lines.specs.Scaffolding.{Wrote};
 
 use crate::text;
+use answer::{Answer, Row};
 
 // No report has more bytes.
 pub const MOST: usize = 8192;
-
-fn put_cell(axis: usize, index: usize, count: u32, out: &mut [u8], at: usize) -> usize
-    requires { (axis < 10) × ((index < 100) × (at + 21 ≤ length out.old)) }
-    ensures wrote { Wrote out.old at (cell_line axis index count) out.new result }
-    ensures upper_bound { result ≤ at + 21 }
-{
-    text::put_three(b"cell ", axis as u64, index as u64, count as u64, out, at)
-}
 
 // The n cells of an axis.
 fn put_cells(axis: usize, n: usize, cells: &[u32; 252], out: &mut [u8], at: usize) -> usize
@@ -27,85 +19,42 @@ fn put_cells(axis: usize, n: usize, cells: &[u32; 252], out: &mut [u8], at: usiz
     ensures upper_bound { result ≤ at + 1323 }
 {
     let mut next = at;
-    let mut i: usize = 0;
-    while i < n {
-        let count = cells[axis * 63 + i];
-        next = put_cell(axis, i, count, out, next);
-        i += 1;
+    let from = axis * 63;
+    for (i, count) in cells[from..from + n].iter().enumerate() {
+        let numbers = [axis as u64, i as u64, u64::from(*count)];
+        next = text::put_fields(b"cell", &numbers, out, next);
     }
     next
 }
 
-// How many cells an axis of so many nodes has: 63 at most.
-fn cells_of(nodes: usize) -> usize
-    ensures { result ≡ min 64 nodes - 1 }
-{
-    if nodes > 64 {
-        return 63;
-    }
-    if nodes == 0 { 0 } else { nodes - 1 }
-}
-
-// How many axes are looked at: four at most.
-fn axes_of(axes: usize) -> usize
-    ensures { result ≡ min axes 4 }
-{
-    if axes < 4 { axes } else { 4 }
-}
-
+// The cells of each axis: four at most are looked at, and an axis of n nodes has n - 1 cells, 63 at most.
 fn put_axes(axes: usize, counts: [usize; 4], cells: &[u32; 252], out: &mut [u8]) -> usize
     requires { 5292 ≤ length out.old }
     ensures wrote { Wrote out.old 0 (cell_lines (held (take axes counts)) (cell_at cells.now)) out.new result }
     ensures upper_bound { result ≤ 5292 }
 {
-    let n = axes_of(axes);
     let mut next: usize = 0;
-    let mut a: usize = 0;
-    while a < n {
-        let many = cells_of(counts[a]);
-        next = put_cells(a, many, cells, out, next);
-        a += 1;
+    for (a, &nodes) in counts.iter().take(axes).enumerate() {
+        let n = nodes.min(64).saturating_sub(1);
+        next = put_cells(a, n, cells, out, next);
     }
     next
 }
 
-fn put_number(number: usize, count: u32, out: &mut [u8], at: usize) -> usize
-    requires { (number < 100) × (at + 17 ≤ length out.old) }
-    ensures wrote { Wrote out.old at (number_line number count) out.new result }
-    ensures upper_bound { result ≤ at + 17 }
-{
-    if count == 0 {
-        return at;
-    }
-    let a = text::put_two(b"no ", number as u64, count as u64, out, at);
-    text::put_byte(b'\n', out, a)
-}
-
+// The numbers from 1 on that were met.
 fn put_numbers(numbers: &[u32; 21], out: &mut [u8], at: usize) -> usize
     requires { at + 340 ≤ length out.old }
     ensures wrote { Wrote out.old at (number_lines (λ k. get_or numbers.now k 0)) out.new result }
     ensures upper_bound { result ≤ at + 340 }
 {
     let mut next = at;
-    let mut k: usize = 0;
-    while k < 20 {
-        let count = numbers[k + 1];
-        next = put_number(k + 1, count, out, next);
-        k += 1;
+    for (k, count) in numbers[1..].iter().enumerate() {
+        if *count != 0 {
+            let met = [k as u64 + 1, u64::from(*count)];
+            next = text::put_fields(b"no", &met, out, next);
+        }
     }
     next
-}
-
-// What is said of an input past the limit.
-fn put_past(past: bool, out: &mut [u8], at: usize) -> usize
-    requires { at + longest ≤ length out.old }
-    ensures wrote { Wrote out.old at (cond past (line_of (refused (refusal 17 0 0))) []) out.new result }
-    ensures upper_bound { result ≤ at + longest }
-{
-    if !past {
-        return at;
-    }
-    crate::put_line(answer::refuse(answer::refusal(17, 0, 0)), out, at)
 }
 
 // Puts the report at the front of a buffer that has room for any, else nothing, and gives how many bytes it wrote. The count of
@@ -128,5 +77,9 @@ pub fn put(
     }
     let a = put_axes(axes, counts, cells, out);
     let b = put_numbers(numbers, out, a);
-    put_past(past, out, b)
+    if past {
+        crate::put_line(Answer::from(Row::Limit.at(0, 0)), out, b)
+    } else {
+        b
+    }
 }

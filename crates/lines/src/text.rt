@@ -1,6 +1,8 @@
 // Bytes and digits put into a buffer: each writer gives the place past what it wrote.
-ghost use Rattle.std.specs.Prelude.{◌≡◌, [], ◌∷◌, ◌++◌, ◌+◌, ◌<◌, ◌≤◌, length};
-ghost use Rattle.lines.specs.Scaffolding.{Wrote};
+#![tactic(auto, using(crate::proofs::Digits::texts))]
+
+ghost use Rattle.std.specs.Prelude.{◌≡◌, [], ◌∷◌, ◌+◌, ◌<◌, ◌≤◌, length};
+ghost use Rattle.lines.specs.Scaffolding.{Wrote, fields_line};
 ghost use Rattle.lines.specs.Digit.{glyph_of, digits, places, decimal};
 
 pub(crate) fn put_byte(b: u8, out: &mut [u8], at: usize) -> usize
@@ -15,12 +17,9 @@ pub(crate) fn put_bytes(src: &[u8], out: &mut [u8], at: usize) -> usize
     requires { at + length src.now ≤ length out.old }
     ensures { Wrote out.old at src.now out.new result }
 {
-    let mut i: usize = 0;
-    while i < src.len() {
-        out[at + i] = src[i];
-        i += 1;
-    }
-    at + i
+    let end = at + src.len();
+    out[at..end].copy_from_slice(src);
+    end
 }
 
 // From ten on (d + 6) / 16 is 1, and `a` lies 39 past what follows `9`. No table: it would be laid on the stack for each digit.
@@ -38,28 +37,22 @@ pub(crate) fn put_digits(n: u64, base: u64, k: usize, out: &mut [u8], at: usize)
     ensures value { result ≡ at + k }
 {
     let mut left = n;
-    let mut i = k;
-    while i > 0 {
-        i -= 1;
+    for i in (0..k).rev() {
         out[at + i] = glyph(left % base);
-        left = left / base;
+        left /= base;
     }
     at + k
 }
 
+// How many decimal digits n has: `0` has one.
 fn places_of(n: u64) -> usize
     ensures { result ≡ places 19 n }
 {
-    let mut left = n;
-    let mut k: usize = 1;
-    while left >= 10 {
-        left = left / 10;
-        k += 1;
-    }
-    k
+    n.max(1).ilog10() as usize + 1
 }
 
-pub(crate) fn put_decimal(n: u64, out: &mut [u8], at: usize) -> usize
+#[tactic(auto, using(crate::proofs::Digits::texts), unfolding(crate::specs::Digit::decimal))]
+fn put_decimal(n: u64, out: &mut [u8], at: usize) -> usize
     requires { at + length (decimal n) ≤ length out.old }
     ensures { Wrote out.old at (decimal n) out.new result }
 {
@@ -67,37 +60,16 @@ pub(crate) fn put_decimal(n: u64, out: &mut [u8], at: usize) -> usize
     put_digits(n, 10, k, out, at)
 }
 
-// A word, and two numbers in decimal with a blank between them.
-pub(crate) fn put_two(word: &[u8], first: u64, second: u64, out: &mut [u8], at: usize) -> usize
-    requires { at + (length word.now + length (decimal first) + length (decimal second) + 1) ≤ length out.old }
-    ensures wrote { Wrote out.old at
-        (word.now ++ decimal first ++ (32 ∷ []) ++ decimal second)
-        out.new result }
-    ensures value { result ≡ at + (length word.now + length (decimal first) + length (decimal second) + 1) }
+// A line of a word and numbers in decimal, each after a blank.
+#[tactic(auto, using(crate::proofs::Fields::writes))]
+pub(crate) fn put_fields(word: &[u8], numbers: &[u64], out: &mut [u8], at: usize) -> usize
+    requires { at + length (fields_line word.now numbers.now) ≤ length out.old }
+    ensures { Wrote out.old at (fields_line word.now numbers.now) out.new result }
 {
-    let a = put_bytes(word, out, at);
-    let b = put_decimal(first, out, a);
-    let c = put_byte(b' ', out, b);
-    put_decimal(second, out, c)
-}
-
-// A line of a word and three numbers.
-pub(crate) fn put_three(
-    word: &[u8],
-    first: u64,
-    second: u64,
-    third: u64,
-    out: &mut [u8],
-    at: usize,
-) -> usize
-    requires { at + (length word.now + length (decimal first) + length (decimal second) + length (decimal third) + 3) ≤ length out.old }
-    ensures wrote { Wrote out.old at
-        (word.now ++ decimal first ++ (32 ∷ []) ++ decimal second ++ (32 ∷ []) ++ decimal third ++ (10 ∷ []))
-        out.new result }
-    ensures value { result ≡ at + (length word.now + length (decimal first) + length (decimal second) + length (decimal third) + 3) }
-{
-    let a = put_two(word, first, second, out, at);
-    let b = put_byte(b' ', out, a);
-    let c = put_decimal(third, out, b);
-    put_byte(b'\n', out, c)
+    let mut next = put_bytes(word, out, at);
+    for n in numbers {
+        let from = put_byte(b' ', out, next);
+        next = put_decimal(*n, out, from);
+    }
+    put_byte(b'\n', out, next)
 }

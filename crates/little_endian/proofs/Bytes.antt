@@ -1,15 +1,16 @@
--- Numbers as bytes: there and back, bounds, and one byte more. Assumes nothing.
+-- Numbers as bytes: there and back, how they are read, and bounds. Assumes nothing.
 use mathlib.Core.Path.{◌≡◌, refl, sym, ap, ap₂, ◌∙◌}
-use mathlib.Core.List.{List, [], ◌∷◌}
+use mathlib.Core.List.{List, [], ◌∷◌, ◌++◌, append_assoc, append-nil}
 use Prim.Native.Nat.{ℕ, zero, suc, ◌+◌, ◌-◌, ◌*◌, ◌/◌, ◌%◌, ◌^◌, ◌≤◌, ◌<◌, min}
-use native.Mathlib.Nat.{pow-suc, pow-succ', pow-le-pow_right}
+use native.Mathlib.Nat.{add-zero, pow-suc, pow-succ', pow-le-pow_right}
 use native.Mathlib.Omega.{arith}
 use lib.Arith.{mod-mul}
-use lib.ListN.{length, take, drop, get_or, drop_of_length-le, length-drop}
-use lib.Seq.{drop-cons}
-use Rattle.layout.proofs.Totals as totals
+use lib.ListN.{length, take, drop, get_or, drop_of_length-le, length-append, length-drop, length-take}
+use lib.Seq.{get_or-append_seam, get_or-take, get_or-drop, length-take-le}
+use Rattle.layout.proofs.Totals.{take_there}
+use Rattle.std.specs.Int.{w8, w64, from_le_bytes}
+use Rattle.std.proofs.Common.{Fits}
 use Rattle.little_endian.specs.Words.{of_bytes, to_bytes, word_at}
-use Rattle.little_endian.specs.Scaffolding.{four_at}
 
 -- each is a byte
 abbrev pub Bytes : List ℕ → Type 0
@@ -41,11 +42,44 @@ word_back (b ∷ bs) h =
     let q : (b + 256 * of_bytes bs) / 256 ≡ of_bytes bs = omega arith in
     ap₂ (λ (x : ℕ) (xs : List ℕ). x ∷ xs) p (ap (to_bytes (length bs)) q ∙ word_back bs (λ i. h (suc i)))
 
--- ---- a word at a place
-pub word_none : (s : List ℕ) (at : ℕ) → word_at 0 s at ≡ 0
-unfolding word_at of_bytes
-word_none s at = refl
+-- ---- bytes read from the last to the first: x is the number of those behind `rest`
+pub record Reading (bytes rest : List ℕ) (x : ℕ) : Type 0 where
+  pub read : List ℕ
+  pub all : bytes ≡ rest ++ read
+  pub is : x ≡ of_bytes read
+  pub below : x < 256 ^ length read
 
+pub reading_none : (bytes rest : List ℕ) → rest ≡ bytes → Reading bytes rest 0
+unfolding of_bytes
+reading_none bytes rest e = record { read = []; all = sym e ∙ sym (append-nil rest); is = refl; below = omega arith }
+
+module _ (bytes before rest : List ℕ) (x b : ℕ) (small : (i : ℕ) → Fits w8 (get_or bytes i 0)) (r : Reading bytes before x) (e : before ≡ rest ++ (b ∷ [])) where
+  all : bytes ≡ rest ++ (b ∷ r.read)
+  all = r.all ∙ ap (λ (l : List ℕ). l ++ r.read) e ∙ append_assoc rest (b ∷ []) r.read
+
+  byte : b < 256
+  byte = omega (arith, small (length rest), ap (λ (l : List ℕ). get_or l (length rest) 0) all, get_or-append_seam rest b r.read 0)
+
+  pub reading_next : Reading bytes rest (x * 256 + b)
+  unfolding of_bytes
+  reading_next = record {
+    read = b ∷ r.read;
+    all = all;
+    is = omega (arith, r.is);
+    below = rw pow-succ' (omega (arith, r.below, byte));
+  }
+
+  pub reading_fits : length bytes ≤ 8 → x * 256 + b < 2 ^ 64
+  reading_fits h =
+      let l : length bytes ≡ length rest + suc (length r.read) = ap length all ∙ length-append rest (b ∷ r.read) in
+      let p : 256 ^ length r.read ≤ 256 ^ 7 = pow-le-pow_right {n = 256} (omega arith) {i = length r.read} {j = 7} (omega arith) in
+      omega (arith, r.below, byte, p)
+
+pub reading_end : (bytes rest : List ℕ) (x : ℕ) → length rest ≡ 0 → Reading bytes rest x → (x ≡ of_bytes bytes) × (x < 256 ^ length bytes)
+reading_end bytes [] x h r = rw r.all (r.is, r.below)
+reading_end bytes (b ∷ rest) x h r = absurd (omega arith)
+
+-- ---- a word at a place
 pub word_past : (n : ℕ) (s : List ℕ) (at : ℕ) → length s ≤ at → word_at n s at ≡ 0
 unfolding word_at of_bytes
 word_past n s at h = ap (λ (l : List ℕ). of_bytes (take n l)) (drop_of_length-le s {i = at} h) ∙ nothing n
@@ -55,63 +89,30 @@ word_past n s at h = ap (λ (l : List ℕ). of_bytes (take n l)) (drop_of_length
     nothing (suc k) = refl
 
 -- bytes that are not there are not looked at
-pub take_there : (n : ℕ) (l : List ℕ) → take (min n (length l)) l ≡ take n l
-take_there = totals.take_there
-
-pub word_there : (n : ℕ) (s : List ℕ) (at : ℕ) → word_at (min n (length s - at)) s at ≡ word_at n s at
+pub word_there : (n at k : ℕ) (s : List ℕ) (x : ℕ) → k ≡ min n (length s - at) → x ≡ of_bytes (take (at + k - at) (drop at s)) → x < 256 ^ length (take (at + k - at) (drop at s)) → (x ≡ word_at n s at) × (x < 256 ^ n)
 unfolding word_at
-word_there n s at = ap (λ (k : ℕ). of_bytes (take (min n k) (drop at s))) (sym (length-drop at s)) ∙ ap of_bytes (take_there n (drop at s))
+word_there n at k s x e is below =
+    let c : at + k - at ≡ min n (length (drop at s)) = omega (arith, e, length-drop at s) in
+    let l : length (take (at + k - at) (drop at s)) ≤ n = omega (arith, e, length-take (at + k - at) (drop at s)) in
+    let p : 256 ^ length (take (at + k - at) (drop at s)) ≤ 256 ^ n = pow-le-pow_right {n = 256} (omega arith) l in
+    (is ∙ ap of_bytes (ap (λ (j : ℕ). take j (drop at s)) c ∙ take_there n (drop at s)), omega (arith, below, p))
 
--- one byte more, and four more in a straight line
-word_more : (n : ℕ) (s : List ℕ) (at next : ℕ) → at < length s → next ≡ suc at → word_at (suc n) s at ≡ get_or s at 0 + 256 * word_at n s next
-unfolding word_at of_bytes
-word_more n s at next h e =
-    ap (λ (l : List ℕ). of_bytes (take (suc n) l)) (drop-cons s at 0 h)
-    ∙ ap (λ (k : ℕ). get_or s at 0 + 256 * word_at n s k) (sym e)
+-- eight bytes that are there, as the library reads them
+eight_bytes : (bs : List ℕ) → length bs ≡ 8 → from_le_bytes w64 bs ≡ of_bytes bs
+unfolding of_bytes
+eight_bytes (a ∷ b ∷ c ∷ d ∷ e ∷ f ∷ g ∷ h ∷ []) l = omega arith
+eight_bytes _ l = absurd (omega arith)
 
-four_more : (n : ℕ) (s : List ℕ) (at : ℕ) → at + 4 ≤ length s → word_at (suc (suc (suc (suc n)))) s at ≡ four_at s at + 256 ^ 4 * word_at n s (at + 4)
-four_more n s at h =
-    let a = word_more (suc (suc (suc n))) s at (at + 1) (omega arith) (omega arith) in
-    let b = word_more (suc (suc n)) s (at + 1) (at + 2) (omega arith) (omega arith) in
-    let c = word_more (suc n) s (at + 2) (at + 3) (omega arith) (omega arith) in
-    let d = word_more n s (at + 3) (at + 4) (omega arith) (omega arith) in
-    omega arith
+pub word_eight : (s : List ℕ) (at : ℕ) → at + 8 ≤ length s
+    → from_le_bytes w64 (get_or s at 0 ∷ get_or s (at + 1) 0 ∷ get_or s (at + 2) 0 ∷ get_or s (at + 3) 0 ∷ get_or s (at + 4) 0 ∷ get_or s (at + 5) 0 ∷ get_or s (at + 6) 0 ∷ get_or s (at + 7) 0 ∷ [])
+    ≡ word_at 8 s at
+unfolding word_at
+word_eight s at h =
+    let l : length (take 8 (drop at s)) ≡ 8 = length-take-le 8 (drop at s) (omega (arith, length-drop at s)) in
+    omega (arith, eight_bytes (take 8 (drop at s)) l, each 0 (omega arith), each 1 (omega arith), each 2 (omega arith), each 3 (omega arith), each 4 (omega arith), each 5 (omega arith), each 6 (omega arith), each 7 (omega arith), ap (λ (k : ℕ). get_or s k 0) (add-zero at))
+  where
+    each : (i : ℕ) → i < 8 → get_or (take 8 (drop at s)) i 0 ≡ get_or s (at + i) 0
+    each i k = get_or-take 8 (drop at s) i 0 k ∙ get_or-drop at s i 0
 
-pub word_eight : (s : List ℕ) (at x y : ℕ) → at + 8 ≤ length s → x ≡ four_at s at → y ≡ four_at s (at + 4) → x + 256 ^ 4 * y ≡ word_at 8 s at
-word_eight s at x y h p q = omega (arith, four_more 4 s at (omega arith), four_more 0 s (at + 4) (omega arith), word_none s (at + 4 + 4))
-
--- ---- reading a word, the highest byte first: i bytes are left
-pub record Reading (s : List ℕ) (at n i x : ℕ) : Type 0 where
-  pub left : i ≤ n
-  pub is : x ≡ word_at (n - i) s (at + i)
-  pub below : x < 256 ^ (n - i)
-
-module _ (s : List ℕ) (at n : ℕ) where
-  pub reading_start : Reading s at n n 0
-  reading_start =
-      let none : n - n ≡ 0 = omega arith in
-      record { left = omega arith; is = sym (ap (λ (k : ℕ). word_at k s (at + n)) none ∙ word_none s (at + n)); below = power_above (n - n) }
-
-  module _ (i x b : ℕ) (byte : b < 256) (room : at + n ≤ length s) (some : 0 < i) (r : Reading s at n i x) (e : b ≡ get_or s (at + (i - 1)) 0) where
-    more : n - (i - 1) ≡ suc (n - i)
-    more = omega (arith, r.left)
-
-    pub reading_next : Reading s at n (i - 1) (x * 256 + b)
-    reading_next = record {
-      left = omega (arith, r.left);
-      is =
-          let w = word_more (n - i) s (at + (i - 1)) (at + i) (omega (arith, r.left)) (omega arith) in
-          omega (arith, w, e, r.is, ap (λ (k : ℕ). word_at k s (at + (i - 1))) more);
-      below = rw (more, pow-succ') (omega (arith, r.below));
-    }
-
-    pub reading_room : n ≤ 8 → x * 256 + b < 2 ^ 64
-    reading_room h =
-        let p : 256 ^ (n - i) ≤ 256 ^ 7 = pow-le-pow_right {n = 256} (omega arith) {i = n - i} {j = 7} (omega arith) in
-        omega (arith, r.below, p)
-
-  pub reading_end : (i x : ℕ) → i ≤ 0 → Reading s at n i x → (x ≡ word_at n s at) × (x < 256 ^ n)
-  reading_end i x h r =
-      let a : n - i ≡ n = omega arith in
-      let b : at + i ≡ at = omega arith in
-      (r.is ∙ ap₂ (λ (k j : ℕ). word_at k s j) a b, rw a at r.below)
+-- what the proofs of the code look for
+pub ruleset reads = (reading_none, reading_next, reading_end, word_past, power_above, word_eight)

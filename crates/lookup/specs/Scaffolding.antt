@@ -1,33 +1,54 @@
 -- Not for the reader of promises: what the functions between a block and the whole run ask for and give, held to by the checker.
-use Rattle.std.specs.Prelude.{◌≡◌, true, false, ◌⊎◌, List, ◌++◌, ℕ, ◌+◌, ◌-◌, ◌*◌, ◌≤◌, ◌<◌, length, take}
+use Rattle.std.specs.Prelude.{◌≡◌, true, false, ◌⊎◌, List, ◌++◌, ℕ, ◌+◌, ◌-◌, ◌*◌, ◌^◌, ◌≤◌, ◌<◌, length, take, Result, IfOk, OnOk}
 use Rattle.lines.specs.Stream.{Rule}
 use Rattle.lines.specs.Scaffolding.{Turned}
+use Rattle.program.specs.declared.Counts.{Counts}
+use Rattle.program.specs.declared.print.Unprinted.{Unprinted}
 use Rattle.lookup.specs.declared.feed.Next.{Next}
 
--- the size of a record; a buffer that holds so many bytes and has room for a record, and an output with room for a line
-pub record Room (p : Rule) (size held : ℕ) (buf out : List ℕ) : Type 0 where
+-- so many bytes more can be counted
+abbrev pub Countable : ℕ → ℕ → Type 0
+Countable n more = n + more < 2 ^ 64
+
+-- the size of a record; a buffer that holds so many bytes and has room for a record, and an output with room for a line; what both have
+-- room for can be counted
+pub record Room (p : Rule) (size held : ℕ) (buf out : List ℕ) (n : Counts) : Type 0 where
   pub sized : size ≡ p.size
   pub holds : held ≤ length buf
   pub whole : p.size ≤ length buf
   pub spaced : p.longest ≤ length out
+  pub asked : Countable n.asked (length buf)
+  pub read : Countable n.read (length buf)
+  pub printed : Countable n.printed (length out)
 
 -- no more records are answered: the limit is reached, or the rest is no whole one
 abbrev pub Last : Rule → ℕ → List ℕ → Type 0
 Last p left rest = (left ≡ 0) ⊎ (length rest < p.size)
 
--- A block was read into the buffer b after the bytes that are held, and answered with them, and what is left of them stands at the
--- front of the buffer c. It goes on only where records were answered. Where the output stands it stops only at the limit, or where
--- the block did not fill the buffer and no whole record is left.
-pub record Stepped (p : Rule) (held left : ℕ) (b c : List ℕ) (n : Next) : Type 0 where
-  pub block : List ℕ
+-- The block that was read into the buffer b after the bytes that are held was answered with them, a text of no more bytes than the output
+-- has was printed and counted, and what is left of the bytes stands at the front of the buffer c. It goes on only where records were
+-- answered, and stops only at the limit, or where the block did not fill the buffer and no whole record is left.
+pub record Turn (p : Rule) (held left : ℕ) (b c : List ℕ) (wide : ℕ) (block : List ℕ) (before after : Counts) (n : Next) : Type 0 where
   pub text : List ℕ
-  pub room : held + n.asked ≡ length b
-  pub filled : n.read ≤ n.asked
-  pub counted : length block ≡ n.read
-  pub told : length text ≡ n.printed
+  pub told : after.printed ≡ before.printed + length text
+  pub short : length text ≤ wide
   pub turned : Turned p left (take held b ++ block) text n.left (take n.held c)
-  pub spent : (left - n.left) * p.size + n.held ≡ held + n.read
+  pub spent : (left - n.left) * p.size + n.held ≡ held + length block
   pub holds : n.held ≤ length c
   pub within : n.left ≤ left
   pub goes : n.go ≡ true → n.left < left
-  pub stops : n.go ≡ false → n.ok ≡ true → (n.left ≡ 0) ⊎ ((n.read < n.asked) × (n.held < p.size))
+  pub stops : n.go ≡ false → (n.left ≡ 0) ⊎ ((held + length block < length b) × (n.held < p.size))
+
+-- A block was read into the buffer b after the bytes that are held, and counted; where the output stands it was a whole turn.
+pub record Stepped (p : Rule) (held left : ℕ) (b c : List ℕ) (wide : ℕ) (before after : Counts) (r : Result Next Unprinted) : Type 0 where
+  pub block : List ℕ
+  pub filled : held + length block ≤ length b
+  pub asked : after.asked + held ≡ before.asked + length b
+  pub read : after.read ≡ before.read + length block
+  pub turn : IfOk r (Turn p held left b c wide block before after)
+
+-- nothing more was read, and where the output stands so many bytes more were printed
+pub record Ended (more : ℕ) (before after : Counts) (r : Result (Unit {0}) Unprinted) : Type 0 where
+  pub asked : after.asked ≡ before.asked
+  pub read : after.read ≡ before.read
+  pub printed : OnOk r (after.printed ≡ before.printed + more)

@@ -1,5 +1,5 @@
 -- Where the corners of a reading lie in the flat values. Assumes nothing.
-use mathlib.Core.Path.{◌≡◌, refl, sym, ap, ◌∙◌, subst}
+use mathlib.Core.Path.{◌≡◌, refl, sym, ap, ap₂, ◌∙◌, subst}
 use mathlib.Core.Logic.{◌⊎◌, inl, inr, ⊎_elim}
 use mathlib.Core.Bool.{Bool, true, false}
 use mathlib.Core.List.{List, [], ◌∷◌}
@@ -8,7 +8,7 @@ use native.Mathlib.Nat.{mul-le-mul_right, mul-le-mul, mod-lt, mul-one, one-mul, 
 use native.Mathlib.Omega.{arith}
 use lib.Dec.{ltb}
 use lib.ListN.{length, take, drop, get_or, set, length-set, length-take, length-drop}
-use lib.Seq.{get_or-set_same, get_or-set_other}
+use lib.Seq.{get_or-set_same, get_or-set_other, get_or-take, length-take-le}
 use borrow.Author.Tests.{ltb-true, ltb-false}
 use lib.Ieee.{Float, nan}
 use Rattle.layout.specs.Shape.{size}
@@ -26,7 +26,7 @@ use Rattle.blend.proofs.Counts.{few_diffs, few_corners, more_power}
 use Rattle.axis.specs.Locations.{location_index}
 use Rattle.axis.specs.Scaffolding.{upper_of}
 use Rattle.axis.proofs.Located.{lower_upper}
-use Rattle.ninterp.specs.Scaffolding.{AllWithin}
+use Rattle.ninterp.specs.Scaffolding.{AllWithin, Placeable, Placed, Spreadable, Spread, Gatherable, Gathered}
 
 -- ---- locations on their axes
 pub corner_inside : (ps : List AxisLocation) (cs : List ℕ) (m : ℕ) → AllWithin ps cs → Inside (corner_at ps m) cs
@@ -99,26 +99,26 @@ pub record Spreading (ps : List AxisLocation) (cs : List ℕ) (places : List ℕ
   pub strided : stride ≡ size cs
   pub placed : (i : ℕ) → i < 2 ^ length (diffs ps) → get_or places i 0 ≡ place cs (corner_at ps i)
 
-abbrev pub Spread : List ℕ → ℕ → ℕ → ℕ → List ℕ → Type 0
-Spread places count low high next = (i : ℕ) → i < count → (get_or next i 0 ≡ get_or places i 0 + low) × (get_or next (i + count) 0 ≡ get_or places i 0 + high)
+abbrev Both : List ℕ → ℕ → ℕ → ℕ → List ℕ → Type 0
+Both places count low high next = (i : ℕ) → i < count → (get_or next i 0 ≡ get_or places i 0 + low) × (get_or next (i + count) 0 ≡ get_or places i 0 + high)
 
 module _ (ps : List AxisLocation) (c : ℕ) (cs places next : List ℕ) (count stride : ℕ) (z : Spreading ps cs places count stride) where
   within_count : (i : ℕ) → i < 2 ^ length (diffs ps) → i < count
   within_count i b = omega (arith, z.counted, b)
 
-  low_next : (p : AxisLocation) (low high i : ℕ) → low ≡ location_index p * stride → Spread places count low high next → i < 2 ^ length (diffs ps) → get_or next i 0 ≡ place (c ∷ cs) (corner_at (p ∷ ps) i)
+  low_next : (p : AxisLocation) (low high i : ℕ) → low ≡ location_index p * stride → Both places count low high next → i < 2 ^ length (diffs ps) → get_or next i 0 ≡ place (c ∷ cs) (corner_at (p ∷ ps) i)
   low_next p low high i e h b =
       let s : low ≡ location_index p * size cs = e ∙ ap (λ (x : ℕ). location_index p * x) z.strided in
       omega (arith, (h i (within_count i b)).0, z.placed i b, s, low_place p ps c cs i b)
 
-  high_next : (lower : ℕ) (f : Float) (low high i : ℕ) → high ≡ (lower + 1) * stride → Spread places count low high next → i < 2 ^ length (diffs ps)
+  high_next : (lower : ℕ) (f : Float) (low high i : ℕ) → high ≡ (lower + 1) * stride → Both places count low high next → i < 2 ^ length (diffs ps)
       → get_or next (i + 2 ^ length (diffs ps)) 0 ≡ place (c ∷ cs) (corner_at (Between lower f ∷ ps) (i + 2 ^ length (diffs ps)))
   high_next lower f low high i e h b =
       let s : high ≡ (lower + 1) * size cs = e ∙ ap (λ (x : ℕ). (lower + 1) * x) z.strided in
       let at : get_or next (i + 2 ^ length (diffs ps)) 0 ≡ get_or places i 0 + high = ap (λ (k : ℕ). get_or next (i + k) 0) (sym z.counted) ∙ (h i (within_count i b)).1 in
       omega (arith, at, z.placed i b, s, high_place lower f ps c cs i b)
 
-  pub spread_step : (p : AxisLocation) (low high more wide : ℕ) → low ≡ location_index p * stride → high ≡ upper_of p * stride → Spread places count low high next
+  pub spread_step : (p : AxisLocation) (low high more wide : ℕ) → low ≡ location_index p * stride → high ≡ upper_of p * stride → Both places count low high next
       → more ≡ more_corners p count → wide ≡ c * stride → 2 ^ length (diffs (p ∷ ps)) ≤ 16 → Spreading (p ∷ ps) (c ∷ cs) next more wide
   spread_step p low high more wide el eh h em ew few = record {
     counted = em ∙ more_power p ps count z.counted few;
@@ -221,56 +221,89 @@ module _ (v₀ v : List ℕ) (count low high i at : ℕ) (few : count + count �
       rest_next : (k : ℕ) → i + 1 ≤ k → k < count → get_or last k 0 ≡ get_or v₀ k 0
       rest_next k a b = kept k (λ q. omega (arith, q, a)) (λ q. omega (arith, q, b)) ∙ z.rest k (omega (arith, a)) b
 
--- ---- the loop over the axes, from the last one on: what is at axis d - 1
-module _ (ls : List AxisLocation) (C : List ℕ) (n d : ℕ) (few : n ≤ 4) (longl : n ≤ length ls) (longc : n ≤ length C) (above : 1 < d) (most : d ≤ n)
-    (small : size (take n C) ≤ 4096) (w : AllWithin (take n ls) (take n C)) where
-  again : d - 1 + 1 ≡ d
-  again = omega arith
+-- ---- the loop over the axes, from the last one down to the second: those from axis d on are done
+pub record Resting (counts : List ℕ) (locations : List AxisLocation) (n : ℕ) (places : List ℕ) (d count stride : ℕ) : Type 0 where
+  pub some : 1 ≤ d
+  pub most : d ≤ n
+  pub spreading : Spreading (drop d (take n locations)) (drop d (take n counts)) places count stride
 
-  open_l : drop (d - 1) (take n ls) ≡ get_or ls (d - 1) (Exact 0) ∷ drop d (take n ls)
-  open_l = ahead ls n (d - 1) (Exact 0) (omega arith) longl ∙ ap (λ (k : ℕ). get_or ls (d - 1) (Exact 0) ∷ drop k (take n ls)) again
-
-  open_c : drop (d - 1) (take n C) ≡ get_or C (d - 1) 0 ∷ drop d (take n C)
-  open_c = ahead C n (d - 1) 0 (omega arith) longc ∙ ap (λ (k : ℕ). get_or C (d - 1) 0 ∷ drop k (take n C)) again
-
-  pub within_at : AllWithin (get_or ls (d - 1) (Exact 0) ∷ drop d (take n ls)) (get_or C (d - 1) 0 ∷ drop d (take n C))
-  within_at = subst (λ (q : List ℕ). AllWithin (get_or ls (d - 1) (Exact 0) ∷ drop d (take n ls)) q) open_c (subst (λ (q : List AxisLocation). AllWithin q (drop (d - 1) (take n C))) open_l (within_drop (d - 1) (take n ls) (take n C) w))
-
-  pub small_at : size (get_or C (d - 1) 0 ∷ drop d (take n C)) ≤ 4096
-  small_at = omega (arith, ap size open_c, suffix_small (d - 1) (take n ls) (take n C) w, small)
-
-  pub few_at : 2 ^ length (diffs (get_or ls (d - 1) (Exact 0) ∷ drop d (take n ls))) ≤ 16
-  few_at =
-      let long : length (drop (d - 1) (take n ls)) ≤ 4 = omega (arith, length-drop (d - 1) (take n ls), length-take n ls, few) in
-      subst (λ (r : List AxisLocation). 2 ^ length (diffs r) ≤ 16) open_l (few_corners (drop (d - 1) (take n ls)) long)
-
-  pub closed_at : (places : List ℕ) (count stride : ℕ) → Spreading (get_or ls (d - 1) (Exact 0) ∷ drop d (take n ls)) (get_or C (d - 1) 0 ∷ drop d (take n C)) places count stride
-      → Spreading (drop (d - 1) (take n ls)) (drop (d - 1) (take n C)) places count stride
-  closed_at places count stride z =
-      subst (λ (q : List ℕ). Spreading (drop (d - 1) (take n ls)) q places count stride) (sym open_c)
-      (subst (λ (q : List AxisLocation). Spreading q (get_or C (d - 1) 0 ∷ drop d (take n C)) places count stride) (sym open_l) z)
-
-  -- before an axis there are at most 8
-  pub eight_at : (places : List ℕ) (count stride : ℕ) → Spreading (drop d (take n ls)) (drop d (take n C)) places count stride → count ≤ 8
-  eight_at places count stride z =
-      let long : length (drop d (take n ls)) ≤ 3 = omega (arith, length-drop d (take n ls), length-take n ls, few, above) in
-      let u : 2 ^ length (diffs (drop d (take n ls))) ≤ 2 ^ 3 = pow-le-pow_right (omega arith) {j = 3} (omega (arith, few_diffs (drop d (take n ls)), long)) in
-      omega (arith, z.counted, u)
-
-  pub placed_small : (places : List ℕ) (count stride : ℕ) → Spreading (drop d (take n ls)) (drop d (take n C)) places count stride → (i : ℕ) → i < count → get_or places i 0 ≤ 4096
-  placed_small places count stride z i b =
-      let below : place (drop d (take n C)) (corner_at (drop d (take n ls)) i) < size (drop d (take n C)) =
-      place_below (corner_at (drop d (take n ls)) i) (drop d (take n C)) (corner_inside (drop d (take n ls)) (drop d (take n C)) i (within_drop d (take n ls) (take n C) w)) in
-      omega (arith, z.placed i (omega (arith, z.counted, b)), below, suffix_small d (take n ls) (take n C) w, small)
-
-pub spread_none : (ls : List AxisLocation) (C : List ℕ) (n : ℕ) (places : List ℕ) → get_or places 0 0 ≡ 0 → Spreading (drop n (take n ls)) (drop n (take n C)) places 1 1
-spread_none ls C n places e = rw (past ls n n (omega arith), past C n n (omega arith)) (record { counted = refl; strided = sym size_nil; placed = only })
+pub rest_begin : {counts : List ℕ} {locations : List AxisLocation} {n : ℕ} {places : List ℕ} → Placeable counts locations n → get_or places 0 0 ≡ 0 → Resting counts locations n places n 1 1
+rest_begin {counts} {locations} {n} {places} p e = record { some = p.some; most = omega arith; spreading = rw (past locations n n (omega arith), past counts n n (omega arith)) (record { counted = refl; strided = sym size_nil; placed = only }) }
   where
     only : (i : ℕ) → i < 1 → get_or places i 0 ≡ place [] []
     only i b = let z : i ≡ 0 = omega arith in ap (λ (k : ℕ). get_or places k 0) z ∙ e ∙ sym place_none
 
+module _ {C : List ℕ} {ls : List AxisLocation} {n : ℕ} (p : Placeable C ls n) {places : List ℕ} {d count stride : ℕ} (r : Resting C ls n places d count stride) where
+  -- the axis before
+  abbrev next : AxisLocation
+  next = get_or ls (d - 1) (Exact 0)
+
+  again : d - 1 + 1 ≡ d
+  again = omega (arith, r.some)
+
+  open_l : drop (d - 1) (take n ls) ≡ get_or ls (d - 1) (Exact 0) ∷ drop d (take n ls)
+  open_l = ahead ls n (d - 1) (Exact 0) (omega (arith, r.some, r.most)) p.long_locations ∙ ap (λ (k : ℕ). get_or ls (d - 1) (Exact 0) ∷ drop k (take n ls)) again
+
+  open_c : drop (d - 1) (take n C) ≡ get_or C (d - 1) 0 ∷ drop d (take n C)
+  open_c = ahead C n (d - 1) 0 (omega (arith, r.some, r.most)) p.long_counts ∙ ap (λ (k : ℕ). get_or C (d - 1) 0 ∷ drop k (take n C)) again
+
+  within_at : AllWithin (get_or ls (d - 1) (Exact 0) ∷ drop d (take n ls)) (get_or C (d - 1) 0 ∷ drop d (take n C))
+  within_at = subst (λ (q : List ℕ). AllWithin (get_or ls (d - 1) (Exact 0) ∷ drop d (take n ls)) q) open_c (subst (λ (q : List AxisLocation). AllWithin q (drop (d - 1) (take n C))) open_l (within_drop (d - 1) (take n ls) (take n C) p.within))
+
+  small_at : size (get_or C (d - 1) 0 ∷ drop d (take n C)) ≤ 4096
+  small_at = omega (arith, ap size open_c, suffix_small (d - 1) (take n ls) (take n C) p.within, p.small)
+
+  few_at : 2 ^ length (diffs (get_or ls (d - 1) (Exact 0) ∷ drop d (take n ls))) ≤ 16
+  few_at =
+      let long : length (drop (d - 1) (take n ls)) ≤ 4 = omega (arith, length-drop (d - 1) (take n ls), length-take n ls, p.few) in
+      subst (λ (q : List AxisLocation). 2 ^ length (diffs q) ≤ 16) open_l (few_corners (drop (d - 1) (take n ls)) long)
+
+  -- before an axis there are at most 8
+  eight_at : count ≤ 8
+  eight_at =
+      let long : length (drop d (take n ls)) ≤ 3 = omega (arith, length-drop d (take n ls), length-take n ls, p.few, r.some) in
+      let u : 2 ^ length (diffs (drop d (take n ls))) ≤ 2 ^ 3 = pow-le-pow_right (omega arith) {j = 3} (omega (arith, few_diffs (drop d (take n ls)), long)) in
+      omega (arith, r.spreading.counted, u)
+
+  -- what its nodes add to a place
+  pub upper_fits : upper_of next ≤ 4096
+  upper_fits = upper_few next (drop d (take n ls)) (get_or C (d - 1) 0) (drop d (take n C)) within_at small_at
+
+  pub low_fits : (node : ℕ) → node ≡ location_index (get_or ls (d - 1) (Exact 0)) → node * stride ≤ 4096
+  low_fits node e = omega (arith, lower_small next (drop d (take n ls)) (get_or C (d - 1) 0) (drop d (take n C)) within_at small_at, ap₂ (λ (x y : ℕ). x * y) e r.spreading.strided)
+
+  pub high_fits : (node : ℕ) → node ≡ upper_of (get_or ls (d - 1) (Exact 0)) → node * stride ≤ 4096
+  high_fits node e = omega (arith, upper_small next (drop d (take n ls)) (get_or C (d - 1) 0) (drop d (take n C)) within_at small_at, ap₂ (λ (x y : ℕ). x * y) e r.spreading.strided)
+
+  pub stride_fits : get_or C (d - 1) 0 * stride ≤ 4096
+  stride_fits = omega (arith, small_at, size-cons (get_or C (d - 1) 0) (drop d (take n C)), ap (λ (x : ℕ). get_or C (d - 1) 0 * x) r.spreading.strided)
+
+  module _ (low high : ℕ) (el : low ≡ location_index (get_or ls (d - 1) (Exact 0))) (eh : high ≡ upper_of (get_or ls (d - 1) (Exact 0))) where
+    pub rest_spreadable : length places ≡ 16 → Spreadable places count (low * stride) (high * stride)
+    rest_spreadable e = record {
+      room = omega (arith, e, eight_at);
+      low_few = low_fits low el;
+      high_few = high_fits high eh;
+      small = λ i b.
+          let below : place (drop d (take n C)) (corner_at (drop d (take n ls)) i) < size (drop d (take n C)) =
+          place_below (corner_at (drop d (take n ls)) i) (drop d (take n C)) (corner_inside (drop d (take n ls)) (drop d (take n C)) i (within_drop d (take n ls) (take n C) p.within)) in
+          omega (arith, r.spreading.placed i (omega (arith, r.spreading.counted, b)), below, suffix_small d (take n ls) (take n C) p.within, p.small);
+    }
+
+    rest_again : 1 < d → (after : List ℕ) (more : ℕ) → Spread places after count (low * stride) (high * stride) → more ≡ more_corners (get_or ls (d - 1) (Exact 0)) count
+        → Resting C ls n after (d - 1) more (get_or C (d - 1) 0 * stride)
+    rest_again above after more h em = record {
+      some = omega (arith, above);
+      most = omega (arith, r.most);
+      spreading =
+          subst (λ (q : List ℕ). Spreading (drop (d - 1) (take n ls)) q after more (get_or C (d - 1) 0 * stride)) (sym open_c)
+          (subst (λ (q : List AxisLocation). Spreading q (get_or C (d - 1) 0 ∷ drop d (take n C)) after more (get_or C (d - 1) 0 * stride)) (sym open_l)
+          (spread_step (drop d (take n ls)) (get_or C (d - 1) 0) (drop d (take n C)) places after count stride r.spreading next (low * stride) (high * stride) more (get_or C (d - 1) 0 * stride)
+          (ap (λ (x : ℕ). x * stride) el) (ap (λ (x : ℕ). x * stride) eh) h.both em refl few_at));
+    }
+
 -- ---- the first axis, under whose nodes the corners of the others lie
-module _ (ls : List AxisLocation) (C : List ℕ) (n : ℕ) (some : 1 ≤ n) (longl : n ≤ length ls) (longc : n ≤ length C) (w : AllWithin (take n ls) (take n C)) where
+module _ {C : List ℕ} {ls : List AxisLocation} {n : ℕ} (placeable : Placeable C ls n) where
   abbrev rest_l : List AxisLocation
   rest_l = drop 1 (take n ls)
 
@@ -278,19 +311,23 @@ module _ (ls : List AxisLocation) (C : List ℕ) (n : ℕ) (some : 1 ≤ n) (lon
   rest_c = drop 1 (take n C)
 
   first_l : take n ls ≡ get_or ls 0 (Exact 0) ∷ rest_l
-  first_l = ahead ls n 0 (Exact 0) some longl
+  first_l = ahead ls n 0 (Exact 0) placeable.some placeable.long_locations
 
   first_c : take n C ≡ get_or C 0 0 ∷ rest_c
-  first_c = ahead C n 0 0 some longc
+  first_c = ahead C n 0 0 placeable.some placeable.long_counts
 
   within_first : AllWithin (get_or ls 0 (Exact 0) ∷ rest_l) (get_or C 0 0 ∷ rest_c)
-  within_first = subst (λ (q : List ℕ). AllWithin (get_or ls 0 (Exact 0) ∷ rest_l) q) first_c (subst (λ (q : List AxisLocation). AllWithin q (take n C)) first_l w)
+  within_first = subst (λ (q : List ℕ). AllWithin (get_or ls 0 (Exact 0) ∷ rest_l) q) first_c (subst (λ (q : List AxisLocation). AllWithin q (take n C)) first_l placeable.within)
 
-  pub first_few : size (take n C) ≤ 4096 → upper_of (get_or ls 0 (Exact 0)) ≤ 4096
-  first_few small = upper_few (get_or ls 0 (Exact 0)) rest_l (get_or C 0 0) rest_c within_first (omega (arith, ap size first_c, small))
-
-  pub first_small : size (take n C) ≤ 4096 → upper_of (get_or ls 0 (Exact 0)) * size rest_c ≤ 4096
-  first_small small = upper_small (get_or ls 0 (Exact 0)) rest_l (get_or C 0 0) rest_c within_first (omega (arith, ap size first_c, small))
+  -- what the loop leaves at its end
+  module _ {places : List ℕ} {count stride : ℕ} (r : Resting C ls n places 1 count stride) where
+    rest_placed : (low high : ℕ) → low ≡ location_index (get_or ls 0 (Exact 0)) → high ≡ upper_of (get_or ls 0 (Exact 0)) → Placed C ls n places count (low * stride) (high * stride)
+    rest_placed low high el eh = record {
+      corners = r.spreading.counted;
+      lower = ap₂ (λ (x y : ℕ). x * y) el r.spreading.strided;
+      upper = ap₂ (λ (x y : ℕ). x * y) eh r.spreading.strided;
+      each = r.spreading.placed;
+    }
 
   -- a node of the first axis that is its upper one or below it
   module _ (p : AxisLocation) (e : get_or ls 0 (Exact 0) ≡ p) where
@@ -337,3 +374,81 @@ module _ (ls : List AxisLocation) (C : List ℕ) (n : ℕ) (some : 1 ≤ n) (lon
           (butterfly_same (diffs (p ∷ rest_l)) vals (tabulate (2 ^ length (diffs (p ∷ rest_l))) (λ m. table (take n C) values (corner_at (p ∷ rest_l) m)))
           (λ i b. corner_value p vals v i b ∙ sym (get_d_tabulate (2 ^ length (diffs (p ∷ rest_l))) i (λ m. table (take n C) values (corner_at (p ∷ rest_l) m)) nan b))
           ∙ fold_linear (p ∷ rest_l) (table (take n C) values))
+
+-- ---- what `rest_places` gave: the places of the axes after the first, whose values are read under the two nodes of the first
+module _ {C : List ℕ} {ls : List AxisLocation} {n : ℕ} (p : Placeable C ls n) {places : List ℕ} {count low high : ℕ} (r : Placed C ls n places count low high) where
+  abbrev front : AxisLocation
+  front = get_or ls 0 (Exact 0)
+
+  abbrev many : ℕ
+  many = length (diffs (drop 1 (take n ls)))
+
+  rest_eight : count ≤ 8
+  rest_eight =
+      let short : many ≤ 3 = omega (arith, few_diffs (drop 1 (take n ls)), length-drop 1 (take n ls), length-take n ls, p.few) in
+      let u : 2 ^ many ≤ 2 ^ 3 = pow-le-pow_right (omega arith) {i = many} {j = 3} short in
+      omega (arith, r.corners, u)
+
+  pub rest_few : length places ≡ 16 → count ≤ length places
+  rest_few e = omega (arith, e, rest_eight)
+
+  -- they are cut off where there are no more
+  module _ (own : List ℕ) (cut : own ≡ take count places) (long : length places ≡ 16) where
+    own_count : length own ≡ count
+    own_count = ap length cut ∙ length-take-le count places (rest_few long)
+
+    own_at : (i : ℕ) → i < count → get_or own i 0 ≡ get_or places i 0
+    own_at i b = ap (λ (xs : List ℕ). get_or xs i 0) cut ∙ get_or-take count places i 0 b
+
+    module _ (values : List Float) where
+      pub rest_gatherable : length values ≡ size (take n C) → Gatherable values own low high
+      rest_gatherable stored = record {
+        few = omega (arith, own_count, rest_eight);
+        inside = λ i b. (
+          omega (arith, under (location_index front) i (lower_upper front) (omega (arith, own_count, b)), r.lower),
+          omega (arith, under (upper_of front) i (omega arith) (omega (arith, own_count, b)), r.upper),
+        );
+      }
+        where
+          under : (node i : ℕ) → node ≤ upper_of front → i < count → get_or own i 0 + node * size (drop 1 (take n C)) < length values
+          under node i l b =
+              omega (arith, corner_under p front refl node (get_or own i 0) (size (drop 1 (take n C))) i l (own_at i b ∙ r.each i (omega (arith, r.corners, b))) refl, stored)
+
+      pub rest_folded : (vals : List Float) → Gathered values own low high vals → butterfly (diffs (take n ls)) vals ≡ linear (take n ls) (table (take n C) values)
+      rest_folded vals g =
+          folded p front refl values vals
+          (λ i b.
+          let l : i < count = omega (arith, r.corners, b) in
+          let v = g.both i (omega (arith, own_count, l)) in (
+            v.0 ∙ ap (λ (m : ℕ). get_or values (get_or own i 0 + m) nan) r.lower ∙ stored (location_index front) i b,
+            ap (λ (m : ℕ). get_or vals (i + m) nan) (sym (own_count ∙ r.corners)) ∙ v.1 ∙ ap (λ (m : ℕ). get_or values (get_or own i 0 + m) nan) r.upper ∙ stored (upper_of front) i b,
+          ))
+        where
+          stored : (node i : ℕ) → i < 2 ^ many → get_or values (get_or own i 0 + node * size (drop 1 (take n C))) nan ≡ table (take n C) values (node ∷ corner_at (drop 1 (take n ls)) i)
+          stored node i b =
+              at-node p front refl values node (get_or own i 0) (size (drop 1 (take n C))) i (own_at i (omega (arith, r.corners, b)) ∙ r.each i b) refl
+
+-- ---- the loop: the axes from d on are spread but for the first, whose nodes are told apart
+pub record Turning (counts : List ℕ) (locations : List AxisLocation) (n : ℕ) (places : List ℕ) (d count low high stride : ℕ) : Type 0 where
+  pub resting : 1 ≤ d → Resting counts locations n places d count stride
+  pub placed : d ≡ 0 → Placed counts locations n places count low high
+
+pub turn_begin : {counts : List ℕ} {locations : List AxisLocation} {n : ℕ} {places : List ℕ} → Placeable counts locations n → get_or places 0 0 ≡ 0 → Turning counts locations n places n 1 0 0 1
+turn_begin p e = record { resting = λ h. rest_begin p e; placed = λ z. absurd (omega (arith, p.some, z)) }
+
+module _ {C : List ℕ} {ls : List AxisLocation} {n : ℕ} (p : Placeable C ls n) {places : List ℕ} {d count stride : ℕ} (r : Resting C ls n places d count stride)
+    (low high : ℕ) (el : low ≡ location_index (get_or ls (d - 1) (Exact 0))) (eh : high ≡ upper_of (get_or ls (d - 1) (Exact 0))) where
+  pub turn_again : 0 < d - 1 → (after : List ℕ) (more : ℕ) → Spread places after count (low * stride) (high * stride) → more ≡ more_corners (get_or ls (d - 1) (Exact 0)) count
+      → Turning C ls n after (d - 1) more (low * stride) (high * stride) (get_or C (d - 1) 0 * stride)
+  turn_again above after more h em = record {
+    resting = λ l. rest_again p r low high el eh (omega (arith, above)) after more h em;
+    placed = λ z. absurd (omega (arith, above, z));
+  }
+
+  pub turn_last : d - 1 ≤ 0 → Turning C ls n places (d - 1) count (low * stride) (high * stride) stride
+  turn_last h = record {
+    resting = λ l. absurd (omega (arith, h, l));
+    placed = λ z.
+        rest_placed p (subst (λ (k : ℕ). Resting C ls n places k count stride) (let one : d ≡ 1 = omega (arith, h, r.some) in one) r) low high
+        (el ∙ ap (λ (k : ℕ). location_index (get_or ls k (Exact 0))) z) (eh ∙ ap (λ (k : ℕ). upper_of (get_or ls k (Exact 0))) z);
+  }

@@ -1,5 +1,11 @@
 -- The loop over a block of records that counts them: those that are left, from the present tally, make what all make. Assumes nothing.
-use mathlib.Core.Path.{◌≡◌, refl, sym, ap, ap₂, ◌∙◌}
+use Rattle.std.proofs.Common.{Bor, Option, Some, None}
+use Rattle.std.specs.Iterator.Adapters.{take_source, take_count, take_steps}
+use Rattle.std.specs.Slice.Iter.{chunks_exact_rest, chunks_exact_size, chunks_exact_steps}
+use Rattle.std.specs.declared.iter.Take.{Take}
+use Rattle.std.specs.declared.slice.ChunksExact.{ChunksExact}
+use mathlib.Core.Path.{◌≡◌, refl, sym, ap, ap₂, ◌∙◌, subst}
+use mathlib.Core.Logic.{⊎_elim}
 use mathlib.Core.List.{List, map}
 use Prim.Native.Nat.{ℕ, zero, suc, ◌+◌, ◌-◌, ◌*◌, ◌≤◌, ◌<◌}
 use native.Mathlib.Nat.{zero-add, zero-mul, suc-mul}
@@ -8,20 +14,19 @@ use borrow.Author.Tests.{lt-ltb, le-ltb}
 use lib.ListN.{length, take, drop, length-drop}
 use lib.Seq.{drop-drop}
 use lib.Ieee.{Float}
-use Rattle.answer.specs.Faults.{no_fault}
-use Rattle.answer.proofs.Orders.{no_fault_number}
 use Rattle.layout.specs.declared.Shape.{Shape}
 use Rattle.checks.specs.Numbers.{most_records}
-use Rattle.checks.proofs.lent.Rows.{limit_ahead}
 use Rattle.tally.specs.declared.Tally.{Tally}
 use Rattle.tally.specs.declared.Outcome.{Outcome}
 use Rattle.tally.specs.Tally.{tallied, counted_of}
 use Rattle.tally.specs.Counts.{count_all}
-use Rattle.tally.proofs.Steps.{counts-on}
+use Rattle.tally.specs.declared.TallyAnswer.{TallyAnswer}
+use Rattle.tally.proofs.Counts.{counted_on}
 use Rattle.ninterp.specs.declared.records.count.BlockTally.{BlockTally}
 use Rattle.ninterp.specs.Records.{record_size}
 use Rattle.ninterp.specs.Coverage.{records_in}
 use Rattle.ninterp.specs.Counting.{outcome_of, whole_records, block_count, block_tally}
+use Rattle.ninterp.proofs.Chunks.{Chunked, Chunk, chunk_here, chunk_next, chunk_last}
 use Rattle.ninterp.proofs.RecordsIn.{records_more}
 
 -- ---- how many records there are, and which
@@ -42,7 +47,7 @@ module _ (size : ℕ) (input : List ℕ) where
 -- a record counted ahead of the limit is one more
 pub counted_one : (t : Tally) (o : Outcome) → t.records < most_records → (counted_of t o).tally.records ≡ t.records + 1
 unfolding tallied
-counted_one t o h = sym (ap (λ (u : Tally). u.records) (counts-on t o no_fault (limit_ahead t.records h) (tallied t o) no_fault_number refl))
+counted_one t o h = ap (λ (r : TallyAnswer). r.tally.records) (counted_on t o h)
 
 -- ---- a block
 module _ (s : Shape) (nodes values : List Float) where
@@ -101,40 +106,58 @@ module _ (s : Shape) (nodes values : List Float) (t : Tally) (input : List ℕ) 
     same = ap (λ (n : ℕ). record { tally = (block_tally t s nodes values input).tally; used = n }) (zero-add (block_tally t s nodes values input).used);
   }
 
-  module _ (size : ℕ) (e : size ≡ record_size s) (u : Tally) (at : ℕ) (g : Counting s nodes values t input u at) where
-    stops : block_count u s (drop at input) ≡ 0 → record { tally = u; used = at } ≡ block_tally t s nodes values input
-    stops z =
-        ap (λ (n : ℕ). record { tally = u; used = n }) (omega arith)
-        ∙ sym (ap (λ (b : BlockTally). record { tally = b.tally; used = at + b.used }) (block_end s nodes values u (drop at input) z))
-        ∙ g.same
+  -- the same, with an iterator over the whole records that may still come
+  pub record Looping (size : ℕ) (u : Tally) (at : ℕ) (it : Take (ChunksExact ℕ)) : Type 0 where
+    pub counting : Counting s nodes values t input u at
+    pub chunks : Chunked size input at (most_records - u.records) it
 
-    pub counting_most : most_records ≤ u.records → record { tally = u; used = at } ≡ block_tally t s nodes values input
-    counting_most h = stops (count_most (record_size s) (drop at input) (most_records - u.records) (omega (arith, h)))
+  module _ (size : ℕ) (e : size ≡ record_size s) where
+    module _ {u : Tally} {at : ℕ} {it : Take (ChunksExact ℕ)} (g : Looping size u at it) (next : Take (ChunksExact ℕ)) (r : Option (Bor (List ℕ))) (h : take_steps chunks_exact_steps it r next) where
+      stops : block_count u s (drop at input) ≡ 0 → record { tally = u; used = at } ≡ block_tally t s nodes values input
+      stops z =
+          ap (λ (n : ℕ). record { tally = u; used = n }) (omega arith)
+          ∙ sym (ap (λ (b : BlockTally). record { tally = b.tally; used = at + b.used }) (block_end s nodes values u (drop at input) z))
+          ∙ g.counting.same
 
-    pub counting_short : length input - at < size → record { tally = u; used = at } ≡ block_tally t s nodes values input
-    counting_short h = stops (count_short (record_size s) (drop at input) (most_records - u.records) (omega (arith, h, e, length-drop at input)))
+      pub loop_last : r ≡ None → record { tally = u; used = at } ≡ block_tally t s nodes values input
+      loop_last q =
+          stops
+          (⊎_elim (count_most (record_size s) (drop at input) (most_records - u.records)) (λ l. count_short (record_size s) (drop at input) (most_records - u.records) (omega (arith, l, e)))
+          (chunk_last it next r g.chunks h q))
 
-    pub counting_again : (v : Tally) → u.records < most_records → size ≤ length input - at
-        → v ≡ (counted_of u (outcome_of s nodes values (take (at + size - at) (drop at input)))).tally → Counting s nodes values t input v (at + size)
-    counting_again v h l q = record {
-      whole = omega (arith, l, g.whole);
-      same =
-          ap (λ (n : ℕ). record { tally = rest.tally; used = n }) (omega (arith, e))
-          ∙ sym (ap (λ (b : BlockTally). record { tally = b.tally; used = at + b.used }) step)
-          ∙ g.same;
-    }
-      where
-        rest : BlockTally
-        rest = block_tally v s nodes values (drop (at + size) input)
+      module _ (x : Bor (List ℕ)) (q : r ≡ Some x) where
+        here : Chunk size input at (most_records - u.records) x.now
+        here = chunk_here it next r g.chunks h x q
 
-        here : at + size - at ≡ record_size s
-        here = omega (arith, e)
+        loop_within : at + size ≤ length input
+        loop_within = omega (arith, here.fits, length-drop at input, g.counting.whole)
 
-        past : drop (record_size s) (drop at input) ≡ drop (at + size) input
-        past = drop-drop (record_size s) at input ∙ ap (λ (n : ℕ). drop (at + n) input) (sym e)
+        pub loop_again : (v : Tally) → v ≡ (counted_of u (outcome_of s nodes values x.now)).tally → Looping size v (at + size) next
+        loop_again v p = record {
+          counting = record {
+            whole = loop_within;
+            same =
+                ap (λ (n : ℕ). record { tally = rest.tally; used = n }) (omega (arith, e))
+                ∙ sym (ap (λ (b : BlockTally). record { tally = b.tally; used = at + b.used }) step)
+                ∙ g.counting.same;
+          };
+          chunks = subst (λ (k : ℕ). Chunked size input (at + size) k next) (omega (arith, one)) (chunk_next it next r g.chunks h x q);
+        }
+          where
+            ahead : u.records < most_records
+            ahead = omega (arith, here.some)
 
-        step : block_tally u s nodes values (drop at input) ≡ record { tally = rest.tally; used = record_size s + rest.used }
-        step =
-            block_next s nodes values u v (drop at input) h (omega (arith, e, l, length-drop at input))
-            (q ∙ ap (λ (n : ℕ). (counted_of u (outcome_of s nodes values (take n (drop at input)))).tally) here)
-            ∙ ap (λ (xs : List ℕ). record { tally = (block_tally v s nodes values xs).tally; used = record_size s + (block_tally v s nodes values xs).used }) past
+            one : v.records ≡ u.records + 1
+            one = ap (λ (w : Tally). w.records) p ∙ counted_one u (outcome_of s nodes values x.now) ahead
+
+            rest : BlockTally
+            rest = block_tally v s nodes values (drop (at + size) input)
+
+            past : drop (record_size s) (drop at input) ≡ drop (at + size) input
+            past = drop-drop (record_size s) at input ∙ ap (λ (n : ℕ). drop (at + n) input) (sym e)
+
+            step : block_tally u s nodes values (drop at input) ≡ record { tally = rest.tally; used = record_size s + rest.used }
+            step =
+                block_next s nodes values u v (drop at input) ahead (omega (arith, e, here.fits))
+                (p ∙ ap (λ (xs : List ℕ). (counted_of u (outcome_of s nodes values xs)).tally) (here.bytes ∙ ap (λ (n : ℕ). take n (drop at input)) e))
+                ∙ ap (λ (xs : List ℕ). record { tally = (block_tally v s nodes values xs).tally; used = record_size s + (block_tally v s nodes values xs).used }) past

@@ -185,11 +185,11 @@ module _ (t : Tally) (s : Shape) (nodes values : List Float) where
 -- "A short last record counts under 3"
 pub short_record : (s : Shape) (nodes values : List Float) (rec : List ℕ) → good (frame_fault s (length nodes) (length values)) ≡ true
     → length rec < record_size s → record_answer s nodes values rec ≡ refused (refusal 3 0 2)
-unfolding length_fault refusal
-short_record s nodes values rec f l = sym (record_refused s nodes values rec (refusal 3 0 2) three (λ e. omega arith) (refused (refusal 3 0 2)) refl)
+unfolding length_fault
+short_record s nodes values rec f l = record_refused s nodes values rec (ap good three ∙ orders.bad_refused 2 0 2) ∙ ap refused three
   where
     short : not (eqb (length rec) (record_size s)) ≡ true
     short = ap not (ne_eqb (length rec) (record_size s) (λ e. omega arith))
 
-    three : refusal 3 0 2 ≡ (frame_fault s (length nodes) (length values) or length_fault 2 (record_size s) (length rec))
-    three = orders.row_met (not (eqb (length rec) (record_size s))) 2 0 2 short ∙ sym (orders.or_good (frame_fault s (length nodes) (length values)) _ f)
+    three : (frame_fault s (length nodes) (length values) or length_fault 2 (record_size s) (length rec)) ≡ refusal 3 0 2
+    three = orders.or_good (frame_fault s (length nodes) (length values)) _ f ∙ orders.when_true (not (eqb (length rec) (record_size s))) (refusal 3 0 2) short

@@ -8,9 +8,8 @@ use lib.Dec.{T}
 use lib.ListN.{length, get_or}
 use lib.Ieee.{Float, nan, binary64, le, eq, fits}
 use lib.Ieee.Scale.{finite}
-use Rattle.answer.specs.Faults.{good, ◌or◌}
+use Rattle.answer.specs.Faults.{Fault, good, ◌or◌}
 use Rattle.answer.specs.Answer.{answered}
-use Rattle.answer.specs.declared.Fault.{Fault}
 use Rattle.answer.proofs.Orders as orders
 use Rattle.answer.proofs.Answers.{then_good}
 use Rattle.binary64.proofs.Order as order

@@ -5,13 +5,15 @@ pub mod Demands
 pub mod Refusals
 pub mod Corners
 pub mod Located
+pub mod Locating
 pub mod LinearDemands
 pub mod LinearFinite
 pub mod UniformOverflow
 pub mod Rusts
+pub mod KindBytes
 pub mod KindOrder
+pub mod Chunks
 pub mod RecordLines
-pub mod Wholes
 pub mod RecordsIn
 pub mod Afters
 pub mod CountCells

@@ -1,22 +1,26 @@
 -- The index that a pick gives on each axis, and the place of the index list. Assumes nothing.
-use mathlib.Core.Path.{◌≡◌, sym, ap, ap₂, ◌∙◌, subst}
-use mathlib.Core.Bool.{true}
+use mathlib.Core.Path.{◌≡◌, refl, sym, ap, ap₂, ◌∙◌, subst}
 use mathlib.Core.List.{List, []}
 use Prim.Native.Nat.{ℕ, ◌+◌, ◌-◌, ◌*◌, ◌≤◌, ◌<◌, min}
 use native.Mathlib.Omega.{arith}
 use lib.ListN.{length, take, drop, get_or, length-take, length-drop}
 use lib.Seq.{length-take-le, get_or-take}
 use lib.Ieee.{Float, nan}
-use lib.Ieee.Scale.{finite}
 use Rattle.checks.specs.Passed.{Axis}
-use Rattle.checks.specs.Scaffolding.{Grid}
-use Rattle.layout.specs.Shape.{size, total}
+use Rattle.layout.specs.Shape.{counts_of, size, total}
+use Rattle.layout.specs.declared.Shape.{Shape}
 use Rattle.layout.specs.Layout.{axes_of, place, Inside}
 use Rattle.layout.proofs.Walks.{length-axes, Walk, walk_here, walk_axis, walk_on}
-use Rattle.layout.proofs.Layouts.{length-tabulate, get_d_tabulate, place_below, place-step, place_fits, place_done, inside_tabulate}
+use Rattle.layout.proofs.Layouts.{length-tabulate, get_d_tabulate, place_start, place_below, place-step, place_fits, place_done, inside_tabulate}
 use Rattle.checks.proofs.table.Grids.{length-axis}
 use Rattle.ninterp.specs.Tables.{indices}
-use Rattle.axis.specs.Scaffolding.{pick_index, pick_found, pick_rule}
+use Rattle.ninterp.specs.Scaffolding.{ReadableTable, PickedAt, pick_by}
+use Rattle.axis.specs.declared.picks.Pick.{Pick}
+use Rattle.axis.specs.declared.picks.Pick.TheVariants.{Nearest}
+use Rattle.std.proofs.Common.{cond, below_more}
+use borrow.Author.Tests.{eq-eqb, ne_eqb}
+use lib.Dec.{eqb}
+use Rattle.axis.specs.Scaffolding.{code_of, pick_index, pick_found}
 use Rattle.axis.proofs.picks.Picks.{pick_fits, pick_found_lem}
 
 -- ---- the index list lies in the table, for any rule whose indexes are of their axes
@@ -40,71 +44,145 @@ unfolding indices
 index_at rule counts nodes readings a l =
     get_d_tabulate (length (axes_of counts nodes)) a (λ b. rule b (get_or (axes_of counts nodes) b []) (get_or readings b nan)) 0 (omega (arith, length-axes counts nodes))
 
--- ---- the loop over the axes
-module _ (C : List ℕ) (axes : ℕ) (nodes : List Float) (picks : List ℕ) (readings : List Float) (g : Grid (take axes C) nodes) (long : axes ≤ length C)
-    (finites : (a : ℕ) → a < axes → finite (get_or readings a nan) ≡ true) where
-  abbrev cs : List ℕ
-  cs = take axes C
+-- ---- the loop over the axes: axis a is next, and it starts at `at`
+pub record Walking (s : Shape) (nodes : List Float) (a at : ℕ) : Type 0 where
+  pub walk : Walk (counts_of s) nodes a at
 
-  abbrev is : List ℕ
-  is = indices (pick_rule picks) (axes_of (take axes C) nodes) readings
+module _ {s : Shape} {nodes readings : List Float} (t : ReadableTable s nodes readings) where
+  pub count_axes : length (counts_of s) ≡ s.axes
+  count_axes = length-take-le s.axes s.counts t.long
 
-  count_cs : length cs ≡ axes
-  count_cs = length-take-le axes C long
+  pub walk_begin : Walking s nodes 0 0
+  walk_begin = record { walk = refl }
 
-  count_is : length is ≡ axes
-  count_is = length-indices (pick_rule picks) cs nodes readings ∙ count_cs
+  module _ {a at : ℕ} (w : Walking s nodes a at) (l : a < s.axes) where
+    here : a < length (counts_of s)
+    here = omega (arith, count_axes)
 
-  pub picks_inside : Inside is cs
-  picks_inside =
-      list_inside (pick_rule picks) cs nodes readings g.flat
-      (λ a l. pick_fits (get_or (axes_of cs nodes) a []) (get_or readings a nan) (g.axes a l) (finites a (omega (arith, count_cs))) (get_or picks a 0))
-
-  full_below : place cs is < size cs
-  full_below = place_below is cs picks_inside
-
-  module _ (a at : ℕ) (l : a < axes) (w : Walk cs nodes a at) where
-    here : a < length cs
-    here = omega (arith, count_cs)
+    same_count : get_or (counts_of s) a 0 ≡ get_or s.counts a 0
+    same_count = get_or-take s.axes s.counts a 0 l
 
     -- the axis lies within the nodes
-    pub axis_within : at + get_or C a 0 ≤ length nodes
+    pub axis_within : at + get_or s.counts a 0 ≤ length nodes
     axis_within =
-        let e : length (take (get_or cs a 0) (drop at nodes)) ≡ get_or cs a 0 = ap length (sym (walk_here cs nodes a at here w)) ∙ length-axis cs nodes g.flat a here in
-        let q : get_or cs a 0 ≡ get_or C a 0 = get_or-take axes C a 0 l in
-        let n : 2 ≤ length (get_or (axes_of cs nodes) a []) = (g.axes a here).enough in
-        omega (arith, length-take (get_or cs a 0) (drop at nodes), length-drop at nodes, length-axis cs nodes g.flat a here)
+        let long : length (get_or (axes_of (counts_of s) nodes) a []) ≡ get_or (counts_of s) a 0 = length-axis (counts_of s) nodes t.grid.flat a here in
+        let e : length (take (get_or (counts_of s) a 0) (drop at nodes)) ≡ get_or (counts_of s) a 0 = ap length (sym (walk_here (counts_of s) nodes a at here w.walk)) ∙ long in
+        let n : 2 ≤ length (get_or (axes_of (counts_of s) nodes) a []) = (t.grid.axes a here).enough in
+        omega (arith, same_count, length-take (get_or (counts_of s) a 0) (drop at nodes), length-drop at nodes, long)
 
-    cut : at + get_or C a 0 ≡ at + min (get_or C a 0) (length nodes - at)
+    cut : at + get_or s.counts a 0 ≡ at + min (get_or s.counts a 0) (length nodes - at)
     cut = omega (arith, axis_within)
 
-    pub axis_read : take (at + get_or C a 0 - at) (drop at nodes) ≡ get_or (axes_of cs nodes) a []
-    axis_read = walk_axis C axes nodes a at (at + get_or C a 0) long l w cut
+    pub axis_read : take (at + get_or s.counts a 0 - at) (drop at nodes) ≡ get_or (axes_of (counts_of s) nodes) a []
+    axis_read = walk_axis s.counts s.axes nodes a at (at + get_or s.counts a 0) t.long l w.walk cut
 
-    pub axis-next : Walk cs nodes (a + 1) (at + get_or C a 0)
-    axis-next = walk_on C axes nodes a at (at + get_or C a 0) long l w cut
+    pub axis-next : Walking s nodes (a + 1) (at + get_or s.counts a 0)
+    axis-next = record { walk = walk_on s.counts s.axes nodes a at (at + get_or s.counts a 0) t.long l w.walk cut }
 
-    pub axis-good : Axis (take (at + get_or C a 0 - at) (drop at nodes))
-    axis-good = subst Axis (sym axis_read) (g.axes a here)
+    pub axis-good : Axis (take (at + get_or s.counts a 0 - at) (drop at nodes))
+    axis-good = subst Axis (sym axis_read) (t.grid.axes a here)
 
-    module _ (i : ℕ) (e : i ≡ pick_found (get_or picks a 0) (take (at + get_or C a 0 - at) (drop at nodes)) (get_or readings a nan)) (flat : ℕ)
-        (inv : flat * size (drop a cs) + place (drop a cs) (drop a is) ≡ place cs is) where
+-- ---- the loop that picks a node on each axis
+-- the place of what is picked, with the axes before a done
+pub record Placing (picks : ℕ → Pick) (s : Shape) (nodes readings : List Float) (a at flat : ℕ) : Type 0 where
+  pub walking : Walking s nodes a at
+  pub order : flat * size (drop a (counts_of s)) + place (drop a (counts_of s)) (drop a (indices (pick_by picks) (axes_of (counts_of s) nodes) readings))
+      ≡ place (counts_of s) (indices (pick_by picks) (axes_of (counts_of s) nodes) readings)
+
+module _ (picks : ℕ → Pick) {s : Shape} {nodes readings : List Float} (t : ReadableTable s nodes readings) where
+  abbrev is : List ℕ
+  is = indices (pick_by picks) (axes_of (counts_of s) nodes) readings
+
+  count_is : length is ≡ s.axes
+  count_is = length-indices (pick_by picks) (counts_of s) nodes readings ∙ count_axes t
+
+  picks_inside : Inside is (counts_of s)
+  picks_inside =
+      list_inside (pick_by picks) (counts_of s) nodes readings t.grid.flat
+      (λ a l. pick_fits (get_or (axes_of (counts_of s) nodes) a []) (get_or readings a nan) (t.grid.axes a l) (t.finites a (omega (arith, count_axes t, l))) (code_of (picks a)))
+
+  pub full_below : place (counts_of s) is < size (counts_of s)
+  full_below = place_below is (counts_of s) picks_inside
+
+  pub place_begin : Placing picks s nodes readings 0 0 0
+  place_begin = record { walking = walk_begin t; order = place_start (counts_of s) is }
+
+  module _ {a at flat : ℕ} (p : Placing picks s nodes readings a at flat) where
+    pub place_found : s.axes ≤ a → flat ≡ place (counts_of s) is
+    place_found h = place_done (counts_of s) is flat (place (counts_of s) is) a p.order (omega (arith, count_axes t)) (omega (arith, count_is))
+
+    module _ (l : a < s.axes) {i : ℕ} (pick : Pick) (k : picks a ≡ pick) (e : i ≡ pick_found (code_of pick) (take (at + get_or s.counts a 0 - at) (drop at nodes)) (get_or readings a nan)) where
+      within : a < length (counts_of s)
+      within = omega (arith, count_axes t)
+
       same_index : get_or is a 0 ≡ i
-      same_index = index_at (pick_rule picks) cs nodes readings a here ∙ sym (e ∙ pick_found_lem (take (at + get_or C a 0 - at) (drop at nodes)) (get_or readings a nan) axis-good (finites a l) (get_or picks a 0) ∙ ap (λ xs. pick_index (get_or picks a 0) xs (get_or readings a nan)) axis_read)
+      same_index =
+          index_at (pick_by picks) (counts_of s) nodes readings a within
+          ∙ ap (λ (q : Pick). pick_index (code_of q) (get_or (axes_of (counts_of s) nodes) a []) (get_or readings a nan)) k
+          ∙ sym (e ∙ pick_found_lem (take (at + get_or s.counts a 0 - at) (drop at nodes)) (get_or readings a nan) (axis-good t p.walking l) (t.finites a l) (code_of pick) ∙ ap (λ xs. pick_index (code_of pick) xs (get_or readings a nan)) (axis_read t p.walking l))
 
-      same_count : get_or cs a 0 ≡ get_or C a 0
-      same_count = get_or-take axes C a 0 l
+      same : flat * get_or (counts_of s) a 0 + get_or is a 0 ≡ flat * get_or s.counts a 0 + i
+      same = ap₂ (λ (n j : ℕ). flat * n + j) (get_or-take s.axes s.counts a 0 l) same_index
 
-      pub flat_next : (flat * get_or C a 0 + i) * size (drop (a + 1) cs) + place (drop (a + 1) cs) (drop (a + 1) is) ≡ place cs is
-      flat_next =
-          ap₂ (λ (n j : ℕ). (flat * n + j) * size (drop (a + 1) cs) + place (drop (a + 1) cs) (drop (a + 1) is)) (sym same_count) (sym same_index)
-          ∙ place-step cs is flat (place cs is) a inv here (omega (arith, count_is))
+      pub place_fits_lem : flat * get_or s.counts a 0 + i ≤ 4096
+      place_fits_lem =
+          let b : flat * get_or (counts_of s) a 0 + get_or is a 0 ≤ place (counts_of s) is = place_fits (counts_of s) is flat (place (counts_of s) is) a p.order within (omega (arith, count_is)) (omega (arith, full_below)) in
+          omega (arith, b, same, full_below, t.grid.small)
 
-      pub flat_fits : flat * get_or C a 0 + i ≤ 4096
-      flat_fits =
-          let b : flat * get_or cs a 0 + get_or is a 0 ≤ place cs is = place_fits cs is flat (place cs is) a inv here (omega (arith, count_is)) (omega (arith, full_below)) in
-          let q : flat * get_or cs a 0 + get_or is a 0 ≡ flat * get_or C a 0 + i = ap₂ (λ (n j : ℕ). flat * n + j) same_count same_index in
-          omega (arith, full_below, g.small)
+      pub place_next : Placing picks s nodes readings (a + 1) (at + get_or s.counts a 0) (flat * get_or s.counts a 0 + i)
+      place_next = record {
+        walking = axis-next t p.walking l;
+        order =
+            ap (λ (f : ℕ). f * size (drop (a + 1) (counts_of s)) + place (drop (a + 1) (counts_of s)) (drop (a + 1) is)) (sym same)
+            ∙ place-step (counts_of s) is flat (place (counts_of s) is) a p.order within (omega (arith, count_is));
+      }
 
-  pub flat_done : (a flat : ℕ) → axes ≤ a → flat * size (drop a cs) + place (drop a cs) (drop a is) ≡ place cs is → (flat ≡ place cs is) × (flat < size cs)
-  flat_done a flat h inv = let e : flat ≡ place cs is = place_done cs is flat (place cs is) a inv (omega (arith, count_cs)) (omega (arith, count_is)) in (e, omega (arith, full_below))
+-- what the closure gave for the axes before a, and the place by any picks that go on from these
+pub record Picking (post : ℕ → Pick → Type 0) (s : Shape) (nodes readings : List Float) (a at flat : ℕ) : Type 0 where
+  pub picks : ℕ → Pick
+  pub told : (k : ℕ) → k < a → post k (picks k)
+  pub placing : (q : ℕ → Pick) → ((k : ℕ) → k < a → q k ≡ picks k) → Placing q s nodes readings a at flat
+
+pub picking_walks : {post : ℕ → Pick → Type 0} {s : Shape} {nodes readings : List Float} {a at flat : ℕ} → Picking post s nodes readings a at flat → Walking s nodes a at
+picking_walks g = (g.placing g.picks (λ k l. refl)).walking
+
+module _ (post : ℕ → Pick → Type 0) {s : Shape} {nodes readings : List Float} (t : ReadableTable s nodes readings) where
+  pub picking_begin : Picking post s nodes readings 0 0 0
+  picking_begin = record { picks = λ _. Nearest; told = λ k l. absurd (omega arith); placing = λ q h. place_begin q t }
+
+  module _ {a at flat : ℕ} (g : Picking post s nodes readings a at flat) where
+    pub picking_done : s.axes ≤ a → PickedAt post s nodes readings flat
+    picking_done h = record {
+      picks = g.picks;
+      told = λ k l. g.told k (omega (arith, l, h));
+      same = e;
+      below = omega (arith, full_below g.picks t, e);
+    }
+      where
+        e : flat ≡ place (counts_of s) (indices (pick_by g.picks) (axes_of (counts_of s) nodes) readings)
+        e = place_found g.picks t (g.placing g.picks (λ k l. refl)) h
+
+    module _ (l : a < s.axes) {i : ℕ} (pick : Pick) (p : post a pick) (e : i ≡ pick_found (code_of pick) (take (at + get_or s.counts a 0 - at) (drop at nodes)) (get_or readings a nan)) where
+      more : ℕ → Pick
+      more k = cond (eqb k a) pick (g.picks k)
+
+      more_here : more a ≡ pick
+      unfolding more
+      more_here = simp (eq-eqb a a refl)
+
+      more_before : (k : ℕ) → k < a → more k ≡ g.picks k
+      unfolding more
+      more_before k b = simp (ne_eqb k a (λ (q : k ≡ a). omega (arith, q, b)))
+
+      now : Placing more s nodes readings a at flat
+      now = g.placing more more_before
+
+      pub picking_fits : flat * get_or s.counts a 0 + i ≤ 4096
+      picking_fits = place_fits_lem more t now l pick more_here e
+
+      pub picking_next : Picking post s nodes readings (a + 1) (at + get_or s.counts a 0) (flat * get_or s.counts a 0 + i)
+      picking_next = record {
+        picks = more;
+        told = below_more (λ k. post k (more k)) a (λ k b. subst (post k) (sym (more_before k b)) (g.told k b)) (subst (post a) (sym more_here) p);
+        placing = λ q h. place_next q t (g.placing q (λ k b. h k (omega (arith, b)) ∙ more_before k b)) l pick (h a (omega arith) ∙ more_here) e;
+      }

@@ -1,8 +1,7 @@
 -- "The program and one whole run": what a record is answered, for every table and every list of bytes.
 use Rattle.std.specs.Prelude.{cond, List, ℕ, ◌+◌, ◌*◌, eqb, length, get_or, Float}
-use Rattle.answer.specs.Faults.{refusal, ◌or◌}
+use Rattle.answer.specs.Faults.{Fault, refusal, ◌or◌}
 use Rattle.answer.specs.Answer.{refused, ◌then◌}
-use Rattle.answer.specs.declared.Fault.{Fault}
 use Rattle.answer.specs.declared.Answer.{Answer}
 use Rattle.little_endian.specs.Words.{float_at}
 use Rattle.lines.specs.Line.{line_of, longest}

@@ -1,11 +1,12 @@
 -- Not for the reader of the promises: what the functions below the calls ask for and give one another.
 -- The checker holds the code to it, and no promise cites it.
-use Rattle.std.specs.Prelude.{◌≡◌, true, cond, List, [], ◌∷◌, ℕ, ◌+◌, ◌-◌, ◌*◌, ◌^◌, ◌≤◌, ◌<◌, eqb, ltb, length, get_or, take, drop, Float}
+use Rattle.std.specs.Prelude.{◌≡◌, true, cond, List, [], ◌∷◌, ℕ, ◌+◌, ◌-◌, ◌*◌, ◌^◌, ◌≤◌, ◌<◌, eqb, ltb, length, get_or, take, drop, Float, Result, ⊤}
 use Rattle.std.specs.Float.{nan}
 use Rattle.std.specs.Float.Ieee.Scale.{finite}
-use Rattle.answer.specs.Faults.{◌or◌, when}
+use Rattle.answer.specs.Faults.{Fault, ◌or◌, when}
+use Rattle.answer.specs.Rows.{said}
 use Rattle.answer.specs.Answer.{answered}
-use Rattle.answer.specs.declared.Fault.{Fault}
+use Rattle.answer.specs.declared.Refusal.{Refusal}
 use Rattle.answer.specs.declared.Answer.{Answer}
 use Rattle.layout.specs.Shape.{counts_of, size, total}
 use Rattle.layout.specs.Layout.{axes_of, place}
@@ -16,7 +17,8 @@ use Rattle.rust.specs.declared.AxisLocation.TheVariants.{Exact}
 use Rattle.checks.specs.Scaffolding.{Grid}
 use Rattle.checks.specs.Shapes.{frame_fault}
 use Rattle.checks.specs.Numbers.{axes_fault, values_fault, unknown_kind_fault, axes_uniform_fault}
-use Rattle.axis.specs.Scaffolding.{upper_of, pick_rule, location_by}
+use Rattle.axis.specs.declared.picks.Pick.{Pick}
+use Rattle.axis.specs.Scaffolding.{upper_of, code_of, pick_index, location_by}
 use Rattle.axis.specs.Locations.{location_index}
 use Rattle.blend.specs.Scaffolding.{corner_place}
 use Rattle.blend.specs.Blend.{computed}
@@ -31,22 +33,19 @@ pub record FlatTable (s : Shape) (nodes : List Float) : Type 0 where
 
 -- ---- locations and picks
 
--- what follows of a table and a reading passing the checks before a lookup (`lookup_judged_lem`)
-pub record LookupJudged (s : Shape) (nodes values readings : List Float) : Type 0 where
-  pub grid : Grid (counts_of s) nodes
-  pub some : 1 ≤ s.axes
-  pub four : s.axes ≤ 4
-  pub count : length (counts_of s) ≡ s.axes
-  pub stored : length values ≡ size (counts_of s)
-  pub read : length readings ≡ s.axes
-  pub finites : (a : ℕ) → a < s.axes → finite (get_or readings a nan) ≡ true
-
--- a table and finite readings, at least as many as its axes
+-- a table, and a finite reading for each of its axes
 pub record ReadableTable (s : Shape) (nodes readings : List Float) : Type 0 where
   pub grid : Grid (counts_of s) nodes
   pub four : s.axes ≤ 4
-  pub read : s.axes ≤ length readings
+  pub long : s.axes ≤ length s.counts
+  pub read : length readings ≡ s.axes
   pub finites : (a : ℕ) → a < s.axes → finite (get_or readings a nan) ≡ true
+
+-- what follows of a table and a reading passing the checks before a lookup (`lookup_judged_lem`)
+pub record LookupJudged (s : Shape) (nodes values readings : List Float) : Type 0 where
+  pub readable : ReadableTable s nodes readings
+  pub some : 1 ≤ s.axes
+  pub stored : length values ≡ size (counts_of s)
 
 -- each location lies on its axis
 abbrev pub AllWithin : List AxisLocation → List ℕ → Type 0
@@ -57,30 +56,42 @@ AllWithin (p ∷ ps) (n ∷ ns) = (upper_of p < n) × AllWithin ps ns
 
 -- the location of each reading on its axis
 pub record Located (rule : List Float → Float → AxisLocation) (s : Shape) (nodes readings : List Float) (r : List AxisLocation) : Type 0 where
+  pub long : s.axes ≤ length r
   pub same : take s.axes r ≡ locations rule (axes_of (counts_of s) nodes) readings
   pub within : AllWithin (take s.axes r) (counts_of s)
 
--- the flat place that a rule picks
-pub record PickedAt (rule : ℕ → List Float → Float → ℕ) (s : Shape) (nodes readings : List Float) (r : ℕ) : Type 0 where
-  pub same : r ≡ place (counts_of s) (indices rule (axes_of (counts_of s) nodes) readings)
+-- the rule of each axis, by its pick
+abbrev pub pick_by : (ℕ → Pick) → ℕ → List Float → Float → ℕ
+pick_by picks a nodes p = pick_index (code_of (picks a)) nodes p
+
+-- the flat place that is picked, by what a closure gave for each axis
+pub record PickedAt (post : ℕ → Pick → Type 0) (s : Shape) (nodes readings : List Float) (r : ℕ) : Type 0 where
+  pub picks : ℕ → Pick
+  pub told : (a : ℕ) → a < s.axes → post a (picks a)
+  pub same : r ≡ place (counts_of s) (indices (pick_by picks) (axes_of (counts_of s) nodes) readings)
   pub below : r < size (counts_of s)
+
+-- the value that is stored there
+pub record Stored (post : ℕ → Pick → Type 0) (s : Shape) (nodes values readings : List Float) (r : Answer) : Type 0 where
+  pub picks : ℕ → Pick
+  pub told : (a : ℕ) → a < s.axes → post a (picks a)
+  pub same : r ≡ answered (picked (pick_by picks) (counts_of s) nodes values readings)
 
 -- ---- the corners of a reading
 
--- a table's values, and locations that lie on its axes
-pub record Cornered (s : Shape) (values : List Float) (locations : List AxisLocation) : Type 0 where
-  pub four : s.axes ≤ 4
-  pub small : size (counts_of s) ≤ 4096
-  pub within : AllWithin (take s.axes locations) (counts_of s)
-  pub stored : length values ≡ size (counts_of s)
-  pub some : 1 ≤ s.axes
-
--- the same of the first n counts and locations alone
+-- the first n counts, and locations that lie on their axes
 pub record Placeable (counts : List ℕ) (locations : List AxisLocation) (n : ℕ) : Type 0 where
+  pub some : 1 ≤ n
   pub few : n ≤ 4
+  pub long_counts : n ≤ length counts
+  pub long_locations : n ≤ length locations
   pub small : size (take n counts) ≤ 4096
   pub within : AllWithin (take n locations) (take n counts)
-  pub some : 1 ≤ n
+
+-- the same of a table's axes, and its values
+pub record Cornered (s : Shape) (values : List Float) (locations : List AxisLocation) : Type 0 where
+  pub placeable : Placeable s.counts locations s.axes
+  pub stored : length values ≡ size (counts_of s)
 
 -- sixteen places, the first of them 0
 pub record Blank (places : List ℕ) : Type 0 where
@@ -106,15 +117,14 @@ pub record Spread (before after : List ℕ) (count low high : ℕ) : Type 0 wher
   pub both : (i : ℕ) → i < count → (get_or after i 0 ≡ get_or before i 0 + low) × (get_or after (i + count) 0 ≡ get_or before i 0 + high)
 
 -- places whose values are there under either node
-pub record Gatherable (values : List Float) (places : List ℕ) (count low high : ℕ) : Type 0 where
-  pub few : count + count ≤ 16
-  pub there : count ≤ length places
-  pub inside : (i : ℕ) → i < count → (get_or places i 0 + low < length values) × (get_or places i 0 + high < length values)
+pub record Gatherable (values : List Float) (places : List ℕ) (low high : ℕ) : Type 0 where
+  pub few : length places ≤ 8
+  pub inside : (i : ℕ) → i < length places → (get_or places i 0 + low < length values) × (get_or places i 0 + high < length values)
 
 -- the values under either node
-pub record Gathered (values : List Float) (places : List ℕ) (count low high : ℕ) (r : List Float) : Type 0 where
-  pub both : (i : ℕ) → i < count
-      → (get_or r i nan ≡ get_or values (get_or places i 0 + low) nan) × (get_or r (i + count) nan ≡ get_or values (get_or places i 0 + high) nan)
+pub record Gathered (values : List Float) (places : List ℕ) (low high : ℕ) (r : List Float) : Type 0 where
+  pub both : (i : ℕ) → i < length places
+      → (get_or r i nan ≡ get_or values (get_or places i 0 + low) nan) × (get_or r (i + length places) nan ≡ get_or values (get_or places i 0 + high) nan)
 
 -- ---- a record's answer in the order in which the code finds it, with the table judged once for many records: `kind_order` says that it is the same
 
@@ -137,9 +147,9 @@ four_of x = x ∷ x ∷ x ∷ x ∷ []
 unfoldable pub kind_found : ℕ → Shape → List Float → List Float → List Float → Answer
 kind_found kind s nodes values readings =
     cond (ltb kind 2) (computed (interpolated (location_by (eqb kind 1)) (counts_of s) nodes values readings))
-    (answered (picked (pick_rule (four_of (pick_of kind))) (counts_of s) nodes values readings))
+    (answered (picked (λ a. pick_index (pick_of kind)) (counts_of s) nodes values readings))
 
--- what 1 to 7 and what 8 give of a table
-pub record Known (s : Shape) (nodes values : List Float) (table uniform : Fault) : Type 0 where
-  pub judged : table ≡ table_fault s nodes values
-  pub spaced : uniform ≡ axes_uniform_fault (counts_of s) nodes
+-- what 1 to 7 and what 8 gave of a table
+pub record Known (s : Shape) (nodes values : List Float) (table uniform : Result ⊤ Refusal) : Type 0 where
+  pub judged : said table ≡ table_fault s nodes values
+  pub spaced : said uniform ≡ axes_uniform_fault (counts_of s) nodes

@@ -1,7 +1,6 @@
 -- "Numbers the technician sees": in which order a call asks the rows of the table of numbers.
 use Rattle.std.specs.Prelude.{List, ℕ, length, Float}
-use Rattle.answer.specs.Faults.{◌or◌}
-use Rattle.answer.specs.declared.Fault.{Fault}
+use Rattle.answer.specs.Faults.{Fault, ◌or◌}
 use Rattle.layout.specs.Shape.{counts_of, size}
 use Rattle.layout.specs.Layout.{without, axis_of}
 use Rattle.layout.specs.declared.Shape.{Shape}

@@ -1,8 +1,7 @@
 -- "The program and one whole run": what the program prints of its input; and the same as a call, which puts it into an output.
 use Rattle.std.specs.Prelude.{◌≡◌, cond, List, ℕ, length, drop}
-use Rattle.answer.specs.Faults.{good, given, filled_into}
+use Rattle.answer.specs.Faults.{Fault, good, given, filled_into}
 use Rattle.answer.specs.Answer.{refused, fine, ◌then◌}
-use Rattle.answer.specs.declared.Fault.{Fault}
 use Rattle.checks.specs.Numbers.{most_records, room_fault}
 use Rattle.lines.specs.Line.{line_of}
 use Rattle.lines.specs.Stream.{Rule, lines_of}

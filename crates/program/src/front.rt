@@ -5,6 +5,7 @@ ghost use Rattle.program.specs.Scaffolding.{Loads};
 use crate::input;
 use answer::Answer;
 use checks::shapes;
+use checks::shapes::Holding;
 use layout::Shape;
 
 // How many bytes of the input are the image, what the loader answers, and the shape and the sizes of the table at the fronts of the
@@ -26,13 +27,16 @@ pub fn load(input: &[u8], nodes: &mut [f64], values: &mut [f64]) -> Front
     ensures axes_bound { (result.shape.axes ≤ 4) × (result.size ≤ length input.now) }
     ensures nodes_in_bounds { (result.nodes ≤ length nodes.new) × (result.values ≤ length values.new) }
 {
-    let size = layout::least(input::image_size(input), input.len());
+    let size = input::image_size(input).min(input.len());
     let loaded = image::load(&input[..size], nodes, values);
     let answer = loaded.answer;
     let shape = loaded.shape;
-    let held = shapes::sizes(shape);
-    let n = layout::least(held.nodes, nodes.len());
-    let v = layout::least(held.values, values.len());
+    let held = shapes::sizes(shape).unwrap_or(Holding {
+        nodes: 0,
+        values: 0,
+    });
+    let n = held.nodes.min(nodes.len());
+    let v = held.values.min(values.len());
     Front {
         size,
         answer,

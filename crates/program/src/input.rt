@@ -3,6 +3,8 @@
 ghost use Rattle.std.specs.Prelude.{◌≡◌};
 ghost use Rattle.program.specs.Input.{image_size, goes_on, end_size, end_into};
 
+use answer::{Answer, Row};
+
 // How many bytes the image is to have, by what its first bytes state.
 pub fn image_size(head: &[u8]) -> usize
     ensures { result ≡ image_size head.now }
@@ -17,20 +19,11 @@ pub fn image_size(head: &[u8]) -> usize
     stated
 }
 
-// Whether to read on.
-pub fn goes_on(ok: bool, full: bool, left: usize, whole: bool) -> bool
-    ensures { result ≡ goes_on ok full left whole }
+// Whether to read on, where the output stands.
+pub fn goes_on(full: bool, left: usize, whole: bool) -> bool
+    ensures { result ≡ goes_on full left whole }
 {
-    if !ok {
-        return false;
-    }
-    if left == 0 {
-        return false;
-    }
-    if full {
-        return true;
-    }
-    whole
+    left != 0 && (full || whole)
 }
 
 // Puts what is printed at the input's end, where so many bytes are left and so many records may still come.
@@ -43,5 +36,5 @@ pub fn finish(rest: usize, left: usize, out: &mut [u8]) -> usize
     if rest == 0 {
         return 0;
     }
-    lines::put_line(answer::refuse(answer::refusal(3, 0, 2)), out, 0)
+    lines::put_line(Answer::from(Row::Length.at(0, 2)), out, 0)
 }

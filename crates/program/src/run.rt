@@ -1,5 +1,7 @@
 // One whole run as a call: what the program prints of an input, put into an output. Nothing is read or printed.
 ghost use Rattle.std.specs.Prelude.{◌≡◌, ◌≤◌, length};
+ghost use Rattle.answer.specs.Answer.{refused};
+ghost use Rattle.answer.specs.Rows.{fault_of};
 ghost use Rattle.lines.specs.Line.{line_of, longest};
 ghost use Rattle.lines.specs.Stream.{lines_first, lines_of, Block};
 ghost use Rattle.ninterp.specs.Records.{record_rule, record_size};
@@ -8,17 +10,30 @@ ghost use Rattle.program.specs.Run.{run_of, Texted};
 ghost use Rattle.checks.specs.Numbers.{most_records};
 
 use crate::{front, input};
-use answer::Answer;
+use answer::{Answer, Refusal};
 use checks::lent;
 use layout::Shape;
 use ninterp::records::block;
 use ninterp::records::block::Done;
+use std::convert::From;
 
 // The answer, with how many bytes were written.
 #[derive(Clone, Copy)]
 pub struct RunAnswer {
     pub answer: Answer,
     pub written: usize,
+}
+
+// The answer of a refusal, where nothing is written.
+impl From<Refusal> for RunAnswer {
+    ghost from_gives = { λ r a. a ≡ record { answer = refused (fault_of r); written = 0 } };
+
+    fn from(refusal: Refusal) -> RunAnswer {
+        RunAnswer {
+            answer: Answer::from(refusal),
+            written: 0,
+        }
+    }
 }
 
 // The lines of as many records as have room are made at a time; the table is judged once for them.
@@ -135,16 +150,12 @@ fn put_text(
 pub(crate) fn room_answer(need: usize, room: usize) -> RunAnswer
     ensures { result ≡ room_answer need room }
 {
-    let fault = lent::room_fault(2, need, room);
-    if fault.number != 0 {
-        return RunAnswer {
-            answer: answer::refuse(fault),
-            written: 0,
-        };
-    }
-    RunAnswer {
-        answer: answer::pass(),
-        written: need,
+    match lent::room_fault(2, need, room) {
+        Ok(()) => RunAnswer {
+            answer: answer::pass(),
+            written: need,
+        },
+        Err(refusal) => RunAnswer::from(refusal),
     }
 }
 

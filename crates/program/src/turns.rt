@@ -6,16 +6,7 @@ ghost use Rattle.program.specs.Scaffolding.{shifted};
 pub fn shift(buf: &mut [u8], from: usize, n: usize)
     ensures { buf.new ≡ shifted buf.old from n }
 {
-    let len = buf.len();
-    if from > len {
-        return;
-    }
-    if n > len - from {
-        return;
-    }
-    let mut i: usize = 0;
-    while i < n {
-        buf[i] = buf[from + i];
-        i += 1;
+    if from <= buf.len() && n <= buf.len() - from {
+        buf.copy_within(from..from + n, 0);
     }
 }

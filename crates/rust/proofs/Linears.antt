@@ -1,4 +1,5 @@
 -- Linear's text, which removes the exact axes from the last to the first and then locates again, is its text over the locations of all axes. Assumes nothing.
+use Rattle.std.proofs.Common.{Option, Some, None}
 use mathlib.Core.Path.{◌≡◌, refl, sym, ap, ap₂, ◌∙◌, subst}
 use mathlib.Core.Bool.{Bool, true, false, cond}
 use mathlib.Core.List.{List, [], ◌∷◌}
@@ -17,8 +18,6 @@ use Rattle.rust.specs.Strategies.{Reduced, removed, reduced_at, reduced, vals_of
 use Rattle.rust.proofs.Located.{corner, corners, view, lowers, rust_linear}
 use Rattle.rust.specs.Scaffolding.{butterfly, diffs}
 use Rattle.rust.proofs.Passes.{blend_text}
-use Rattle.rust.specs.declared.MaybeIndex.{MaybeIndex}
-use Rattle.rust.specs.declared.MaybeIndex.TheVariants.{Some, None}
 use Rattle.rust.specs.declared.AxisLocation.{AxisLocation}
 use Rattle.rust.specs.declared.AxisLocation.TheVariants.{Exact, Between}
 
@@ -56,7 +55,7 @@ module _ (x : List Float) (p : Float) (c j : ℕ) where
   turn : (dim : ℕ) (t : Reduced) (v : List ℕ → Float) → ((is : List ℕ) → v (j ∷ is) ≡ t.values is) → Behind x p c j (reduced_at (suc dim) (onto x p c t v)) (reduced_at dim t)
   turn dim t v h = go (eqb (length (get_or t.grid dim [])) 0) (exact_index (get_or t.grid dim []) (locate_lower_index (get_or t.grid dim []) (at t.point dim)) (at t.point dim))
     where
-      go : (b : Bool) (m : MaybeIndex) → Behind x p c j (cond b (onto x p c t v) (removed m (suc dim) (onto x p c t v))) (cond b t (removed m dim t))
+      go : (b : Bool) (m : Option ℕ) → Behind x p c j (cond b (onto x p c t v) (removed m (suc dim) (onto x p c t v))) (cond b t (removed m dim t))
       go true m = record { same = refl; valued = h }
       go false None = record { same = refl; valued = h }
       go false (Some pos) = record { same = refl; valued = λ is. h (insert dim pos is) }
@@ -85,7 +84,7 @@ record Left (ls : List AxisLocation) (s t : Reduced) : Type 0 where
 module _ (x : List Float) (p : Float) (c : ℕ) (xs : List (List Float)) (ps : List Float) (cs : List ℕ) (g : List ℕ → Float) (ls : List AxisLocation) (t : Reduced) (v : List ℕ → Float)
     (points : t.point ≡ kept ls ps) (grids : t.grid ≡ kept ls xs) (shapes : t.shape ≡ kept ls cs)
     (valued : (j : ℕ) (is : List ℕ) → length is ≡ length (lowers ls) → v (j ∷ is) ≡ view ls (λ js. g (j ∷ js)) is) where
-  at_first : (m : MaybeIndex) (lower : ℕ) (frac : Float) → Left (matched m lower frac ∷ ls) (start (x ∷ xs) (p ∷ ps) (c ∷ cs) g) (removed m 0 (onto x p c t v))
+  at_first : (m : Option ℕ) (lower : ℕ) (frac : Float) → Left (matched m lower frac ∷ ls) (start (x ∷ xs) (p ∷ ps) (c ∷ cs) g) (removed m 0 (onto x p c t v))
   at_first (Some pos) lower frac = record { points = points; grids = grids; shapes = shapes; valued = valued pos }
   at_first None lower frac = record { points = ap (λ r. p ∷ r) points; grids = ap (λ r. x ∷ r) grids; shapes = ap (λ r. c ∷ r) shapes; valued = each }
     where
@@ -106,7 +105,7 @@ module _ (x : List Float) (p : Float) (c : ℕ) (xs : List (List Float)) (ps : L
       frac : Float
       frac = frac_of x (locate_lower_index x p) p
 
-      here : MaybeIndex
+      here : Option ℕ
       here = exact_index x (locate_lower_index x p) p
 
 -- one axis more in front
@@ -137,7 +136,7 @@ module _ (x : List Float) (p : Float) (c : ℕ) (xs : List (List Float)) (ps : L
   unfolding locate_axis
   lowers_more e = go (exact_index x (locate_lower_index x p) p)
     where
-      go : (m : MaybeIndex) → let l = matched m (locate_lower_index x p) (frac_of x (locate_lower_index x p) p) in
+      go : (m : Option ℕ) → let l = matched m (locate_lower_index x p) (frac_of x (locate_lower_index x p) p) in
           tabulate (length (kept (l ∷ ls) (c ∷ cs))) (λ dim. locate_lower_index (get_or (kept (l ∷ ls) (x ∷ xs)) dim []) (at (kept (l ∷ ls) (p ∷ ps)) dim)) ≡ lowers (l ∷ ls)
       go (Some pos) = e
       go None = ap (λ r. locate_lower_index x p ∷ r) e
@@ -149,7 +148,7 @@ module _ (x : List Float) (p : Float) (c : ℕ) (xs : List (List Float)) (ps : L
   unfolding locate_axis
   diffs-more e = go (exact_index x (locate_lower_index x p) p)
     where
-      go : (m : MaybeIndex) → let l = matched m (locate_lower_index x p) (frac_of x (locate_lower_index x p) p) in
+      go : (m : Option ℕ) → let l = matched m (locate_lower_index x p) (frac_of x (locate_lower_index x p) p) in
           tabulate (length (kept (l ∷ ls) (c ∷ cs))) (λ dim. frac_of (get_or (kept (l ∷ ls) (x ∷ xs)) dim []) (locate_lower_index (get_or (kept (l ∷ ls) (x ∷ xs)) dim []) (at (kept (l ∷ ls) (p ∷ ps)) dim)) (at (kept (l ∷ ls) (p ∷ ps)) dim)) ≡ diffs (l ∷ ls)
       go (Some pos) = e
       go None = ap (λ r. frac_of x (locate_lower_index x p) p ∷ r) e

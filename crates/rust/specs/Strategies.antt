@@ -1,13 +1,11 @@
 -- The Rust's n/strategies.rs, its first four strategies, each definition under the lines that it is taken from. `data` is its grid, a list of
 -- axes, and its values, a shape and a function of the index list.
-use Rattle.std.specs.Prelude.{cond, List, [], ◌∷◌, ℕ, zero, suc, ◌+◌, ◌-◌, ◌/◌, ◌%◌, ◌^◌, eqb, length, get_or, set, Float}
+use Rattle.std.specs.Prelude.{cond, List, [], ◌∷◌, ℕ, zero, suc, ◌+◌, ◌-◌, ◌/◌, ◌%◌, ◌^◌, eqb, length, get_or, set, Float, Option, Some, None}
 use Rattle.std.specs.Float.{binary64}
 use Rattle.std.specs.Float.Ieee.{lt, add, sub, mul, div}
 use Rattle.layout.specs.Shape.{size}
 use Rattle.layout.specs.Layout.{tabulate, insert, without}
 use Rattle.rust.specs.Utils.{one, at, frac_of, locate_lower_index, exact_index, locate_step_index, locate_lower_index_uniform, spacing_at, Validated, ok, non_uniform, validate_uniform_grid_epsilon}
-use Rattle.rust.specs.declared.MaybeIndex.{MaybeIndex}
-use Rattle.rust.specs.declared.MaybeIndex.TheVariants.{Some, None}
 
 -- ---- Linear: exact axes removed
 -- `point`, `grid` and `values_view`, which has a shape and an element at each index list
@@ -18,7 +16,7 @@ pub record Reduced : Type 0 where
   pub values : List ℕ → Float
 
 -- `if let Some(pos) = pos { point.remove(dim); grid.remove(dim); values_view.index_axis_inplace(Axis(dim), pos); }`
-abbrev pub removed : MaybeIndex → ℕ → Reduced → Reduced
+abbrev pub removed : Option ℕ → ℕ → Reduced → Reduced
 removed (Some pos) dim s = record {
   point = without dim s.point;
   grid = without dim s.grid;

@@ -1,9 +1,7 @@
 -- The Rust's strategy/utils.rs, each definition under the lines that it is taken from. `a >= b` is `le b a`, and `a > b` is `lt b a`.
-use Rattle.std.specs.Prelude.{true, false, ◌&&◌, cond, List, ℕ, zero, suc, ◌+◌, ◌-◌, ◌/◌, ◌^◌, min, ltb, eqb, pos, negsuc, length, get_or, Float}
+use Rattle.std.specs.Prelude.{true, false, ◌&&◌, cond, List, ℕ, zero, suc, ◌+◌, ◌-◌, ◌/◌, ◌^◌, min, ltb, eqb, pos, negsuc, length, get_or, Float, Option, Some, None}
 use Rattle.std.specs.Float.{nan, inf, fin, binary64}
 use Rattle.std.specs.Float.Ieee.{lt, le, eq, add, sub, mul, div, to_unsigned}
-use Rattle.rust.specs.declared.MaybeIndex.{MaybeIndex}
-use Rattle.rust.specs.declared.MaybeIndex.TheVariants.{Some, None}
 use Rattle.rust.specs.declared.AxisLocation.{AxisLocation}
 use Rattle.rust.specs.declared.AxisLocation.TheVariants.{Exact, Between}
 
@@ -53,7 +51,7 @@ locate_lower_index grid point =
 
 -- ---- exact_index
 -- `if grid[lower] == *point { Some(lower) } else if grid[lower + 1] == *point { Some(lower + 1) } else { None }`
-unfoldable pub exact_index : List Float → ℕ → Float → MaybeIndex
+unfoldable pub exact_index : List Float → ℕ → Float → Option ℕ
 exact_index grid lower point = cond (eq (at grid lower) point) (Some lower) (cond (eq (at grid (lower + 1)) point) (Some (lower + 1)) None)
 
 -- ---- locate_axis
@@ -62,7 +60,7 @@ abbrev pub frac_of : List Float → ℕ → Float → Float
 frac_of grid lower point = div binary64 (sub binary64 point (at grid lower)) (sub binary64 (at grid (lower + 1)) (at grid lower))
 
 -- `Some(idx) => AxisLocation::Exact(idx)`, `None => { .. AxisLocation::Between { lower, frac } }`
-abbrev pub matched : MaybeIndex → ℕ → Float → AxisLocation
+abbrev pub matched : Option ℕ → ℕ → Float → AxisLocation
 matched (Some idx) lower frac = Exact idx
 matched None lower frac = Between lower frac
 
@@ -97,11 +95,11 @@ floor (fin false m (negsuc k)) = fin false (m / 2 ^ suc k) (pos 0)
 floor (fin true m (negsuc k)) = fin true ((m + 2 ^ suc k - 1) / 2 ^ suc k) (pos 0)
 
 -- `.to_usize()`, on 64 bits: a whole part for what lies above -1 and below 2^64, and none for all else, a NaN among it
-unfoldable pub to_usize : Float → MaybeIndex
+unfoldable pub to_usize : Float → Option ℕ
 to_usize x = cond (lt (fin true 1 (pos 0)) x && lt x (fin false 1 (pos 64))) (Some (to_unsigned 64 x)) None
 
 -- `.unwrap_or(other)`
-abbrev pub unwrap_or : MaybeIndex → ℕ → ℕ
+abbrev pub unwrap_or : Option ℕ → ℕ → ℕ
 unwrap_or (Some i) other = i
 unwrap_or None other = other
 

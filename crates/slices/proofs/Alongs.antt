@@ -2,16 +2,20 @@
 use mathlib.Core.Path.{◌≡◌, refl, sym, ap, ap₂, ◌∙◌, subst}
 use mathlib.Core.Bool.{true, not}
 use mathlib.Core.List.{List, [], ◌∷◌, ◌++◌}
-use Prim.Native.Nat.{ℕ, ◌+◌, ◌*◌, ◌/◌, ◌≤◌, ◌<◌, min}
+use Prim.Native.Nat.{ℕ, ◌+◌, ◌-◌, ◌*◌, ◌/◌, ◌≤◌, ◌<◌, min}
 use native.Mathlib.Nat.{add-mul, one-mul, mul-le-mul_right, suc-mul}
 use native.Mathlib.Omega.{arith}
 use lib.ListN.{length, take, drop, get_or, length-drop}
-use lib.Seq.{get_or-take, get_or-drop, length-take-le}
+use lib.Seq.{get_or-take, get_or-drop, length-take-le, take-take, drop-drop}
 use lib.Ieee.{Float, nan}
 use lib.Ieee.Scale.{finite}
-use Rattle.answer.specs.Faults.{no_fault, good}
-use Rattle.answer.specs.declared.Fault.{Fault}
-use Rattle.answer.proofs.Orders.{none_good, passed-no_fault, row_passed, no_fault_number}
+use Rattle.answer.specs.Faults.{Fault, no_fault, good}
+use Rattle.answer.specs.Rows.{said}
+use Rattle.answer.proofs.Checks.{said-ok}
+use Rattle.answer.proofs.Orders.{none_good, passed-no_fault, row_passed}
+use Rattle.std.proofs.Common.{Ok}
+use Rattle.std.proofs.lemmas.Slice.{between_is}
+use Rattle.checks.proofs.table.Grids.{length-axis}
 use Rattle.layout.specs.Shape.{counts_of, size}
 use Rattle.layout.specs.Layout.{place, table, tabulate, indices_at, without, slice_values, axis_of}
 use Rattle.layout.specs.declared.Shape.{Shape}
@@ -21,8 +25,6 @@ use Rattle.blend.specs.Scaffolding.{blends, blended_into}
 use Rattle.checks.specs.Numbers.{results_fault, result_fault}
 use Rattle.rust.specs.declared.AxisLocation.{AxisLocation}
 use Rattle.rust.specs.declared.AxisLocation.TheVariants.{Exact, Between}
-use Rattle.axis.specs.Locations.{location_index}
-use Rattle.axis.specs.Scaffolding.{upper_of}
 use Rattle.slices.specs.LinearSlices.{along_first, linear_values}
 use Rattle.slices.specs.Scaffolding.{Ready, Results, Runs, Neighbours, run_values, blended_runs}
 use Rattle.slices.proofs.Slices.{few_values, slice_count, runs_there, runs_written}
@@ -95,6 +97,19 @@ stored_finite node (c ∷ cs) values e l h =
     each : (j : ℕ) → 0 ≤ j → j < 0 + length (along_first (Exact node) (c ∷ cs) values) → good (result_fault j (get_or (along_first (Exact node) (c ∷ cs) values) j nan)) ≡ true
     each j a b = passed-no_fault _ (row_passed _ _ _ _ (ap not (at j (omega (arith, b, length-along (Exact node) (c ∷ cs) values)))))
 
+-- ---- the two runs, cut out together and split
+module _ (values : List Float) (from rest : ℕ) where
+  pub low_run : (low : List Float) → low ≡ take rest (take (from + 2 * rest - from) (drop from values)) → low ≡ take rest (drop from values)
+  low_run low e = e ∙ take-take rest (from + 2 * rest - from) (drop from values) (omega arith)
+
+  pub high_run : (high : List Float) → high ≡ drop rest (take (from + 2 * rest - from) (drop from values)) → high ≡ take rest (drop (from + rest) values)
+  high_run high e =
+      let cut : from + 2 * rest - from - rest ≡ rest = omega arith in
+      e ∙ sym (between_is (drop from values) rest (from + 2 * rest - from)) ∙ ap₂ (λ (k : ℕ) (xs : List Float). take k xs) cut (drop-drop rest from values)
+
+  pub long_run : (k : ℕ) → k + rest ≤ length values → length (take rest (drop k values)) ≡ rest
+  long_run k h = length-take-le rest (drop k values) (omega (arith, length-drop k values, h))
+
 -- with room for all of them, the blends are written and the rest stays
 pub into_blends : (f : Float) (low high out : List Float) (r : ℕ) → length low ≡ r → length high ≡ r → r ≤ length out → blended_into f low high out ≡ blends f low high ++ drop r out
 unfolding blended_into blends
@@ -111,53 +126,44 @@ size-first : (cs : List ℕ) → 0 < length cs → size cs ≡ get_or cs 0 0 * s
 size-first [] h = absurd (omega arith)
 size-first (c ∷ cs) h = size-cons c cs
 
--- ---- in the code's terms: l is where the reading lies on the first axis
-module _ {s : Shape} {nodes values : List Float} (r : Ready s nodes values 0) (l : AxisLocation) (fits : upper_of l < get_or s.counts 0 0) where
+-- ---- by the nodes of the first axis, as the code has them
+module _ {s : Shape} {nodes values : List Float} (r : Ready s nodes values 0) (grid : List Float) (is : grid ≡ axis_of s nodes 0) where
   abbrev cs : List ℕ
   cs = counts_of s
 
-  abbrev n : ℕ
-  n = get_or s.counts 0 0
-
   -- how many values the other axes have
   abbrev rest : ℕ
-  rest = length values / get_or s.counts 0 0
+  rest = length values / length grid
 
   rest_is : rest ≡ size (without 0 cs)
-  rest_is = slice_count r
+  rest_is = slice_count r grid is
 
   inner_is : rest ≡ size (drop 1 cs)
   inner_is = rest_is ∙ ap size (without-first cs)
 
-  first_count : get_or cs 0 0 ≡ n
-  first_count = get_or-take s.axes s.counts 0 0 r.within
+  first_count : get_or cs 0 0 ≡ length grid
+  first_count = sym (ap length is ∙ length-axis cs nodes r.grid.flat 0 (omega (arith, r.count, r.within)))
 
   -- on a node
-  module _ (x node : ℕ) (on : l ≡ Exact x) (e : node ≡ location_index l) where
-    here : l ≡ Exact node
-    here = on ∙ ap Exact (sym (e ∙ ap location_index on))
-
-    node_fits : node < n
-    node_fits = subst (λ (q : AxisLocation). upper_of q < n) here fits
-
-    pub node_runs : (room : ℕ) → size (without 0 (counts_of s)) ≤ room → Runs values (get_or s.counts 0 0) (length values / get_or s.counts 0 0) node (length values / get_or s.counts 0 0) room
-    node_runs room h = runs_there r rest inner_is node node_fits room h
+  module _ (node : ℕ) (fits : node < length grid) where
+    pub node_runs : (room : ℕ) → size (without 0 (counts_of s)) ≤ room → Runs values (length grid) (length values / length grid) node room
+    node_runs room h = runs_there r grid is rest inner_is node fits room h
 
     abbrev xs : List Float
     xs = along_first (Exact node) cs values
 
-    node-written : (f : Fault) (out after : List Float) → f ≡ no_fault → after ≡ run_values values n rest node rest ++ drop rest out → Results xs out f after
-    node-written f out after q w =
-        written f (results_fault xs) (q ∙ stored_finite node cs values r.stored (omega (arith, node_fits, first_count)) r.finites) xs out (ap (λ (g : Fault). g.number) q ∙ no_fault_number)
+    node-written : {A : Type 0} (y : A) (out after : List Float) → after ≡ run_values values (length grid) rest node rest ++ drop rest out → Results xs out (said (Ok y)) after
+    node-written y out after w =
+        written y (results_fault xs) (said-ok y ∙ stored_finite node cs values r.stored (omega (arith, fits, first_count)) r.finites) xs out y
         (size (without 0 cs)) (sym (length-along (Exact node) cs values)) after
-        (runs_written r rest inner_is node node refl out after w ∙ ap (λ (ys : List Float). ys ++ drop (size (without 0 cs)) out) (sym (along-exact node cs values)))
+        (runs_written r grid is rest inner_is node node refl out after w ∙ ap (λ (ys : List Float). ys ++ drop (size (without 0 cs)) out) (sym (along-exact node cs values)))
 
   -- between two: both runs lie in the table
-  module _ (lower : ℕ) (frac : Float) (e : l ≡ Between lower frac) where
-    pub runs_beside : (room : ℕ) → size (without 0 (counts_of s)) ≤ room → Neighbours values lower (length values / get_or s.counts 0 0) room
+  module _ (lower : ℕ) (frac : Float) (fits : lower + 1 < length grid) where
+    pub runs_beside : (room : ℕ) → size (without 0 (counts_of s)) ≤ room → Neighbours values lower (length values / length grid) room
     runs_beside room h = record {
       reach =
-          runs_within n rest lower (length values) (subst (λ (q : AxisLocation). upper_of q < n) e fits)
+          runs_within (length grid) rest lower (length values) fits
           (r.stored ∙ size-first cs (omega (arith, r.count, r.within)) ∙ ap₂ (λ (x y : ℕ). x * y) first_count (sym rest_is));
       stored = few_values r;
       enough = omega (arith, rest_is);
@@ -167,16 +173,16 @@ module _ {s : Shape} {nodes values : List Float} (r : Ready s nodes values 0) (l
     beside_along = along_between cs values rest lower frac (omega (arith, r.count, r.within)) rest_is (runs_beside (size (without 0 cs)) (omega arith)).reach
 
   -- .. by a rule
-  module _ (rule : List Float → Float → AxisLocation) (p : Float) (found : l ≡ rule (axis_of s nodes 0) p) where
-    along_rule : {m : AxisLocation} → l ≡ m → {f : Fault} {out after : List Float} → Results (along_first m cs values) out f after → Results (linear_values rule s nodes values p) out f after
+  module _ (rule : List Float → Float → AxisLocation) (p : Float) where
+    along_rule : {m : AxisLocation} → m ≡ rule (axis_of s nodes 0) p → {f : Fault} {out after : List Float} → Results (along_first m cs values) out f after → Results (linear_values rule s nodes values p) out f after
     unfolding linear_values
-    along_rule e {f = f} {out = out} {after = after} w = subst (λ (q : AxisLocation). Results (along_first q cs values) out f after) (sym e ∙ found) w
+    along_rule found {f = f} {out = out} {after = after} w = subst (λ (q : AxisLocation). Results (along_first q cs values) out f after) found w
 
-    pub node_results : (x node : ℕ) → l ≡ Exact x → node ≡ location_index l → (f : Fault) (out after : List Float) → f ≡ no_fault
-        → after ≡ run_values values (get_or s.counts 0 0) (length values / get_or s.counts 0 0) node (length values / get_or s.counts 0 0) ++ drop (length values / get_or s.counts 0 0) out
-        → Results (linear_values rule s nodes values p) out f after
-    node_results x node on e f out after q w = along_rule (here x node on e) (node-written x node on e f out after q w)
+    pub node_results : (node : ℕ) → Exact node ≡ rule (axis_of s nodes 0) p → node < length grid → {A : Type 0} (y : A) (out after : List Float)
+        → after ≡ run_values values (length grid) (length values / length grid) node (length values / length grid) ++ drop (length values / length grid) out
+        → Results (linear_values rule s nodes values p) out (said (Ok y)) after
+    node_results node found fits y out after w = along_rule found (node-written node fits y out after w)
 
-    pub between_results : (lower : ℕ) (frac : Float) → l ≡ Between lower frac → {f : Fault} {out after : List Float}
-        → Results (blended_runs frac lower (length values / get_or s.counts 0 0) values) out f after → Results (linear_values rule s nodes values p) out f after
-    between_results lower frac e {f = f} {out = out} {after = after} w = along_rule e (subst (λ (xs : List Float). Results xs out f after) (beside_along lower frac e) w)
+    pub between_results : (lower : ℕ) (frac : Float) → Between lower frac ≡ rule (axis_of s nodes 0) p → lower + 1 < length grid → {f : Fault} {out after : List Float}
+        → Results (blended_runs frac lower (length values / length grid) values) out f after → Results (linear_values rule s nodes values p) out f after
+    between_results lower frac found fits {f = f} {out = out} {after = after} w = along_rule found (subst (λ (xs : List Float). Results xs out f after) (beside_along lower frac fits) w)

@@ -1,3 +1,5 @@
+pub mod Counts
+pub mod Runs
 pub mod Slices
 pub mod Sliced
 pub mod Alongs

@@ -4,8 +4,7 @@ use mathlib.Core.Bool.{true, false}
 use mathlib.Core.List.{List}
 use Prim.Native.Nat.{ℕ}
 use lib.Ieee.{Float}
-use Rattle.answer.specs.Faults.{good}
-use Rattle.answer.specs.declared.Fault.{Fault}
+use Rattle.answer.specs.Faults.{Fault, good}
 use Rattle.answer.proofs.Orders as orders
 use Rattle.answer.proofs.Answers.{Quiet, quiet}
 use Rattle.layout.specs.Shape.{no_shape}

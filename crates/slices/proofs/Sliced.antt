@@ -2,16 +2,20 @@
 use mathlib.Core.Path.{◌≡◌, refl, sym, ap, ap₂, ◌∙◌, subst}
 use mathlib.Core.Bool.{true}
 use mathlib.Core.List.{List, ◌++◌}
-use Prim.Native.Nat.{ℕ, ◌<◌}
+use Prim.Native.Nat.{ℕ, ◌<◌, min}
 use native.Mathlib.Omega.{arith}
 use lib.ListN.{length, drop, get_or}
 use lib.Ieee.{Float}
-use Rattle.answer.specs.Faults.{good, ◌or◌, filled_into}
+use Rattle.std.proofs.Common.{Result, Ok, Err}
+use Rattle.std.specs.Result.{OnOk}
+use Rattle.answer.specs.Faults.{Fault, good, ◌or◌, filled_into}
 use Rattle.answer.specs.Answer.{refused, fine}
-use Rattle.answer.specs.declared.Fault.{Fault}
+use Rattle.answer.specs.Rows.{said, fault_of}
 use Rattle.answer.specs.declared.Answer.{Answer}
+use Rattle.answer.specs.declared.Refusal.{Refusal}
 use Rattle.answer.proofs.Orders as orders
-use Rattle.answer.proofs.Answers.{then_stops, then_goes_on}
+use Rattle.answer.proofs.Checks as checks
+use Rattle.answer.proofs.Checks.{Handed}
 use Rattle.checks.specs.Numbers.{length_fault, axes_fault, values_fault, direction_fault, directions_fault, range_fault, room_fault, no_axis_fault, not_first_fault}
 use Rattle.checks.specs.Shapes.{frame_fault}
 use Rattle.checks.proofs.lent.Rows.{direction_passed, room_passed, length-passed}
@@ -25,8 +29,11 @@ use Rattle.layout.specs.declared.Shape.{Shape}
 use Rattle.orders.specs.Orders.{nearest_front, step_front, linear_front, linear_uniform_front, point_fault}
 use Rattle.orders.proofs.before_slice.Rows.{axis_many, axis_in, first_many, first-axis}
 use Rattle.rust.specs.declared.AxisLocation.{AxisLocation}
+use Rattle.axis.specs.Steps.{step_index}
+use Rattle.axis.specs.Scaffolding.{pick_index}
+use Rattle.axis.proofs.picks.Picks.{is_step}
 use Rattle.slices.specs.Slices.{shape_without, slice_answer}
-use Rattle.slices.specs.Scaffolding.{refused_slice, Ready, Taken, JudgedOutput}
+use Rattle.slices.specs.Scaffolding.{AxisOf, Ready, Taken, JudgedOutput}
 use Rattle.slices.specs.LinearSlices.{linear_rest}
 use Rattle.slices.specs.declared.SliceAnswer.{SliceAnswer}
 
@@ -56,6 +63,10 @@ module _ (s : Shape) (nodes values : List Float) where
     stored = frame_values s nodes values f.frame;
     finites = values_finite values f.stored;
   }
+
+  -- the axis of a table that can be sliced there
+  pub axis_of_ready : {axis : ℕ} → Ready s nodes values axis → AxisOf s axis
+  axis_of_ready r = record { within = r.within; four = r.four }
 
   module _ (axis : ℕ) where
     -- an axis that is there
@@ -119,9 +130,16 @@ module _ (s : Shape) (nodes values : List Float) where
       pub linear_ready : Ready s nodes values 0
       linear_ready = let m : 1 < s.axes = first_many s.axes axis (orders.first-passed _ _ linear_rest_lem) in ready 0 linear_fronted (omega arith) m
 
+      pub linear_axis : AxisOf s axis
+      linear_axis = subst (λ (k : ℕ). AxisOf s k) (sym linear-first) (axis_of_ready linear_ready)
+
     pub uniform_linear : good (linear_uniform_front s nodes values axis) ≡ true → good (linear_front s nodes values axis) ≡ true
     unfolding linear_uniform_front
     uniform_linear h = orders.first-passed _ _ h
+
+-- the pick toward a direction takes Step's node
+pub toward_step : (pick direction : ℕ) (xs : List Float) (p : Float) → pick ≡ min direction 1 → direction < 2 → pick_index pick xs p ≡ step_index direction xs p
+toward_step pick direction xs p e l = let same : pick ≡ direction = omega arith in ap (λ (k : ℕ). pick_index k xs p) same ∙ is_step direction xs p l
 
 -- ---- what the one reading and the room are, where they were passed
 module _ (s : Shape) (nodes : List Float) (axis : ℕ) (p : Float) (room : ℕ) (h : good (point_fault s nodes axis p room) ≡ true) where
@@ -139,23 +157,30 @@ module _ (s : Shape) (nodes : List Float) (axis : ℕ) (p : Float) (room : ℕ) 
   pub point_range : good (range_fault axis (axis_of s nodes axis) p) ≡ true
   point_range = orders.first-passed _ _ past_reading
 
--- ---- an output, where what was judged is r
-module _ (r f : Fault) (e : r ≡ f) (xs out : List Float) where
-  pub kept : (r.number ≡ 0 → ⊥) → JudgedOutput f xs out r out
+-- ---- an output, where a check refused: handed on by `?`
+module _ (A : Type 0) (e : Refusal) (f : Fault) (told : said {A = A} (Err e) ≡ f) {B : Type 0} (r : Result B Refusal) (h : Handed r e) (xs out : List Float) where
+  pub kept : JudgedOutput f xs out (said r) out
   unfolding filled_into
-  kept h = record { judged = e; output = orders.given-refused r f e (xs ++ drop (length xs) out) out h }
-
-  pub written : r.number ≡ 0 → (n : ℕ) → n ≡ length xs → (after : List Float) → after ≡ xs ++ drop n out → JudgedOutput f xs out r after
-  unfolding filled_into
-  written h n l after q = record { judged = e; output = orders.given_kept r f e (xs ++ drop (length xs) out) out after h (q ∙ ap (λ (k : ℕ). xs ++ drop k out) l) }
+  kept = record { judged = checks.hands A e f told r h; output = checks.given-refused A e f told (xs ++ drop (length xs) out) out }
 
 -- .. before the rest of the checks, which judge and write
-module _ (r f : Fault) (e : r ≡ f) (rest : Fault) (xs out : List Float) where
-  pub or_kept : (r.number ≡ 0 → ⊥) → JudgedOutput (f or rest) xs out r out
-  or_kept h = kept r (f or rest) (orders.or_stops r f e rest h) xs out h
+pub or_kept : (A : Type 0) (e : Refusal) (f : Fault) (told : said {A = A} (Err e) ≡ f) (rest : Fault) {B : Type 0} (r : Result B Refusal) (h : Handed r e) (xs out : List Float) → JudgedOutput (f or rest) xs out (said r) out
+or_kept A e f told rest r h xs out = kept A e (f or rest) (told ∙ sym (orders.or_bad f rest (checks.fails A e f told))) r h xs out
 
-  pub or_filled : r.number ≡ 0 → {q : Fault} {after : List Float} → JudgedOutput rest xs out q after → JudgedOutput (f or rest) xs out q after
-  or_filled h {q = q} w = let same = orders.or_goes_on r f e q rest h w.judged in record { judged = same; output = w.output ∙ ap (λ (g : Fault). filled_into g xs out) (orders.or_goes_on r f e rest rest h refl) }
+-- ---- an output, where a check passed
+module _ {A : Type 0} (x : A) (f : Fault) (told : said (Ok x) ≡ f) (xs out : List Float) where
+  pub written : {B : Type 0} (y : B) (n : ℕ) → n ≡ length xs → (after : List Float) → after ≡ xs ++ drop n out → JudgedOutput f xs out (said (Ok y)) after
+  unfolding filled_into
+  written y n l after q = record {
+    judged = checks.passes_on x f told y;
+    output = checks.given_kept x f told after (xs ++ drop (length xs) out) out (q ∙ ap (λ (k : ℕ). xs ++ drop k out) l);
+  }
+
+  pub or_filled : (rest : Fault) {q : Fault} {after : List Float} → JudgedOutput rest xs out q after → JudgedOutput (f or rest) xs out q after
+  or_filled rest {q = q} w = record {
+    judged = checks.goes_on x f told q rest w.judged;
+    output = w.output ∙ ap (λ (g : Fault). filled_into g xs out) (checks.goes_on x f told rest rest refl);
+  }
 
 -- .. at the index that the rule takes, and on the axis that was asked for
 pub at_index : {f q : Fault} {out after : List Float} (axis i j : ℕ) (counts : List ℕ) (values : List Float) → i ≡ j → JudgedOutput f (slice_values axis i counts values) out q after → JudgedOutput f (slice_values axis j counts values) out q after
@@ -165,17 +190,24 @@ pub on-axis : {q : Fault} {xs out after : List Float} (rule : List Float → Flo
     → JudgedOutput (linear_rest rule s nodes values 0 p room) xs out q after → JudgedOutput (linear_rest rule s nodes values axis p room) xs out q after
 on-axis {q = q} {xs = xs} {out = out} {after = after} rule s nodes values axis p room e w = subst (λ (k : ℕ). JudgedOutput (linear_rest rule s nodes values k p room) xs out q after) (sym e) w
 
--- ---- the answer of a slice, of what was judged
-module _ (s : Shape) (axis : ℕ) (f : Fault) where
-  pub answer_refused : (f.number ≡ 0 → ⊥) → (a : SliceAnswer) → a ≡ refused_slice f → a ≡ slice_answer f s axis
-  unfolding slice_answer refused_slice
-  answer_refused h a e =
-      e ∙ ap₂ (λ (b : Answer) (z : Shape). record { answer = b; shape = z }) (then_stops f f refl (refused f) fine h refl) (orders.given-refused f f refl (shape_without s axis) no_shape h)
-
-  pub answer_made : f.number ≡ 0 → (a : Answer) (z : Shape) → a ≡ fine → z ≡ shape_without s axis → ◌≡◌ {A = SliceAnswer} (record { answer = a; shape = z }) (slice_answer f s axis)
+-- ---- the answer of a slice that was judged
+module _ (s : Shape) (axis : ℕ) where
+  pub answer_refused : (A : Type 0) (e : Refusal) (a : SliceAnswer) → a ≡ record { answer = refused (fault_of e); shape = no_shape } → a ≡ slice_answer (said {A = A} (Err e)) s axis
   unfolding slice_answer
-  answer_made h a z p q = ap₂ (λ (b : Answer) (x : Shape). record { answer = b; shape = x }) (then_goes_on f f refl a fine h p) (orders.given_kept f f refl (shape_without s axis) no_shape z h q)
+  answer_refused A e a q =
+      q
+      ∙ ap₂ (λ (b : Answer) (z : Shape). record { answer = b; shape = z })
+      (checks.then_stops A e (said (Err e)) refl (refused (fault_of e)) fine refl)
+      (checks.given-refused A e (said (Err e)) refl (shape_without s axis) no_shape)
 
-  -- .. and the output with it
-  pub sliced : {r : Fault} {xs out after : List Float} → JudgedOutput f xs out r after → (a : SliceAnswer) → a ≡ slice_answer r s axis → (a ≡ slice_answer f s axis) × (after ≡ filled_into f xs out)
-  sliced w a e = (e ∙ ap (λ (g : Fault). slice_answer g s axis) w.judged, w.output)
+  pub answer_made : {A : Type 0} (x : A) (a : Answer) (z : Shape) → a ≡ fine → z ≡ shape_without s axis → ◌≡◌ {A = SliceAnswer} (record { answer = a; shape = z }) (slice_answer (said (Ok x)) s axis)
+  unfolding slice_answer
+  answer_made x a z p q =
+      ap₂ (λ (b : Answer) (y : Shape). record { answer = b; shape = y })
+      (checks.then_goes_on x (said (Ok x)) refl a fine p)
+      (checks.given_kept x (said (Ok x)) refl z (shape_without s axis) no_shape q)
+
+-- .. where it was made, its checks were passed
+pub where_made : {A : Type 0} {P : Type 0} (r : Result A Refusal) (f : Fault) → said r ≡ f → (good f ≡ true → P) → OnOk r P
+where_made (Ok x) f e h = h (checks.passes x f e)
+where_made (Err e) f q h = tt

@@ -1,7 +1,6 @@
 -- "A slice removes one axis: axis 0 for Linear and LinearUniform": what their slices answer and write for every input.
 use Rattle.std.specs.Prelude.{List, ℕ, length, Float}
-use Rattle.answer.specs.Faults.{◌or◌, filled_into}
-use Rattle.answer.specs.declared.Fault.{Fault}
+use Rattle.answer.specs.Faults.{Fault, ◌or◌, filled_into}
 use Rattle.layout.specs.Shape.{counts_of, size}
 use Rattle.layout.specs.Layout.{tabulate, table, indices_at, without, axis_of}
 use Rattle.layout.specs.declared.Shape.{Shape}

@@ -3,21 +3,19 @@
 use Rattle.std.specs.Prelude.{◌≡◌, true, List, ℕ, ◌+◌, ◌*◌, ◌/◌, ◌%◌, ◌≤◌, ◌<◌, length, get_or, take, drop, Float}
 use Rattle.std.specs.Float.{nan}
 use Rattle.std.specs.Float.Ieee.Scale.{finite}
-use Rattle.answer.specs.Answer.{refused}
-use Rattle.answer.specs.Faults.{filled_into}
-use Rattle.answer.specs.declared.Fault.{Fault}
-use Rattle.layout.specs.Shape.{no_shape, counts_of, size}
+use Rattle.answer.specs.Faults.{Fault, filled_into}
+use Rattle.layout.specs.Shape.{counts_of, size}
 use Rattle.layout.specs.Layout.{without, slice_values, axis_of, tabulate}
 use Rattle.layout.specs.declared.Shape.{Shape}
 use Rattle.checks.specs.Scaffolding.{Grid}
 use Rattle.checks.specs.Numbers.{results_fault}
 use Rattle.axis.specs.Scaffolding.{pick_index}
 use Rattle.blend.specs.Scaffolding.{blends}
-use Rattle.slices.specs.declared.SliceAnswer.{SliceAnswer}
 
--- what a slice answers of a fault that is known to be one
-unfoldable pub refused_slice : Fault → SliceAnswer
-refused_slice f = record { answer = refused f; shape = no_shape }
+-- an axis that a shape has
+pub record AxisOf (s : Shape) (axis : ℕ) : Type 0 where
+  pub within : axis < s.axes
+  pub four : s.axes ≤ 4
 
 -- a table that can be sliced on an axis: what is known where the checks before a slice were passed (`nearest_ready` ..)
 pub record Ready (s : Shape) (nodes values : List Float) (axis : ℕ) : Type 0 where
@@ -56,15 +54,14 @@ run_place n inner i t = (t / inner * n + i) * inner + t % inner
 abbrev pub run_values : List Float → ℕ → ℕ → ℕ → ℕ → List Float
 run_values values n inner i count = tabulate count (λ t. get_or values (run_place n inner i t) nan)
 
--- runs that lie in the values, with room for them
-pub record Runs (values : List Float) (n inner i count room : ℕ) : Type 0 where
+-- values that are so many times n runs, with room for one run of each n
+pub record Runs (values : List Float) (n inner i room : ℕ) : Type 0 where
   pub some : 0 < inner
-  pub small : inner ≤ 4096
   pub in_axis : i < n
-  pub few : n ≤ 64
-  pub stored : length values ≤ 4096
-  pub enough : count ≤ room
-  pub reads : (t : ℕ) → t < count → run_place n inner i t < length values
+  pub times : ℕ
+  pub whole : length values ≡ times * (n * inner)
+  pub few : n * inner ≤ 4096
+  pub enough : times * inner ≤ room
 
 -- two neighbouring runs of `rest` values, blended
 abbrev pub blended_runs : Float → ℕ → ℕ → List Float → List Float

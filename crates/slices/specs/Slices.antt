@@ -1,8 +1,7 @@
 -- "A slice removes one axis": the slices of Nearest and Step on any axis, and what they answer and write for every input.
 use Rattle.std.specs.Prelude.{List, ℕ, ◌-◌, length, get_or, Float}
-use Rattle.answer.specs.Faults.{given, filled_into}
+use Rattle.answer.specs.Faults.{Fault, given, filled_into}
 use Rattle.answer.specs.Answer.{fine, ◌then◌}
-use Rattle.answer.specs.declared.Fault.{Fault}
 use Rattle.layout.specs.Shape.{counts_of, no_shape}
 use Rattle.layout.specs.Layout.{tabulate, without, slice_values, axis_of}
 use Rattle.layout.specs.declared.Shape.{Shape}

@@ -1,41 +1,39 @@
 // A slice of a judged table: the one reading and the room are judged, then the values are written.
 ghost use Rattle.std.specs.Prelude.{◌≡◌, ◌++◌, length, drop};
+ghost use Rattle.answer.specs.Rows.{said};
 ghost use Rattle.layout.specs.Shape.{counts_of, size};
 ghost use Rattle.layout.specs.Layout.{without};
-ghost use Rattle.axis.specs.Scaffolding.{location_by};
+ghost use Rattle.axis.specs.Scaffolding.{code_of, location_by};
 ghost use Rattle.orders.specs.Orders.{point_fault};
 ghost use Rattle.slices.specs.LinearSlices.{linear_values, linear_rest};
 ghost use Rattle.slices.specs.Scaffolding.{Ready, Taken, JudgedOutput, Results, pick_slice};
 
 use crate::{remaining, written};
-use answer::Fault;
+use answer::Refusal;
+use axis::picks::Pick;
 use axis::{locate, picks};
 use layout::Shape;
 use rust::AxisLocation;
 
-// The slice at a pick's index on one axis: 0 Lower, 1 Upper, anything else Nearest.
+// The slice at a pick's node on one axis.
 fn pick_slice(
     shape: Shape,
     nodes: &[f64],
     values: &[f64],
-    pick: u8,
+    pick: Pick,
     axis: usize,
     point: f64,
     out: &mut [f64],
 )
     requires ready { Ready shape nodes.now values.now axis }
     requires taken { Taken shape axis point (length out.old) }
-    ensures { out.new ≡ pick_slice pick shape nodes.now values.now axis point
+    ensures { out.new ≡ pick_slice (code_of pick) shape nodes.now values.now axis point
         ++ drop (size (without axis (counts_of shape))) out.old }
 {
-    let counts = shape.counts;
-    let n = counts[axis];
-    let start = remaining::axis_start(counts, axis);
-    let end = start + n;
-    let i = picks::pick_index(pick, &nodes[start..end], point);
-    let inner = remaining::stride(counts, shape.axes, axis);
-    let count = values.len() / n;
-    written::fill(values, n, inner, i, count, out);
+    let grid = remaining::axis_nodes(shape, nodes, axis);
+    let i = picks::pick_index(pick, grid, point);
+    let inner = remaining::stride(shape, axis);
+    written::fill(values, grid.len(), inner, i, out);
 }
 
 // Judges the one reading and the room, and writes.
@@ -43,22 +41,19 @@ pub(crate) fn pick_judged(
     shape: Shape,
     nodes: &[f64],
     values: &[f64],
-    pick: u8,
+    pick: Pick,
     axis: usize,
     point: f64,
     out: &mut [f64],
-) -> Fault
+) -> Result<(), Refusal>
     requires { Ready shape nodes.now values.now axis }
     ensures { JudgedOutput (point_fault shape nodes.now axis point (length out.old))
-        (pick_slice pick shape nodes.now values.now axis point)
-        out.old result out.new }
+        (pick_slice (code_of pick) shape nodes.now values.now axis point)
+        out.old (said result) out.new }
 {
-    let fault = remaining::point_fault(shape, nodes, values, axis, point, out.len());
-    if fault.number != 0 {
-        return fault;
-    }
+    remaining::point_fault(shape, nodes, values, axis, point, out.len())?;
     pick_slice(shape, nodes, values, pick, axis, point, out);
-    fault
+    Ok(())
 }
 
 // The values along the first axis, where the reading is judged: the run at an exact node, or two runs blended.
@@ -69,22 +64,24 @@ fn along_first(
     values: &[f64],
     point: f64,
     out: &mut [f64],
-) -> Fault
+) -> Result<(), Refusal>
     requires ready { Ready shape nodes.now values.now 0 }
     requires taken { Taken shape 0 point (length out.old) }
     ensures { Results (linear_values (location_by uniform) shape nodes.now values.now point)
-        out.old result out.new }
+        out.old (said result) out.new }
 {
-    let counts = shape.counts;
-    let n = counts[0];
-    let location = locate::location_by(uniform, &nodes[0..n], point);
+    let grid = remaining::axis_nodes(shape, nodes, 0);
+    let n = grid.len();
     let rest = values.len() / n;
-    let node = locate::lower_node(location);
-    let AxisLocation::Between { lower, frac } = location else {
-        written::fill(values, n, rest, node, rest, out);
-        return answer::no_fault();
-    };
-    written::blend_runs(values, rest, lower, frac, out)
+    match locate::location_by(uniform, grid, point) {
+        AxisLocation::Exact(node) => {
+            written::fill(values, n, rest, node, out);
+            Ok(())
+        }
+        AxisLocation::Between { lower, frac } => {
+            written::blend_runs(values, rest, lower, frac, out)
+        }
+    }
 }
 
 // Judges the one reading and the room, then the values, and writes.
@@ -95,15 +92,12 @@ pub(crate) fn linear_judged(
     values: &[f64],
     point: f64,
     out: &mut [f64],
-) -> Fault
+) -> Result<(), Refusal>
     requires { Ready shape nodes.now values.now 0 }
     ensures { JudgedOutput (linear_rest (location_by uniform) shape nodes.now values.now 0 point (length out.old))
         (linear_values (location_by uniform) shape nodes.now values.now point)
-        out.old result out.new }
+        out.old (said result) out.new }
 {
-    let fault = remaining::point_fault(shape, nodes, values, 0, point, out.len());
-    if fault.number != 0 {
-        return fault;
-    }
+    remaining::point_fault(shape, nodes, values, 0, point, out.len())?;
     along_first(uniform, shape, nodes, values, point, out)
 }

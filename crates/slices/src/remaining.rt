@@ -1,12 +1,14 @@
-// What is left of a table without one axis, where that axis lies, and the checks of its reading and of the room.
-ghost use Rattle.std.specs.Prelude.{◌≡◌, cond, ℕ, suc, ◌+◌, ◌<◌, ◌≤◌, ltb, take, drop, get_or};
+// What is left of a table without one axis, the nodes of that axis, and the checks of its reading and of the room.
+ghost use Rattle.std.specs.Prelude.{◌≡◌, cond, suc, ◌+◌, ◌<◌, ◌≤◌, ltb, length, drop, get_or};
+ghost use Rattle.answer.specs.Rows.{said};
 ghost use Rattle.layout.specs.Shape.{counts_of, size, total};
-ghost use Rattle.layout.specs.Layout.{without};
+ghost use Rattle.checks.specs.Scaffolding.{Few};
+ghost use Rattle.layout.specs.Layout.{axis_of, without};
 ghost use Rattle.slices.specs.Slices.{shape_without};
-ghost use Rattle.slices.specs.Scaffolding.{Ready};
+ghost use Rattle.slices.specs.Scaffolding.{AxisOf, Ready};
 ghost use Rattle.orders.specs.Orders.{point_fault};
 
-use answer::Fault;
+use answer::Refusal;
 use checks::{lent, numbers, ranges};
 use layout::Shape;
 
@@ -29,10 +31,9 @@ fn count_without(shape: Shape, axis: usize, a: usize) -> usize
     if b < shape.axes { counts[b] } else { 0 }
 }
 
-// The shape that is left.
+// The shape that is left. No copy of a run of counts: a board links no `memmove`.
 pub(crate) fn shape_without(shape: Shape, axis: usize) -> Shape
-    requires le_axes { 1 ≤ shape.axes }
-    requires axes_bound { shape.axes ≤ 4 }
+    requires { AxisOf shape axis }
     ensures { result ≡ shape_without shape axis }
 {
     let a = count_without(shape, axis, 0);
@@ -45,36 +46,23 @@ pub(crate) fn shape_without(shape: Shape, axis: usize) -> Shape
     }
 }
 
-// How many nodes the axes before one have.
-pub(crate) fn axis_start(counts: [usize; 4], axis: usize) -> usize
-    requires axis_bound { axis ≤ 4 }
-    requires by_index { (a : ℕ) → a < axis → get_or counts a 0 ≤ 64 }
-    ensures value { result ≡ total (take axis counts) }
-    ensures upper_bound { result ≤ 256 }
+// The nodes of an axis.
+pub(crate) fn axis_nodes(shape: Shape, nodes: &[f64], axis: usize) -> &[f64]
+    requires there { AxisOf shape axis }
+    requires flat { length nodes.now ≡ total (counts_of shape) }
+    ensures { result.now ≡ axis_of shape nodes.now axis }
 {
-    let mut sum: usize = 0;
-    let mut a = axis;
-    while a > 0 {
-        a -= 1;
-        sum = counts[a] + sum;
-    }
-    sum
+    let start: usize = shape.counts[..axis].iter().sum();
+    &nodes[start..start + shape.counts[axis]]
 }
 
 // How many values the axes after one have.
-pub(crate) fn stride(counts: [usize; 4], axes: usize, axis: usize) -> usize
-    requires axes_bound { axes ≤ 4 }
-    requires axis_lt_axes { axis < axes }
-    requires by_index { (a : ℕ) → a < axes → get_or counts a 0 ≤ 64 }
-    ensures { result ≡ size (drop (suc axis) (take axes counts)) }
+pub(crate) fn stride(shape: Shape, axis: usize) -> usize
+    requires within { axis < shape.axes }
+    requires few { Few shape }
+    ensures { result ≡ size (drop (suc axis) (counts_of shape)) }
 {
-    let mut product: usize = 1;
-    let mut a = axes;
-    while a > axis + 1 {
-        a -= 1;
-        product = counts[a] * product;
-    }
-    product
+    shape.counts[axis + 1..shape.axes].iter().product()
 }
 
 // 10, 11 of one reading, then 15.
@@ -85,21 +73,12 @@ pub(crate) fn point_fault(
     axis: usize,
     point: f64,
     room: usize,
-) -> Fault
+) -> Result<(), Refusal>
     requires { Ready shape nodes.now values.now axis }
-    ensures { result ≡ point_fault shape nodes.now axis point room }
+    ensures { said result ≡ point_fault shape nodes.now axis point room }
 {
-    let fault = numbers::reading_fault(axis, point);
-    if fault.number != 0 {
-        return fault;
-    }
-    let counts = shape.counts;
-    let n = counts[axis];
-    let start = axis_start(counts, axis);
-    let end = start + n;
-    let fault = ranges::range_fault(axis, &nodes[start..end], point);
-    if fault.number != 0 {
-        return fault;
-    }
-    lent::room_fault(1, values.len() / n, room)
+    numbers::reading_fault(axis, point)?;
+    let grid = axis_nodes(shape, nodes, axis);
+    ranges::range_fault(axis, grid, point)?;
+    lent::room_fault(1, values.len() / grid.len(), room)
 }

@@ -1,46 +1,52 @@
 // Writing the values of a slice: runs that lie apart, or two neighbouring runs blended.
-ghost use Rattle.std.specs.Prelude.{◌≡◌, cond, ◌++◌, ◌+◌, ◌<◌, ◌≤◌, eqb, length, drop};
+ghost use Rattle.std.specs.Prelude.{◌≡◌, ◌++◌, ◌/◌, length, drop};
+ghost use Rattle.answer.specs.Rows.{said};
 ghost use Rattle.slices.specs.Scaffolding.{Results, Runs, Neighbours, run_values, blended_runs};
 
-use answer::Fault;
+use answer::Refusal;
 use blend::runs;
 
-// The place in a run after place j: the first of the next run after the last.
-fn next_in_run(j: usize, inner: usize) -> usize
-    requires { j < inner }
-    ensures { result ≡ cond (eqb (j + 1) inner) 0 (j + 1) }
+// Writes the values at node i of the last axis, which has n nodes: of every n values, value i.
+fn fill_last(values: &[f64], n: usize, i: usize, out: &mut [f64])
+    requires { Runs values.now n 1 i (length out.old) }
+    ensures { out.new ≡ run_values values.now n 1 i (length values.now / n) ++ drop (length values.now / n) out.old }
 {
-    if j + 1 == inner { 0 } else { j + 1 }
-}
-
-// Where the value after place j of a run stands, runs lying `skip` values apart.
-fn next_from(from: usize, j: usize, inner: usize, skip: usize) -> usize
-    requires j_lt_inner { j < inner }
-    requires from_bound { from ≤ 1000000 }
-    requires skip_bound { skip ≤ 1000000 }
-    ensures { result ≡ cond (eqb (j + 1) inner) (from + 1 + skip) (from + 1) }
-{
-    if j + 1 == inner {
-        from + 1 + skip
-    } else {
-        from + 1
+    for (k, all) in values.chunks_exact(n).enumerate() {
+        out[k] = all[i];
     }
 }
 
-// Writes the values at node i of an axis with n nodes, in runs of `inner` that lie n runs apart.
-pub(crate) fn fill(values: &[f64], n: usize, inner: usize, i: usize, count: usize, out: &mut [f64])
-    requires { Runs values.now n inner i count (length out.old) }
-    ensures { out.new ≡ run_values values.now n inner i count ++ drop count out.old }
+// Copies a run value by value: a board links no `memmove`.
+fn copy_run(run: &[f64], to: &mut [f64])
+    requires { length run.now ≡ length to.old }
+    ensures { to.new ≡ run.now }
 {
-    let skip = (n - 1) * inner;
-    let mut from = i * inner;
-    let mut j: usize = 0;
-    let mut t: usize = 0;
-    while t < count {
-        out[t] = values[from];
-        from = next_from(from, j, inner, skip);
-        j = next_in_run(j, inner);
-        t += 1;
+    for (j, x) in run.iter().enumerate() {
+        to[j] = *x;
+    }
+}
+
+// The same of any axis, where the axes after it have `inner` values: of every n runs of so many values, run i.
+fn fill_runs(values: &[f64], n: usize, inner: usize, i: usize, out: &mut [f64])
+    requires { Runs values.now n inner i (length out.old) }
+    ensures { out.new ≡ run_values values.now n inner i (length values.now / n) ++ drop (length values.now / n) out.old }
+{
+    let from = i * inner;
+    for (k, all) in values.chunks_exact(n * inner).enumerate() {
+        let to = k * inner;
+        copy_run(&all[from..from + inner], &mut out[to..to + inner]);
+    }
+}
+
+// The same: a run of one value is not worth a call that copies it.
+pub(crate) fn fill(values: &[f64], n: usize, inner: usize, i: usize, out: &mut [f64])
+    requires { Runs values.now n inner i (length out.old) }
+    ensures { out.new ≡ run_values values.now n inner i (length values.now / n) ++ drop (length values.now / n) out.old }
+{
+    if inner == 1 {
+        fill_last(values, n, i, out);
+    } else {
+        fill_runs(values, n, inner, i, out);
     }
 }
 
@@ -51,19 +57,13 @@ pub(crate) fn blend_runs(
     lower: usize,
     frac: f64,
     out: &mut [f64],
-) -> Fault
+) -> Result<(), Refusal>
     requires { Neighbours values.now lower rest (length out.old) }
-    ensures { Results (blended_runs frac lower rest values.now) out.old result out.new }
+    ensures { Results (blended_runs frac lower rest values.now) out.old (said result) out.new }
 {
     let start = lower * rest;
-    let middle = start + rest;
-    let end = middle + rest;
-    let low = &values[start..middle];
-    let high = &values[middle..end];
-    let fault = runs::blend_fault(low, high, frac);
-    if fault.number != 0 {
-        return fault;
-    }
+    let (low, high) = values[start..start + 2 * rest].split_at(rest);
+    runs::blend_fault(low, high, frac)?;
     runs::blend_into(low, high, frac, out);
-    fault
+    Ok(())
 }

@@ -8,9 +8,8 @@ use borrow.Author.Tests.{lt-ltb, ltb-true, ltb-false, eq-eqb, eqb-true, eqb-fals
 use lib.Dec.{eqb, ltb}
 use lib.ListN.{length, get_or, take, length-set}
 use lib.Seq.{get_or-set_same, get_or-set_other}
-use Rattle.answer.specs.Faults.{refusal, no_fault, good, given}
+use Rattle.answer.specs.Faults.{Fault, refusal, no_fault, good, given}
 use Rattle.answer.specs.Answer.{refused, answered, fine, ◌then◌}
-use Rattle.answer.specs.declared.Fault.{Fault}
 use Rattle.answer.proofs.Tests.{either, and_false, by_lt}
 use Rattle.checks.specs.Numbers.{most_records}
 use Rattle.checks.proofs.lent.Rows.{limit_ahead, limit_reached}

@@ -1,11 +1,11 @@
 // The coverage tally: how many records of a file were read, how many accepted ones fell into each cell of each axis, and how many were
 // refused by each number. Here a record is what became of it; what becomes of it is worked out by `ninterp::records`.
-#![tactic(auto)]
+#![tactic(auto, using(answer::proofs::Checks::then_goes_on), unfolding(crate::specs::Tally::more, crate::specs::Tally::more_at, crate::specs::Tally::cell_more, crate::specs::Tally::number_more, crate::specs::Tally::counted_of, crate::specs::Counts::none_read))]
 
 ghost use Rattle.std.specs.Prelude.{◌≡◌, ◌<◌, take};
 ghost use Rattle.answer.specs.Answer.{fine, ◌then◌};
 ghost use Rattle.checks.specs.Numbers.{limit_fault};
-ghost use Rattle.tally.specs.Tally.{more, cell_more, cells_more, number_more, counted_of};
+ghost use Rattle.tally.specs.Tally.{cell_more, cells_more, number_more, counted_of};
 ghost use Rattle.tally.specs.Counts.{none_read};
 ghost use Rattle.tally.specs.Scaffolding.{tally_of};
 
@@ -38,32 +38,22 @@ pub struct TallyAnswer {
 
 // ---- where the counts stand
 
-fn more(n: u32) -> u32
-    ensures { result ≡ more n }
-{
-    if n < u32::MAX { n + 1 } else { n }
-}
-
 fn count_cell(cells: &mut [u32; 252], axis: usize, cell: usize)
     requires { axis < 4 }
     ensures { cells.new ≡ cell_more cells.old axis cell }
 {
     if cell < 63 {
         let at = axis * 63 + cell;
-        let n = cells[at];
-        cells[at] = more(n);
+        cells[at] = cells[at].saturating_add(1);
     }
 }
 
 fn count_cells(cells: &mut [u32; 252], axes: usize, found: [usize; 4])
     ensures { cells.new ≡ cells_more cells.old 0 (take axes found) }
 {
-    let n = layout::least(axes, 4);
-    let mut a: usize = 0;
-    while a < n {
-        let cell = found[a];
-        count_cell(cells, a, cell);
-        a += 1;
+    let found = &found[..axes.min(4)];
+    for (a, cell) in found.iter().enumerate() {
+        count_cell(cells, a, *cell);
     }
 }
 
@@ -72,8 +62,7 @@ fn count_number(numbers: &mut [u32; 21], number: u32)
 {
     if number < 21 {
         let at = number as usize;
-        let n = numbers[at];
-        numbers[at] = more(n);
+        numbers[at] = numbers[at].saturating_add(1);
     }
 }
 
@@ -82,13 +71,11 @@ pub fn count_here(cells: &mut [u32; 252], numbers: &mut [u32; 21], records: u32,
     ensures { tally_of result cells.new numbers.new
         ≡ (counted_of (tally_of records cells.old numbers.old) o).tally }
 {
-    let fault = lent::limit_fault(records);
-    if fault.number != 0 {
+    if lent::limit_fault(records).is_err() {
         return records;
     }
     if o.number == 0 {
-        let found = o.cells;
-        count_cells(cells, o.axes, found);
+        count_cells(cells, o.axes, o.cells);
         return records + 1;
     }
     count_number(numbers, o.number);
@@ -112,11 +99,10 @@ pub fn none_read() -> Tally
 pub fn limit_answer(read: u32) -> Answer
     ensures { result ≡ (limit_fault read then fine) }
 {
-    let fault = lent::limit_fault(read);
-    if fault.number != 0 {
-        return answer::refuse(fault);
+    match lent::limit_fault(read) {
+        Ok(()) => answer::pass(),
+        Err(refusal) => Answer::from(refusal),
     }
-    answer::pass()
 }
 
 // Counts a record, and gives the tally after it.

@@ -1,5 +1,5 @@
 -- "Bench cases": what each call answers beside what the paper says, as one list, and one claim over all of it.
-use Rattle.std.specs.Prelude.{◌≡◌, refl, true, false, cond, List, [], ◌∷◌, map, ℕ, ◌+◌, ◌-◌, ◌^◌, eqb, pos, negsuc, Float}
+use Rattle.std.specs.Prelude.{◌≡◌, refl, true, false, cond, List, [], ◌∷◌, map, ℕ, ◌+◌, ◌-◌, ◌^◌, eqb, pos, negsuc, Float, None}
 use Rattle.std.specs.Float.{fin, binary64}
 use Rattle.std.specs.Float.Ieee.{of_int, to_unsigned, lt, le, eq, add, sub, mul, div}
 use Rattle.answer.specs.Faults.{refusal, no_fault, good, when, ◌or◌, first_fault, given, filled_into}
@@ -11,7 +11,6 @@ use Rattle.checks.specs.Numbers.{rise_fault, node_fault, nodes_fault, axes_count
 use Rattle.checks.specs.Shapes.{axis_fault, shape_fault, frame_fault}
 use Rattle.axis.specs.Uniform.{uniform_cell, uniform_index}
 use Rattle.utils.specs.Calls.{index_answer, locate_fault, spacing_fault, tolerance_of, uniform_read_fault, locate_lower_index_uniform, validate_uniform_grid_epsilon, axis_answer, axis_reading_fault, directed_fault, locate_lower_index, locate_axis, locate_step_index}
-use Rattle.utils.specs.declared.Tolerance.TheVariants.{Default}
 use Rattle.axis.specs.Steps.{lower_step, upper_step, step_index}
 use Rattle.axis.specs.Cells.{how_many, lower_index}
 use Rattle.axis.specs.Locations.{fraction, axis_location}
@@ -123,8 +122,8 @@ cases =
     ∷ told (linear_slice square edges corners 0 (parts 1 1) 2).answer passed is passed
     ∷ written (linear_sliced square edges corners 0 (parts 1 1) (whole 0 ∷ whole 0 ∷ [])) is written (whole 1 ∷ whole 2 ∷ [])
     -- P10: 2 + 2^-42, 2 + 2^-41
-    ∷ told (validate_uniform_grid_epsilon (whole 0 ∷ whole 1 ∷ parts (2 ^ 43 + 1) 42 ∷ []) Default) passed is passed
-    ∷ told (validate_uniform_grid_epsilon (whole 0 ∷ whole 1 ∷ parts (2 ^ 42 + 1) 41 ∷ []) Default) passed is refuses 8 0 1
+    ∷ told (validate_uniform_grid_epsilon (whole 0 ∷ whole 1 ∷ parts (2 ^ 43 + 1) 42 ∷ []) None) passed is passed
+    ∷ told (validate_uniform_grid_epsilon (whole 0 ∷ whole 1 ∷ parts (2 ^ 42 + 1) 41 ∷ []) None) passed is refuses 8 0 1
     -- P11
     ∷ told_index (locate_lower_index (whole 0 ∷ whole 0 ∷ []) (whole 0)) is refuses 5 0 1
     -- (d): between two corners at 3, at the number nearest to 0.2, Linear tells more than 3

@@ -3,5 +3,5 @@
 #![tactic(auto)]
 
 fn main() {
-    test_runs::take_all(true);
+    test_runs::take_all(program::coverage::run);
 }

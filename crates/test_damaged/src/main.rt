@@ -2,15 +2,17 @@
 // The list and the lines are those of vectors/images.py.
 #![tactic(auto)]
 
+mod heads;
 mod line;
-mod list;
 mod outputs;
 
 ghost use Rattle.std.specs.Prelude.{◌≤◌, length};
 
+use heads::Head;
 use image::LoadAnswer;
 use layout::Shape;
-use list::{Head, Next};
+use test_runs::list;
+use test_runs::list::Stop;
 use writer::WriteAnswer;
 
 // Loads an image into outputs that are marked first, and tells how that went.
@@ -43,8 +45,8 @@ fn write_back(
     if loaded.answer.number != 0 {
         return;
     }
-    let n = layout::least(head.lent_nodes, nodes.len());
-    let m = layout::least(head.lent_values, values.len());
+    let n = head.lent_nodes.min(nodes.len());
+    let m = head.lent_values.min(values.len());
     let made = write_again(loaded.shape, &nodes[..n], &values[..m], out);
     if made.answer.number != 0 {
         return;
@@ -54,28 +56,32 @@ fn write_back(
     load_entry(&out[..length], nodes, values);
 }
 
-// Reads an image and runs it, and tells whether to go on.
-fn run(head: Head, img: &mut [u8], nodes: &mut [f64], values: &mut [f64], out: &mut [u8]) -> bool {
-    if !list::read_image(img) {
-        return line::bad();
-    }
+// Reads an image and runs it.
+fn run(
+    head: Head,
+    img: &mut [u8],
+    nodes: &mut [f64],
+    values: &mut [f64],
+    out: &mut [u8],
+) -> Result<(), Stop> {
+    list::read_rest(img)?;
     let loaded = load_entry(img, nodes, values);
     write_back(head, loaded, nodes, values, out);
-    line::end()
+    list::end(b"\n")
 }
 
-// Runs an image in the fronts of the spaces.
-fn run_fronts(
-    head: Head,
+// Takes the next image of the list, in the fronts of the spaces.
+fn take(
     space: &mut [u8],
     nodes: &mut [f64],
     values: &mut [f64],
     written: &mut [u8],
-) -> bool {
-    let length = layout::least(head.length, space.len());
-    let n = layout::least(head.nodes, nodes.len());
-    let m = layout::least(head.values, values.len());
-    let room = layout::least(head.room, written.len());
+) -> Result<(), Stop> {
+    let head = heads::read_head()?;
+    let length = head.length.min(space.len());
+    let n = head.nodes.min(nodes.len());
+    let m = head.values.min(values.len());
+    let room = head.room.min(written.len());
     run(
         head,
         &mut space[..length],
@@ -85,29 +91,15 @@ fn run_fronts(
     )
 }
 
-// Takes the next image of the list, and tells whether to go on.
-fn take(space: &mut [u8], nodes: &mut [f64], values: &mut [f64], written: &mut [u8]) -> bool {
-    match list::read_head() {
-        Next::Image(head) => run_fronts(head, space, nodes, values, written),
-        Next::Cut => line::bad(),
-        Next::End => false,
-    }
-}
-
 fn main() {
-    let mut image_room = [0u8; list::MOST_BYTES];
-    let mut node_room = [0.0f64; outputs::MOST_NODES];
-    let mut value_room = [0.0f64; outputs::MOST_VALUES];
-    let mut written_room = [0u8; list::MOST_BYTES];
-    let space: &mut [u8] = &mut image_room;
-    let nodes: &mut [f64] = &mut node_room;
-    let values: &mut [f64] = &mut value_room;
-    let written: &mut [u8] = &mut written_room;
-    let mut go = true;
+    let mut space = [0u8; heads::MOST_BYTES];
+    let mut nodes = [0.0f64; outputs::MOST_NODES];
+    let mut values = [0.0f64; outputs::MOST_VALUES];
+    let mut written = [0u8; heads::MOST_BYTES];
     // A proved loop has to end: more turns than any list has images.
-    let mut turns = u64::MAX;
-    while turns > 0 && go {
-        go = take(space, nodes, values, written);
-        turns -= 1;
+    for _ in 0..u64::MAX {
+        if let Err(stop) = take(&mut space, &mut nodes, &mut values, &mut written) {
+            return list::say_stop(stop);
+        }
     }
 }

@@ -17,19 +17,15 @@ const PRIME: u64 = 4_294_967_311;
 
 // Marks an output of numbers, from its first mark on.
 pub(crate) fn mark(output: &mut [f64], first: u64) {
-    let mut i: usize = 0;
-    while i < output.len() {
-        output[i] = binary64::float_of_bits(first | i as u64);
-        i += 1;
+    for (i, x) in output.iter_mut().enumerate() {
+        *x = binary64::float_of_bits(first | i as u64);
     }
 }
 
 // Marks an output of bytes: byte p is p mod 251.
 pub(crate) fn mark_bytes(output: &mut [u8]) {
-    let mut i: usize = 0;
-    while i < output.len() {
-        output[i] = (i % 251) as u8;
-        i += 1;
+    for (p, byte) in output.iter_mut().enumerate() {
+        *byte = (p % 251) as u8;
     }
 }
 
@@ -53,10 +49,8 @@ fn with_word(sum: u64, word: u64) -> u64
 // The sum over the bits of an output of numbers.
 pub(crate) fn sum(output: &[f64]) -> u64 {
     let mut sum: u64 = 0;
-    let mut i: usize = 0;
-    while i < output.len() {
-        sum = with_word(sum, binary64::bits_of_float(output[i]));
-        i += 1;
+    for x in output {
+        sum = with_word(sum, binary64::bits_of_float(*x));
     }
     sum
 }
@@ -64,10 +58,8 @@ pub(crate) fn sum(output: &[f64]) -> u64 {
 // The sum over an output of bytes.
 pub(crate) fn sum_bytes(output: &[u8]) -> u64 {
     let mut sum: u64 = 0;
-    let mut i: usize = 0;
-    while i < output.len() {
-        sum = with(sum, little_endian::word(output, i, 1));
-        i += 1;
+    for byte in output {
+        sum = with(sum, u64::from(*byte));
     }
     sum
 }

@@ -3,6 +3,6 @@
 use Rattle.std.specs.Prelude.{List, ◌+◌, ◌≤◌, length, Float}
 use Rattle.test_replay.specs.declared.tables.Table.{Table}
 
--- a table's nodes and values are there: after the 128 places of the axis there are as many of them as it has
+-- a table's nodes and values are there: as many of them as it has
 abbrev pub HoldsTable : Table → List Float → Type 0
-HoldsTable t floats = 128 + (t.nodes + t.values) ≤ length floats
+HoldsTable t floats = t.nodes + t.values ≤ length floats

@@ -1,10 +1,11 @@
 // The slices of the table of the list.
 ghost use Rattle.std.specs.Prelude.{◌≤◌, length};
 
-use crate::list::Header;
-use crate::{line, list, tables};
+use crate::records::{Header, Op};
+use crate::{line, records, tables};
 use layout::Shape;
 use slices::SliceAnswer;
+use test_runs::list::Stop;
 
 // The bits of what stands at a place of the output before a slice, 2^52 and the place.
 fn mark(place: usize) -> u64 {
@@ -12,10 +13,8 @@ fn mark(place: usize) -> u64 {
 }
 
 fn mark_all(sliced: &mut [f64]) {
-    let mut i: usize = 0;
-    while i < sliced.len() {
-        sliced[i] = binary64::float_of_bits(mark(i));
-        i += 1;
+    for (place, x) in sliced.iter_mut().enumerate() {
+        *x = binary64::float_of_bits(mark(place));
     }
 }
 
@@ -23,18 +22,15 @@ fn mark_all(sliced: &mut [f64]) {
 fn changed(sliced: &[f64]) -> usize
     ensures { result ≤ length sliced.now }
 {
-    let mut count = sliced.len();
-    while count > 0 {
-        let last = count - 1;
-        if binary64::bits_of_float(sliced[last]) != mark(last) {
-            return count;
+    for (place, x) in sliced.iter().enumerate().rev() {
+        if binary64::bits_of_float(*x) != mark(place) {
+            return place + 1;
         }
-        count = last;
     }
     0
 }
 
-// By the rule that a header names, 13 to 16.
+// By the rule that a header names.
 fn make(
     call: Header,
     shape: Shape,
@@ -43,24 +39,13 @@ fn make(
     directions: &[u8],
     sliced: &mut [f64],
 ) -> SliceAnswer {
-    let axis = list::upper_half(call.third);
+    let axis = records::upper_half(call.third);
     let at = call.reading;
-    let op = call.op;
-    match op {
-        13 => slices::nearest(shape, nodes, values, axis, at, sliced),
-        14 => slices::step(shape, nodes, values, directions, axis, at, sliced),
-        15 => slices::linear(shape, nodes, values, axis, at, sliced),
+    match call.op {
+        Op::SliceNearest => slices::nearest(shape, nodes, values, axis, at, sliced),
+        Op::SliceStep => slices::step(shape, nodes, values, directions, axis, at, sliced),
+        Op::SliceLinear => slices::linear(shape, nodes, values, axis, at, sliced),
         _ => slices::linear_uniform(shape, nodes, values, axis, at, sliced),
-    }
-}
-
-fn say_values(values: &[f64], count: usize)
-    requires { count ≤ length values.now }
-{
-    let mut i: usize = 0;
-    while i < count {
-        line::say_bits(values[i]);
-        i += 1;
     }
 }
 
@@ -73,26 +58,28 @@ fn say_made(
     values: &[f64],
     directions: &[u8],
     sliced: &mut [f64],
-) -> bool {
+) -> Result<(), Stop> {
     mark_all(sliced);
-    line::say_slice(make(call, shape, nodes, values, directions, sliced));
+    line::say_slice(make(call, shape, nodes, values, directions, sliced))?;
     let count = changed(sliced);
-    say_values(sliced, count);
+    for value in &sliced[..count] {
+        line::say_bits(*value)?;
+    }
     line::say_kept(sliced.len() - count)
 }
 
-// Makes the slice that a header asks for, in the room that it gives, says its lines, and tells whether to go on.
+// Makes the slice that a header asks for, in the room that it gives, and says its lines.
 pub(crate) fn say(
     call: Header,
     shape: Shape,
     nodes: &[f64],
     values: &[f64],
     directions: &[u8],
-) -> bool {
+) -> Result<(), Stop> {
     let mut space = [0.0f64; tables::MOST_VALUES];
-    let room = list::lower_half(call.third);
+    let room = records::lower_half(call.third);
     if room > tables::MOST_VALUES {
-        return line::bad();
+        return Err(Stop::BadList);
     }
     say_made(call, shape, nodes, values, directions, &mut space[..room])
 }

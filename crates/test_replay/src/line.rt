@@ -1,60 +1,51 @@
-// The lines, written to standard output. What says a line tells whether to go on: whether the line's end could be written.
-ghost use Rattle.lines.specs.Line.{longest};
-ghost use Rattle.std.specs.Prelude.{◌≤◌, length};
-
+// The lines, written to standard output. What says a line fails where the line's end could not be written.
 use answer::Answer;
 use layout::Shape;
-use rust::{AxisLocation, MaybeIndex};
+use rust::AxisLocation;
 use slices::SliceAnswer;
+use test_runs::list;
+use test_runs::list::Stop;
 use utils::{AxisAnswer, ExactAnswer, IndexAnswer};
-
-// standard output
-const STDOUT_FILENO: i32 = 1;
-
-fn put(text: &[u8]) {
-    io::write_all(STDOUT_FILENO, text);
-}
 
 // Writes a blank and a number.
 fn put_number(number: usize) {
-    put(b" ");
-    io::print_decimal(STDOUT_FILENO, number as u64);
+    list::put_number(b" ", number as u64);
 }
 
 // Writes a blank and the bits of a float.
 fn put_bits(x: f64) {
-    put(b" ");
-    io::print_hex(STDOUT_FILENO, binary64::bits_of_float(x), 16);
+    list::put(b" ");
+    list::put_bits(x);
 }
 
 // Writes whether a call is accepted, and tells it.
 fn put_check(answer: Answer) -> bool {
     if answer.number == 0 {
-        put(b"ok");
+        list::put(b"ok");
         return true;
     }
-    put(b"no");
+    list::put(b"no");
     put_number(answer.number as usize);
     put_number(answer.axis);
     put_number(answer.place);
     false
 }
 
-fn put_index(index: MaybeIndex) {
+fn put_index(index: Option<usize>) {
     match index {
-        MaybeIndex::Some(index) => put_number(index),
-        MaybeIndex::None => put(b" none"),
+        Some(index) => put_number(index),
+        None => list::put(b" none"),
     }
 }
 
 fn put_location(location: AxisLocation) {
     match location {
         AxisLocation::Exact(index) => {
-            put(b" exact");
+            list::put(b" exact");
             put_number(index);
         }
         AxisLocation::Between { lower, frac } => {
-            put(b" between");
+            list::put(b" between");
             put_number(lower);
             put_bits(frac);
         }
@@ -62,80 +53,60 @@ fn put_location(location: AxisLocation) {
 }
 
 fn put_shape(shape: Shape) {
-    let counts = shape.counts;
-    put(b" shape");
+    list::put(b" shape");
     put_number(shape.axes);
-    put_number(counts[0]);
-    put_number(counts[1]);
-    put_number(counts[2]);
-    put_number(counts[3]);
+    for count in &shape.counts {
+        put_number(*count);
+    }
 }
 
-fn end() -> bool {
-    io::write_all(STDOUT_FILENO, b"\n")
-}
-
-pub(crate) fn say_check(answer: Answer) -> bool {
+pub(crate) fn say_check(answer: Answer) -> Result<(), Stop> {
     put_check(answer);
-    end()
+    list::end(b"\n")
 }
 
-// Writes the line of an answer, all at once.
-fn write_answer(answer: Answer, line: &mut [u8]) -> bool
-    requires { longest ≤ length line.old }
-{
-    let end = lines::put_line(answer, line, 0);
-    io::write_all(STDOUT_FILENO, &line[..end])
-}
-
-pub(crate) fn say_value(answer: Answer) -> bool {
+// Says the line of an answer, all at once.
+pub(crate) fn say_value(answer: Answer) -> Result<(), Stop> {
     let mut line = [0u8; lines::LONGEST];
-    write_answer(answer, &mut line)
+    let n = lines::put_line(answer, &mut line, 0);
+    list::end(&line[..n])
 }
 
-pub(crate) fn say_index(found: IndexAnswer) -> bool {
+pub(crate) fn say_index(found: IndexAnswer) -> Result<(), Stop> {
     if put_check(found.answer) {
         put_number(found.index);
     }
-    end()
+    list::end(b"\n")
 }
 
-pub(crate) fn say_exact(found: ExactAnswer) -> bool {
-    let index = found.index;
+pub(crate) fn say_exact(found: ExactAnswer) -> Result<(), Stop> {
     if put_check(found.answer) {
-        put_index(index);
+        put_index(found.index);
     }
-    end()
+    list::end(b"\n")
 }
 
-pub(crate) fn say_location(found: AxisAnswer) -> bool {
-    let location = found.location;
+pub(crate) fn say_location(found: AxisAnswer) -> Result<(), Stop> {
     if put_check(found.answer) {
-        put_location(location);
+        put_location(found.location);
     }
-    end()
+    list::end(b"\n")
 }
 
 // Says the first line of a slice.
-pub(crate) fn say_slice(made: SliceAnswer) -> bool {
+pub(crate) fn say_slice(made: SliceAnswer) -> Result<(), Stop> {
     put_check(made.answer);
     put_shape(made.shape);
-    end()
+    list::end(b"\n")
 }
 
-pub(crate) fn say_bits(x: f64) -> bool {
-    io::print_hex(STDOUT_FILENO, binary64::bits_of_float(x), 16);
-    end()
+pub(crate) fn say_bits(x: f64) -> Result<(), Stop> {
+    list::put_bits(x);
+    list::end(b"\n")
 }
 
-pub(crate) fn say_kept(count: usize) -> bool {
-    put(b"kept");
+pub(crate) fn say_kept(count: usize) -> Result<(), Stop> {
+    list::put(b"kept");
     put_number(count);
-    end()
-}
-
-// What stands at the end where the list is not one; it is not read on.
-pub(crate) fn bad() -> bool {
-    put(b"bad list\n");
-    false
+    list::end(b"\n")
 }

@@ -5,147 +5,106 @@
 mod calls;
 mod cut;
 mod line;
-mod list;
+mod records;
 mod tables;
 
-ghost use Rattle.std.specs.Prelude.{◌≡◌, ◌≤◌, length};
+ghost use Rattle.std.specs.Prelude.{◌≡◌, ◌≤◌, length, IfOk};
 ghost use Rattle.test_replay.specs.Scaffolding.{HoldsTable};
 
 use layout::Shape;
-use list::Header;
+use records::{Header, Op};
 use tables::Table;
+use test_runs::list;
+use test_runs::list::Stop;
 
-// What the list has lent: how many nodes the axis has, the table, and whether the list had all of it.
+// What the list has lent: how many nodes the axis has, and the table.
 #[derive(Clone, Copy)]
 struct Lent {
     count: usize,
     table: Table,
-    whole: bool,
 }
 
-fn lend_axis(call: Header, floats: &mut [f64], table: Table) -> Lent
-    requires { HoldsTable table floats.old }
-    ensures count_bound { result.count ≤ 128 }
-    ensures holds_table { HoldsTable result.table floats.new }
+// Reads an axis's nodes, and tells how many there are.
+fn lend_axis(call: Header, axis: &mut [f64]) -> Result<usize, Stop>
+    requires { length axis.old ≡ 128 }
+    ensures { IfOk result (λ count. count ≤ 128) }
 {
-    let count = call.a as usize;
-    if count > calls::MOST_NODES {
-        return Lent {
-            count: 0,
-            table,
-            whole: false,
-        };
+    let count = usize::from(call.a);
+    if count > axis.len() {
+        return Err(Stop::BadList);
     }
-    let whole = list::read_floats(count, floats);
-    Lent {
-        count,
-        table,
-        whole,
-    }
+    records::read_floats(&mut axis[..count])?;
+    Ok(count)
 }
 
-fn lend_table(call: Header, count: usize, floats: &mut [f64]) -> Lent
-    requires { 128 ≤ length floats.old }
-    ensures count_value { result.count ≡ count }
-    ensures holds_table { HoldsTable result.table floats.new }
+// Reads a table's nodes and values.
+fn lend_table(call: Header, rest: &mut [f64]) -> Result<Table, Stop>
+    ensures { IfOk result (λ table. HoldsTable table rest.new) }
 {
     let table = tables::of_header(call);
     let size = table.nodes + table.values;
-    if size > floats.len() - calls::MOST_NODES {
-        return Lent {
-            count,
-            table: tables::none(),
-            whole: false,
-        };
+    if size > rest.len() {
+        return Err(Stop::BadList);
     }
-    let whole = list::read_floats(size, &mut floats[calls::MOST_NODES..]);
-    Lent {
-        count,
-        table,
-        whole,
-    }
-}
-
-// Reads what a record lends, where it lends.
-fn lend(call: Header, floats: &mut [f64], lent: Lent) -> Lent
-    requires count_bound { lent.count ≤ 128 }
-    requires holds_table { HoldsTable lent.table floats.old }
-    ensures count_bound_2 { result.count ≤ 128 }
-    ensures holds_table_2 { HoldsTable result.table floats.new }
-{
-    let op = call.op;
-    match op {
-        0 => lend_axis(call, floats, lent.table),
-        8 => lend_table(call, lent.count, floats),
-        _ => lent,
-    }
-}
-
-// Says what a call of an axis primitive answers.
-fn say_by_axis(call: Header, floats: &[f64], count: usize) -> bool
-    requires { count ≤ length floats.now }
-{
-    calls::say(&floats[..count], call)
+    records::read_floats(&mut rest[..size])?;
+    Ok(table)
 }
 
 // Says what a lookup in a table answers, or a slice of it. Step's directions stand in the header; the other rules have none.
-fn say_by_rule(call: Header, shape: Shape, nodes: &[f64], values: &[f64]) -> bool {
-    let bytes = list::bytes_of(call.second);
-    let count = layout::least(call.b as usize, 8);
+fn say_by_rule(call: Header, table: Table, rest: &[f64]) -> Result<(), Stop>
+    requires { HoldsTable table rest.now }
+{
+    let bytes = call.second.to_le_bytes();
+    let count = usize::from(call.b).min(8);
     let directions = &bytes[..count];
-    if call.op < 13 {
-        tables::say(call, shape, nodes, values, directions)
-    } else {
-        cut::say(call, shape, nodes, values, directions)
+    let (nodes, after) = rest.split_at(table.nodes);
+    let values = &after[..table.values];
+    match call.op {
+        Op::Nearest | Op::Step | Op::Linear | Op::LinearUniform => {
+            tables::say(call, table.shape, nodes, values, directions)
+        }
+        _ => cut::say(call, table.shape, nodes, values, directions),
     }
 }
 
-// Says what a call answers by the nodes and the values of the table.
-fn say_by_table(call: Header, table: Table, floats: &[f64]) -> bool
-    requires { HoldsTable table floats.now }
+// Takes the next record of the list: reads what it lends, or says what it calls. An axis lies in its own space, the nodes and the values of
+// a table one after the other in theirs.
+fn take(axis: &mut [f64], rest: &mut [f64], lent: &mut Lent) -> Result<(), Stop>
+    requires axis_len { length axis.old ≡ 128 }
+    requires holds { (lent.old.count ≤ 128) × HoldsTable lent.old.table rest.old }
+    ensures { (lent.new.count ≤ 128) × HoldsTable lent.new.table rest.new }
 {
-    let from = calls::MOST_NODES + table.nodes;
-    let to = from + table.values;
-    say_by_rule(
-        call,
-        table.shape,
-        &floats[calls::MOST_NODES..from],
-        &floats[from..to],
-    )
-}
-
-// Says what a record has to say, and tells whether to go on.
-fn say(call: Header, lent: Lent, floats: &[f64]) -> bool
-    requires count_bound { lent.count ≤ 128 }
-    requires holds_table { HoldsTable lent.table floats.now }
-{
-    let op = call.op;
-    match op {
-        // A record that lends has no line, unless the list ends within it.
-        0 | 8 => lent.whole || line::bad(),
-        9..=16 => say_by_table(call, lent.table, floats),
-        256 => false,
-        _ => say_by_axis(call, floats, lent.count),
+    let call = records::read_header()?;
+    match call.op {
+        Op::LendAxis => lent.count = lend_axis(call, axis)?,
+        Op::LendTable => {
+            lent.table = tables::none();
+            lent.table = lend_table(call, rest)?;
+        }
+        Op::LowerIndex
+        | Op::ExactIndex
+        | Op::Location
+        | Op::StepIndex
+        | Op::UniformIndex
+        | Op::Grid
+        | Op::GridByDefault => calls::say(&axis[..lent.count], call)?,
+        _ => say_by_rule(call, lent.table, rest)?,
     }
+    Ok(())
 }
 
-// Answers the list, with room for what it lends: an axis lies in the first MOST_NODES places, the nodes and the values of a table after
-// them.
+// Answers the list.
 fn main() {
-    let mut room = [0.0f64; calls::MOST_NODES + tables::MOST_NODES + tables::MOST_VALUES];
-    let floats: &mut [f64] = &mut room;
+    let mut axis = [0.0f64; calls::MOST_NODES];
+    let mut rest = [0.0f64; tables::MOST_NODES + tables::MOST_VALUES];
     let mut lent = Lent {
         count: 0,
         table: tables::none(),
-        whole: true,
     };
-    let mut go = true;
     // A proved loop has to end: more turns than any list has records.
-    let mut turns = u64::MAX;
-    while turns > 0 && go {
-        let call = list::read_header();
-        lent = lend(call, floats, lent);
-        go = say(call, lent, floats);
-        turns -= 1;
+    for _ in 0..u64::MAX {
+        if let Err(stop) = take(&mut axis, &mut rest, &mut lent) {
+            return list::say_stop(stop);
+        }
     }
 }

@@ -1,11 +1,12 @@
 // The table of the list, and the lookups in it.
 ghost use Rattle.std.specs.Prelude.{◌≡◌, ◌<◌};
 
-use crate::list::Header;
-use crate::{line, list};
+use crate::records::{Header, Op};
+use crate::{line, records};
 use answer::Answer;
 use layout::Shape;
 use ninterp::interpolator::n::{linear, linear_uniform, nearest, step};
+use test_runs::list::Stop;
 
 pub(crate) const MOST_NODES: usize = 512;
 
@@ -38,16 +39,16 @@ pub(crate) fn of_header(call: Header) -> Table
 {
     let shape = Shape {
         axes: call.a as usize,
-        counts: list::quarters_of(call.second),
+        counts: records::quarters_of(call.second),
     };
     Table {
         shape,
-        nodes: list::lower_half(call.third),
-        values: list::upper_half(call.third),
+        nodes: records::lower_half(call.third),
+        values: records::upper_half(call.third),
     }
 }
 
-// By the rule that a header names, 9 to 12.
+// By the rule that a header names.
 fn look_up(
     call: Header,
     shape: Shape,
@@ -56,30 +57,28 @@ fn look_up(
     directions: &[u8],
     point: &[f64],
 ) -> Answer {
-    let op = call.op;
-    match op {
-        9 => nearest::interpolate(shape, nodes, values, point),
-        10 => step::interpolate(shape, nodes, values, point, directions),
-        11 => linear::interpolate(shape, nodes, values, point),
+    match call.op {
+        Op::Nearest => nearest::interpolate(shape, nodes, values, point),
+        Op::Step => step::interpolate(shape, nodes, values, point, directions),
+        Op::Linear => linear::interpolate(shape, nodes, values, point),
         _ => linear_uniform::interpolate(shape, nodes, values, point),
     }
 }
 
-// Reads the readings that follow a header, says what the lookup answers, and tells whether to go on.
+// Reads the readings that follow a header, and says what the lookup answers.
 pub(crate) fn say(
     call: Header,
     shape: Shape,
     nodes: &[f64],
     values: &[f64],
     directions: &[u8],
-) -> bool {
+) -> Result<(), Stop> {
     let mut readings = [0.0f64; MOST_READINGS];
-    let count = call.a as usize;
+    let count = usize::from(call.a);
     if count > MOST_READINGS {
-        return line::bad();
+        return Err(Stop::BadList);
     }
-    if !list::read_floats(count, &mut readings) {
-        return line::bad();
-    }
-    line::say_value(look_up(call, shape, nodes, values, directions, &readings[..count]))
+    let point = &mut readings[..count];
+    records::read_floats(point)?;
+    line::say_value(look_up(call, shape, nodes, values, directions, point))
 }

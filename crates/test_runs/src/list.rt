@@ -1,46 +1,69 @@
-// The list: before each run its length, four bytes, little-endian.
+// What every test that answers a list shares: reading the list, lines on standard output, and why a list is not read on.
 
 // standard input
 const STDIN_FILENO: i32 = 0;
 // standard output
 const STDOUT_FILENO: i32 = 1;
 
-pub(crate) const MOST_BYTES: usize = 40_000;
-
-#[derive(Clone, Copy)]
-pub enum Next {
-    Run(usize),
-    Cut,
+// Why the list is not read on: it ends, it is not one, or a line could not be written.
+#[derive(Clone, Copy, PartialEq, Eq)]
+pub enum Stop {
     End,
+    BadList,
+    Unwritten,
 }
 
-pub(crate) fn read_length() -> Next {
-    let mut bytes = [0u8; 4];
-    let got = io::read_full(STDIN_FILENO, &mut bytes);
+// Reads a record's head, with which the list may end.
+pub fn read_head(head: &mut [u8]) -> Result<(), Stop> {
+    let got = io::read_full(STDIN_FILENO, head);
     if got == 0 {
-        return Next::End;
+        return Err(Stop::End);
     }
-    if got < 4 {
-        return Next::Cut;
+    if got < head.len() {
+        Err(Stop::BadList)
+    } else {
+        Ok(())
     }
-    Next::Run(little_endian::word(&bytes, 0, 4) as usize)
 }
 
-// Fills an input from the list, and tells whether the list has all of it.
-pub(crate) fn read_input(input: &mut [u8]) -> bool {
-    let got = io::read_full(STDIN_FILENO, input);
-    got == input.len()
+// Reads what follows a head, all of it.
+pub fn read_rest(rest: &mut [u8]) -> Result<(), Stop> {
+    let got = io::read_full(STDIN_FILENO, rest);
+    if got < rest.len() {
+        Err(Stop::BadList)
+    } else {
+        Ok(())
+    }
 }
 
-// Writes the line that stands before those of a run, and tells whether its end could be written.
-pub(crate) fn say_run(run: u64) -> bool {
-    io::write_all(STDOUT_FILENO, b"run ");
-    io::print_decimal(STDOUT_FILENO, run);
-    io::write_all(STDOUT_FILENO, b"\n")
+// Writes a text within a line.
+pub fn put(text: &[u8]) {
+    io::write_all(STDOUT_FILENO, text);
+}
+
+// Writes a text and a number.
+pub fn put_number(text: &[u8], number: u64) {
+    put(text);
+    io::print_decimal(STDOUT_FILENO, number);
+}
+
+// Writes the bits of a float in hexadecimal digits.
+pub fn put_bits(x: f64) {
+    io::print_hex(STDOUT_FILENO, binary64::bits_of_float(x), 16);
+}
+
+// Writes a text at whose end a line ends.
+pub fn end(text: &[u8]) -> Result<(), Stop> {
+    if io::write_all(STDOUT_FILENO, text) {
+        Ok(())
+    } else {
+        Err(Stop::Unwritten)
+    }
 }
 
 // What stands at the end where the list is not one.
-pub(crate) fn bad() -> bool {
-    io::write_all(STDOUT_FILENO, b"bad list\n");
-    false
+pub fn say_stop(stop: Stop) {
+    if stop == Stop::BadList {
+        put(b"bad list\n");
+    }
 }

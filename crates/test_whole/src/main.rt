@@ -2,5 +2,5 @@
 #![tactic(auto)]
 
 fn main() {
-    test_runs::take_all(false);
+    test_runs::take_all(program::run::run);
 }

@@ -1,22 +1,19 @@
 -- "Success is 0, 0, 0 and the value (+0.0 where a call gives none). A refusal has value +0.0, any index, fraction or shape it would give is zero": of each
 -- primitive. Assumes nothing.
+use Rattle.std.proofs.Common.{Option, None}
 use mathlib.Core.Path.{◌≡◌, ap}
 use mathlib.Core.Bool.{false}
 use mathlib.Core.List.{List}
 use Prim.Native.Nat.{ℕ}
 use lib.Ieee.{Float}
-use Rattle.answer.specs.Faults.{good}
+use Rattle.answer.specs.Faults.{Fault, good}
 use Rattle.answer.specs.Answer.{plus_zero}
-use Rattle.answer.specs.declared.Fault.{Fault}
 use Rattle.answer.proofs.Orders.{given_bad}
 use Rattle.answer.proofs.Answers.{Quiet, quiet}
 use Rattle.axis.specs.Locations.{location_index}
-use Rattle.rust.specs.declared.MaybeIndex.{MaybeIndex}
-use Rattle.rust.specs.declared.MaybeIndex.TheVariants.{None}
 use Rattle.rust.specs.declared.AxisLocation.{AxisLocation}
 use Rattle.rust.specs.declared.AxisLocation.TheVariants.{Exact}
 use Rattle.utils.specs.Calls.{index_of, location_fraction, index_answer, exact_answer, axis_answer, locate_lower_index, exact_index, locate_axis, locate_step_index, locate_lower_index_uniform, validate_uniform_grid, validate_uniform_grid_epsilon}
-use Rattle.utils.specs.declared.Tolerance.{Tolerance}
 
 -- ---- what a refusal gives besides: zero, in the paper's numbers
 module _ (f : Fault) (h : good f ≡ false) where
@@ -24,7 +21,7 @@ module _ (f : Fault) (h : good f ≡ false) where
   unfolding index_answer
   no_index i = given_bad f i 0 h
 
-  pub no_node : (i : MaybeIndex) → index_of (exact_answer f i).index ≡ 0
+  pub no_node : (i : Option ℕ) → index_of (exact_answer f i).index ≡ 0
   unfolding exact_answer
   no_node i = ap index_of (given_bad f i None h)
 
@@ -58,6 +55,6 @@ pub grid_quiet : (nodes : List Float) (tolerance : Float) → Quiet (validate_un
 unfolding validate_uniform_grid validate_uniform_grid_epsilon
 grid_quiet nodes tolerance = quiet _
 
-pub grid_epsilon_quiet : (nodes : List Float) (tolerance : Tolerance) → Quiet (validate_uniform_grid_epsilon nodes tolerance)
+pub grid_epsilon_quiet : (nodes : List Float) (tolerance : Option Float) → Quiet (validate_uniform_grid_epsilon nodes tolerance)
 unfolding validate_uniform_grid_epsilon
 grid_epsilon_quiet nodes tolerance = quiet _

@@ -1,9 +1,8 @@
 -- What each of the seven primitives answers, for every input: "The axis rules (utils.rs)", with the checks in front. "Primitives on one axis use 2, 4, 5, 6,
 -- 9 (`locate_step_index`), 10 in that order (4, 5, 6 node by node as above), axis 0, and give clamped answers outside the range, never 11".
-use Rattle.std.specs.Prelude.{not, List, ℕ, ◌-◌, ltb, length, Float}
-use Rattle.answer.specs.Faults.{refusal, no_fault, when, ◌or◌, given}
+use Rattle.std.specs.Prelude.{not, List, ℕ, ◌-◌, ltb, length, Float, Option, Some, None}
+use Rattle.answer.specs.Faults.{Fault, refusal, no_fault, when, ◌or◌, given}
 use Rattle.answer.specs.Answer.{plus_zero, fine, ◌then◌}
-use Rattle.answer.specs.declared.Fault.{Fault}
 use Rattle.answer.specs.declared.Answer.{Answer}
 use Rattle.checks.specs.Numbers.{count_fault, finite_fault, uniform_fault, default_tolerance, lent_step_fault, tolerance_fault, direction_fault, reading_fault, result_fault}
 use Rattle.checks.specs.Shapes.{axis_fault}
@@ -12,19 +11,15 @@ use Rattle.axis.specs.Exact.{exact_node}
 use Rattle.axis.specs.Locations.{axis_location}
 use Rattle.axis.specs.Steps.{step_index}
 use Rattle.axis.specs.Uniform.{uniform_index}
-use Rattle.rust.specs.declared.MaybeIndex.{MaybeIndex}
-use Rattle.rust.specs.declared.MaybeIndex.TheVariants.{Some, None}
 use Rattle.rust.specs.declared.AxisLocation.{AxisLocation}
 use Rattle.rust.specs.declared.AxisLocation.TheVariants.{Exact, Between}
 use Rattle.utils.specs.declared.IndexAnswer.{IndexAnswer}
 use Rattle.utils.specs.declared.ExactAnswer.{ExactAnswer}
 use Rattle.utils.specs.declared.AxisAnswer.{AxisAnswer}
-use Rattle.utils.specs.declared.Tolerance.{Tolerance}
-use Rattle.utils.specs.declared.Tolerance.TheVariants.{Lent, Default}
 
 -- ---- an answer with what it gives: "any index, fraction or shape it would give is zero" on a refusal
 -- "When an answer is an enum, a definition gives this paper's number and values for each of its cases."
-abbrev pub index_of : MaybeIndex → ℕ
+abbrev pub index_of : Option ℕ → ℕ
 index_of (Some i) = i
 index_of None = 0
 
@@ -35,7 +30,7 @@ location_fraction (Between lower frac) = frac
 unfoldable pub index_answer : Fault → ℕ → IndexAnswer
 index_answer f i = record { answer = f then fine; index = given f i 0 }
 
-unfoldable pub exact_answer : Fault → MaybeIndex → ExactAnswer
+unfoldable pub exact_answer : Fault → Option ℕ → ExactAnswer
 exact_answer f i = record { answer = f then fine; index = given f i None }
 
 unfoldable pub axis_answer : Fault → AxisLocation → AxisAnswer
@@ -81,22 +76,22 @@ locate_lower_index_uniform first step n p = index_answer (uniform_read_fault fir
 
 -- ---- `validate_uniform_grid` and `validate_uniform_grid_epsilon`
 -- "The default is step times 2^-42."
-unfoldable pub tolerance_of : List Float → Tolerance → Float
-tolerance_of nodes (Lent tolerance) = tolerance
-tolerance_of nodes Default = default_tolerance nodes
+unfoldable pub tolerance_of : List Float → Option Float → Float
+tolerance_of nodes (Some tolerance) = tolerance
+tolerance_of nodes None = default_tolerance nodes
 
 -- "The uniform check answers 8, after 6, for a lent tolerance that is not finite or is below 0, axis 0, place 0."
-abbrev pub lent_fault : Tolerance → Fault
-lent_fault (Lent tolerance) = tolerance_fault tolerance
-lent_fault Default = no_fault
+abbrev pub lent_fault : Option Float → Fault
+lent_fault (Some tolerance) = tolerance_fault tolerance
+lent_fault None = no_fault
 
 -- 2, 4, 5, 6, then 8 of the tolerance, then 8 of the gaps
-unfoldable pub spacing_fault : List Float → Tolerance → Fault
+unfoldable pub spacing_fault : List Float → Option Float → Fault
 spacing_fault nodes tolerance = axis_fault nodes or lent_fault tolerance or uniform_fault 0 nodes (tolerance_of nodes tolerance)
 
 -- the check by a lent tolerance or the default (the Rust's Option<f64>), and by a lent one alone
-unfoldable pub validate_uniform_grid_epsilon : List Float → Tolerance → Answer
+unfoldable pub validate_uniform_grid_epsilon : List Float → Option Float → Answer
 validate_uniform_grid_epsilon nodes tolerance = spacing_fault nodes tolerance then fine
 
 unfoldable pub validate_uniform_grid : List Float → Float → Answer
-validate_uniform_grid nodes tolerance = validate_uniform_grid_epsilon nodes (Lent tolerance)
+validate_uniform_grid nodes tolerance = validate_uniform_grid_epsilon nodes (Some tolerance)

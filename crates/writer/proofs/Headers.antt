@@ -8,19 +8,44 @@ use lib.ListN.{length, take, get_or, length-take, get_or-eq_default}
 use borrow.Author.Tests.{ltb-true, ltb-false}
 use lib.Dec.{ltb}
 use lib.Seq.{get_or-take, take_all, ext_get_or}
-use Rattle.answer.specs.Faults.{good}
+use Rattle.std.proofs.Common.{Result, Ok, Err}
+use Rattle.std.specs.Result.{IsOk}
+use Rattle.answer.specs.Faults.{Fault, good}
+use Rattle.answer.specs.Rows.{said}
+use Rattle.answer.specs.declared.Refusal.{Refusal}
+use Rattle.answer.proofs.Checks.{fails}
+use Rattle.answer.proofs.Orders.{clash}
 use Rattle.layout.specs.Shape.{counts_of, size, total}
 use Rattle.layout.specs.Layout.{tabulate}
 use Rattle.checks.specs.Shapes.{shape_fault}
 use Rattle.layout.specs.declared.Shape.{Shape}
-use Rattle.checks.proofs.shapes.Frames.{shape_four, shape_few, shape_size}
+use Rattle.checks.specs.Scaffolding.{sums_of}
+use Rattle.checks.specs.declared.shapes.Holding.{Holding}
+use Rattle.checks.proofs.shapes.Frames.{shape_four, shape_few, shape_size, holds_nodes, holds_values}
 use Rattle.layout.proofs.Layouts.{get_d_tabulate, length-tabulate}
 use Rattle.image.proofs.Floats.{total_small}
 use Rattle.writer.specs.Made.{axis_at, values_at, image_length, count_in, offset_in, header_fields}
-use Rattle.writer.specs.Scaffolding.{pairs, widths}
 use Rattle.writer.specs.Write.{plain}
+use Rattle.writer.specs.Scaffolding.{Holds}
 
--- the nodes before an axis, and its own
+-- ---- a judged shape is not refused, and what it holds is few
+is_ok : {A : Type 0} (r : Result A Refusal) (f : Fault) → said r ≡ f → good f ≡ true → IsOk r
+is_ok (Ok x) f e g = refl
+is_ok {A} (Err e) f q g = clash (good f) g (fails A e f q)
+
+module _ (s : Shape) (h : good (shape_fault s) ≡ true) where
+  pub sizes_told : (r : Result Holding Refusal) → said r ≡ shape_fault s → IsOk r
+  sizes_told r e = is_ok r (shape_fault s) e h
+
+  pub holds : (r : Holding) → r ≡ sums_of s → Holds s r
+  holds r e = record {
+    nodes = holds_nodes s r e;
+    values = holds_values s r e;
+    few_nodes = omega (arith, holds_nodes s r e, total_small s h);
+    few_values = omega (arith, holds_values s r e, shape_size s h);
+  }
+
+-- ---- the nodes before an axis, and its own
 total-next : (cs : List ℕ) (a : ℕ) → total (take (suc a) cs) ≡ total (take a cs) + get_or cs a 0
 unfolding total
 total-next [] zero = refl
@@ -131,12 +156,12 @@ module _ (s : Shape) where
 
       pub fields_made : (v o0 o1 o2 o3 : ℕ) → v ≡ size (counts_of s) → o0 ≡ cond (ltb 0 s.axes) 40 0 → o1 ≡ cond (ltb 1 s.axes) (40 + 8 * c0) 0
           → o2 ≡ cond (ltb 2 s.axes) (40 + 8 * c0 + 8 * c1) 0 → o3 ≡ cond (ltb 3 s.axes) (40 + 8 * c0 + 8 * c1 + 8 * c2) 0
-          → pairs widths (1 ∷ s.axes ∷ 0 ∷ (40 + 8 * c0 + 8 * c1 + 8 * c2 + 8 * c3 + 8 * v) ∷ c0 ∷ c1 ∷ c2 ∷ c3 ∷ o0 ∷ o1 ∷ o2 ∷ o3 ∷ (40 + 8 * c0 + 8 * c1 + 8 * c2 + 8 * c3) ∷ 0 ∷ []) ≡ header_fields s
+          → (1, 1) ∷ (1, s.axes) ∷ (2, 0) ∷ (4, 40 + 8 * c0 + 8 * c1 + 8 * c2 + 8 * c3 + 8 * v) ∷ (2, c0) ∷ (2, c1) ∷ (2, c2) ∷ (2, c3)
+          ∷ (4, o0) ∷ (4, o1) ∷ (4, o2) ∷ (4, o3) ∷ (4, 40 + 8 * c0 + 8 * c1 + 8 * c2 + 8 * c3) ∷ (4, 0) ∷ [] ≡ header_fields s
       unfolding count_in
       fields_made v o0 o1 o2 o3 ev f0 f1 f2 f3 =
-          ap (pairs widths)
-          (cons refl (cons refl (cons refl (cons (whole v ev)
-          (cons e0 (cons e1 (cons e2 (cons e3
-          (cons (offset 0 40 o0 first-at f0) (cons (offset 1 (40 + 8 * c0) o1 at1 f1)
-          (cons (offset 2 (40 + 8 * c0 + 8 * c1) o2 at2 f2) (cons (offset 3 (40 + 8 * c0 + 8 * c1 + 8 * c2) o3 at3 f3)
-          (cons {xs = 0 ∷ []} {ys = 0 ∷ []} end refl)))))))))))))
+          let p0 = offset 0 40 o0 first-at f0 in
+          let p1 = offset 1 (40 + 8 * c0) o1 at1 f1 in
+          let p2 = offset 2 (40 + 8 * c0 + 8 * c1) o2 at2 f2 in
+          let p3 = offset 3 (40 + 8 * c0 + 8 * c1 + 8 * c2) o3 at3 f3 in
+          rw (whole v ev, end, p0, p1, p2, p3, e0, e1, e2, e3)

@@ -1,35 +1,54 @@
 -- Bytes put into an output, word by word: what is left to put, put after what is there, is the whole. Assumes nothing.
-use mathlib.Core.Path.{◌≡◌, sym, ap, ap₂, ◌∙◌}
+use mathlib.Core.Path.{◌≡◌, refl, sym, ap, ap₂, ◌∙◌}
 use mathlib.Core.List.{List, ◌∷◌, ◌++◌}
-use Prim.Native.Nat.{ℕ, suc, ◌+◌, ◌-◌, ◌*◌, ◌/◌, ◌%◌, ◌≤◌, ◌<◌}
+use Prim.Native.Nat.{ℕ, zero, suc, ◌+◌, ◌-◌, ◌*◌, ◌/◌, ◌%◌, ◌^◌, ◌≤◌, ◌<◌}
+use native.Mathlib.Nat.{div-one, div-div-eq-div-mul, pow-suc, pow-zero}
 use native.Mathlib.Numerals.{add-one}
 use native.Mathlib.Omega.{arith}
-use lib.ListN.{length, drop, get_or, set, drop_of_length-le}
-use lib.Seq.{sets, drop-cons}
+use lib.ListN.{length, take, drop, get_or, drop_of_length-le}
+use lib.Seq.{sets, sets-eq, drop-cons, take_all}
 use lib.Ieee.{Float, nan, binary64, to_bits}
+use borrow.Rule.Slice.PartMut.{put_mid}
+use Rattle.std.specs.Int.{w64, to_le_bytes, bytes_low_first, byte_at}
+use Rattle.std.proofs.lemmas.Slice.{put_mid-paste}
 use Rattle.little_endian.specs.Words.{to_bytes}
 use Rattle.little_endian.proofs.Bytes.{length_bytes}
 use Rattle.image.proofs.Floats.{sets_append}
 use Rattle.writer.specs.Made.{field_bytes, float_bytes}
-use Rattle.writer.specs.Scaffolding.{sum, pairs}
+use Rattle.writer.specs.Scaffolding.{widths}
 
--- ---- a word, byte by byte
-pub put_start : (s : List ℕ) (at n x : ℕ) → sets s (at + 0) (to_bytes (n - 0) x) ≡ sets s at (to_bytes n x)
-put_start s at n x =
-    let a : at + 0 ≡ at = omega arith in
-    let b : n - 0 ≡ n = omega arith in
-    ap₂ (λ (j k : ℕ). sets s j (to_bytes k x)) a b
+-- ---- a word: the first bytes of eight
+byte_is : (i x : ℕ) → x / 256 ^ i % 256 ≡ byte_at i x
+byte_is zero x = ap (λ (k : ℕ). x / k % 256) (pow-zero 256) ∙ ap (λ (k : ℕ). k % 256) (div-one x)
+byte_is (suc i) x = refl
 
-pub put_step : (s : List ℕ) (at n i y : ℕ) → i < n → sets (set s (at + i) (y % 256)) (at + (i + 1)) (to_bytes (n - (i + 1)) (y / 256)) ≡ sets s (at + i) (to_bytes (n - i) y)
+low_bytes : (k i x : ℕ) → to_bytes k (x / 256 ^ i) ≡ bytes_low_first i k x
 unfolding to_bytes
-put_step s at n i y h =
-    let more : suc (n - (i + 1)) ≡ n - i = omega arith in
-    let next : at + (i + 1) ≡ suc (at + i) = omega arith in
-    ap (λ (j : ℕ). sets (set s (at + i) (y % 256)) j (to_bytes (n - (i + 1)) (y / 256))) next ∙ ap (λ (k : ℕ). sets s (at + i) (to_bytes k y)) more
+low_bytes zero i x = refl
+low_bytes (suc k) i x =
+    let wider : 256 ^ i * 256 ≡ 256 ^ suc i = omega (arith, pow-suc 256 i) in
+    let further : x / 256 ^ i / 256 ≡ x / 256 ^ suc i = div-div-eq-div-mul x (256 ^ i) 256 ∙ ap (λ (m : ℕ). x / m) wider in
+    ap₂ (λ (b : ℕ) (bs : List ℕ). b ∷ bs) (byte_is i x) (ap (to_bytes k) further ∙ low_bytes k (suc i) x)
 
-pub put_end_lem : (s : List ℕ) (j n i y : ℕ) → n ≤ i → sets s j (to_bytes (n - i) y) ≡ s
-unfolding to_bytes
-put_end_lem s j n i y h = let none : n - i ≡ 0 = omega arith in ap (λ (k : ℕ). sets s j (to_bytes k y)) none
+first_bytes : (n k i x : ℕ) → n ≤ k → take n (bytes_low_first i k x) ≡ bytes_low_first i n x
+first_bytes zero k i x h = refl
+first_bytes (suc n) zero i x h = absurd (omega arith)
+first_bytes (suc n) (suc k) i x h = ap (λ (bs : List ℕ). byte_at i x ∷ bs) (first_bytes n k (suc i) x (omega arith))
+
+word_bytes : (n x : ℕ) → n ≤ 8 → take n (to_le_bytes w64 x) ≡ to_bytes n x
+word_bytes n x h =
+    first_bytes n 8 0 x h
+    ∙ sym (low_bytes n 0 x)
+    ∙ ap (λ (k : ℕ). to_bytes n (x / k)) (pow-zero 256)
+    ∙ ap (to_bytes n) (div-one x)
+
+pub word_put : (out put eight : List ℕ) (at n x : ℕ) → n ≤ 8 → at + n ≤ length out → eight ≡ to_le_bytes w64 x → put ≡ take n eight → put_mid at (at + n - at) out put ≡ sets out at (to_bytes n x)
+word_put out put eight at n x h room f e =
+    let same : n ≡ at + n - at = omega arith in
+    let long : length (to_bytes n x) ≡ n = length_bytes n x in
+    put_mid-paste at (at + n - at) out put (to_bytes n x) n (e ∙ ap (take n) f ∙ word_bytes n x h) same (sym long)
+    ∙ ap₂ (λ (bs : List ℕ) (k : ℕ). take at out ++ bs ++ drop k out) (take_all n (to_bytes n x) (omega arith)) (ap (λ (k : ℕ). at + k) (sym long))
+    ∙ sym (sets-eq (to_bytes n x) out at (omega arith))
 
 -- a word, then the rest
 word_then : (out : List ℕ) (at n x : ℕ) (rest : List ℕ) → sets (sets out at (to_bytes n x)) (at + n) rest ≡ sets out at (to_bytes n x ++ rest)
@@ -53,19 +72,19 @@ unfolding float_bytes
 floats_end out j i floats h = ap (λ (l : List Float). sets out j (float_bytes l)) (drop_of_length-le floats h)
 
 -- ---- fields, each of its width
-module _ (ws xs : List ℕ) (k : ℕ) where
-  drop_more : (l : List ℕ) → k < length l → drop k l ≡ get_or l k 0 ∷ drop (k + 1) l
-  drop_more l h = rw (add-one) (drop-cons l k 0 h)
+module _ (fs : List (ℕ × ℕ)) (k : ℕ) (there : k < length fs) where
+  abbrev field : ℕ × ℕ
+  field = get_or fs k (0, 0)
 
-  pub sum_more : k < length ws → sum (drop k ws) ≡ get_or ws k 0 + sum (drop (k + 1) ws)
-  sum_more h = ap sum (drop_more ws h)
+  one : drop k fs ≡ get_or fs k (0, 0) ∷ drop (k + 1) fs
+  one = rw (add-one) (drop-cons fs k (0, 0) there)
 
-  pub fields_step : (out next : List ℕ) (at : ℕ) → k < length ws → length ws ≡ length xs → next ≡ sets out at (to_bytes (get_or ws k 0) (get_or xs k 0))
-      → sets next (at + get_or ws k 0) (field_bytes (pairs (drop (k + 1) ws) (drop (k + 1) xs))) ≡ sets out at (field_bytes (pairs (drop k ws) (drop k xs)))
-  fields_step out next at h e q =
-      ap (λ (l : List ℕ). sets l (at + get_or ws k 0) (field_bytes (pairs (drop (k + 1) ws) (drop (k + 1) xs)))) q
-      ∙ word_then out at (get_or ws k 0) (get_or xs k 0) (field_bytes (pairs (drop (k + 1) ws) (drop (k + 1) xs)))
-      ∙ ap (λ (fs : List (ℕ × ℕ)). sets out at (field_bytes fs)) (sym (ap₂ pairs (drop_more ws h) (drop_more xs (omega arith))))
+  pub widths_more : widths (drop k fs) ≡ (get_or fs k (0, 0)).0 + widths (drop (k + 1) fs)
+  widths_more = ap widths one
 
-  pub fields_end : (out : List ℕ) (at : ℕ) → length ws ≤ k → sets out at (field_bytes (pairs (drop k ws) (drop k xs))) ≡ out
-  fields_end out at h = ap (λ (l : List ℕ). sets out at (field_bytes (pairs l (drop k xs)))) (drop_of_length-le ws h)
+  pub fields_step : (out next : List ℕ) (at : ℕ) → next ≡ sets out at (to_bytes (get_or fs k (0, 0)).0 (get_or fs k (0, 0)).1)
+      → sets next (at + (get_or fs k (0, 0)).0) (field_bytes (drop (k + 1) fs)) ≡ sets out at (field_bytes (drop k fs))
+  fields_step out next at q =
+      ap (λ (l : List ℕ). sets l (at + field.0) (field_bytes (drop (k + 1) fs))) q
+      ∙ word_then out at field.0 field.1 (field_bytes (drop (k + 1) fs))
+      ∙ ap (λ (l : List (ℕ × ℕ)). sets out at (field_bytes l)) (sym one)

@@ -12,9 +12,8 @@ use lib.ListN.{length, take, drop, get_or}
 use lib.Seq.{get_or-take, take_at}
 use lib.Ieee.{Float, binary64}
 use lib.Ieee.Fits.{nan-fits}
-use Rattle.answer.specs.Faults.{no_fault, good, ◌or◌, first_fault, given, filled_into}
+use Rattle.answer.specs.Faults.{Fault, no_fault, good, ◌or◌, first_fault, given, filled_into}
 use Rattle.answer.specs.Answer.{fine, ◌then◌}
-use Rattle.answer.specs.declared.Fault.{Fault}
 use Rattle.answer.specs.declared.Answer.{Answer}
 use Rattle.answer.proofs.Orders as orders
 use Rattle.answer.proofs.Answers.{then_good}

@@ -1,8 +1,7 @@
 -- What writing answers and writes, for every input.
 use Rattle.std.specs.Prelude.{◌≡◌, List, ℕ, length, Float}
-use Rattle.answer.specs.Faults.{◌or◌, given, filled_into}
+use Rattle.answer.specs.Faults.{Fault, ◌or◌, given, filled_into}
 use Rattle.answer.specs.Answer.{fine, ◌then◌}
-use Rattle.answer.specs.declared.Fault.{Fault}
 use Rattle.layout.specs.Shape.{counts_of}
 use Rattle.layout.specs.Layout.{tabulate}
 use Rattle.checks.specs.Shapes.{frame_fault}

@@ -3,18 +3,21 @@
 
 ghost use Rattle.std.specs.Prelude.{◌≡◌, true, length};
 ghost use Rattle.std.proofs.lemmas.List.Edits.{sets};
+ghost use Rattle.answer.specs.Answer.{refused};
 ghost use Rattle.answer.specs.Faults.{good};
+ghost use Rattle.answer.specs.Rows.{fault_of, said};
 ghost use Rattle.checks.specs.Shapes.{shape_fault};
 ghost use Rattle.writer.specs.Made.{image_length, image_of};
 ghost use Rattle.writer.specs.Write.{write_fault, Written};
-ghost use Rattle.writer.specs.Scaffolding.{refused_write, Roomy};
+ghost use Rattle.writer.specs.Scaffolding.{Holds, Roomy};
 
 // the header of a shape
 pub(crate) mod header;
 // numbers and floats put into an output
 pub(crate) mod put;
 
-use answer::{Answer, Fault};
+use answer::{Answer, Refusal};
+use checks::shapes::Holding;
 use checks::{lent, shapes};
 use layout::Shape;
 use orders::stages;
@@ -27,27 +30,41 @@ pub struct WriteAnswer {
     pub length: usize,
 }
 
+// The answer of a write that is refused: no length.
+impl From<Refusal> for WriteAnswer {
+    ghost from_gives = { λ r a. a ≡ record { answer = refused (fault_of r); length = 0 } };
+
+    fn from(refusal: Refusal) -> WriteAnswer {
+        WriteAnswer {
+            answer: Answer::from(refusal),
+            length: 0,
+        }
+    }
+}
+
+// How many nodes and values a judged shape has.
+pub(crate) fn held(shape: Shape) -> Holding
+    requires { good (shape_fault shape) ≡ true }
+    ensures { Holds shape result }
+{
+    shapes::sizes(shape).unwrap()
+}
+
 // How many bytes the image of a judged shape has.
 fn image_length(shape: Shape) -> usize
     requires { good (shape_fault shape) ≡ true }
     ensures { result ≡ image_length shape }
 {
-    let held = shapes::sizes(shape);
+    let held = held(shape);
     image::HEADER + 8 * held.nodes + 8 * held.values
 }
 
 // Every check, before anything is written.
-fn write_fault(shape: Shape, nodes: &[f64], values: &[f64], room: usize) -> Fault
-    ensures { result ≡ write_fault shape nodes.now values.now room }
+fn write_fault(shape: Shape, nodes: &[f64], values: &[f64], room: usize) -> Result<(), Refusal>
+    ensures { said result ≡ write_fault shape nodes.now values.now room }
 {
-    let fault = shapes::frame_fault(shape, nodes.len(), values.len());
-    if fault.number != 0 {
-        return fault;
-    }
-    let fault = stages::stored_fault(shape, nodes, values);
-    if fault.number != 0 {
-        return fault;
-    }
+    shapes::frame_fault(shape, nodes.len(), values.len())?;
+    stages::stored_fault(shape, nodes, values)?;
     lent::room_fault(2, image_length(shape), room)
 }
 
@@ -61,23 +78,12 @@ fn put_image(shape: Shape, nodes: &[f64], values: &[f64], img: &mut [u8])
     put::put_floats(values, img, image::HEADER + 8 * nodes.len());
 }
 
-// The answer of a write that is refused.
-fn refused(fault: Fault) -> WriteAnswer
-    ensures { result ≡ refused_write fault }
-{
-    WriteAnswer {
-        answer: answer::refuse(fault),
-        length: 0,
-    }
-}
-
 // Writes a table as an image into an output, which may be longer.
 pub fn write(shape: Shape, nodes: &[f64], values: &[f64], img: &mut [u8]) -> WriteAnswer
     ensures { Written shape nodes.now values.now img.old img.new result }
 {
-    let fault = write_fault(shape, nodes, values, img.len());
-    if fault.number != 0 {
-        return refused(fault);
+    if let Err(refusal) = write_fault(shape, nodes, values, img.len()) {
+        return WriteAnswer::from(refusal);
     }
     put_image(shape, nodes, values, img);
     WriteAnswer {

@@ -6,16 +6,12 @@ ghost use Rattle.writer.specs.Made.{float_bytes};
 
 // The n lowest bytes of a number, the lowest first.
 pub(crate) fn put_word(out: &mut [u8], at: usize, n: usize, x: u64)
-    requires { at + n ≤ length out.old }
+    requires width { n ≤ 8 }
+    requires room { at + n ≤ length out.old }
     ensures { out.new ≡ sets out.old at (to_bytes n x) }
 {
-    let mut y = x;
-    let mut i: usize = 0;
-    while i < n {
-        out[at + i] = (y % 256) as u8;
-        y = y / 256;
-        i += 1;
-    }
+    let bytes = x.to_le_bytes();
+    out[at..at + n].copy_from_slice(&bytes[..n]);
 }
 
 // The bits of floats, eight bytes each.
@@ -23,10 +19,7 @@ pub(crate) fn put_floats(floats: &[f64], out: &mut [u8], at: usize)
     requires { at + 8 * length floats.now ≤ length out.old }
     ensures { out.new ≡ sets out.old at (float_bytes floats.now) }
 {
-    let mut i: usize = 0;
-    while i < floats.len() {
-        let bits = binary64::bits_of_float(floats[i]);
-        put_word(out, at + 8 * i, 8, bits);
-        i += 1;
+    for (i, x) in floats.iter().enumerate() {
+        put_word(out, at + 8 * i, 8, binary64::bits_of_float(*x));
     }
 }

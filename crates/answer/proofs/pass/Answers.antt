@@ -4,4 +4,4 @@ use Rattle.answer.proofs.pass.Goals as goal
 
 pub returns : goal.returns
 unfolding fine of_bits
-returns c = c.succeed.ensures
+returns c = c.from.ensures

@@ -1,9 +1,8 @@
 -- The node of a cell that equals the reading. Assumes nothing.
-use Rattle.std.proofs.Common.{◌≡◌, ℕ, zero, suc, ◌+◌, ◌≤◌, true, false, List, [], ◌∷◌, length, refl, ap, ◌∙◌, arith}
+use Rattle.std.proofs.Common.{◌≡◌, ℕ, zero, suc, ◌+◌, ◌≤◌, true, false, List, [], ◌∷◌, length, refl, ap, ◌∙◌, arith, Some, None}
 use lib.Ieee.{Float, nan, inf, fin, eq}
 use Rattle.checks.specs.Nodes.{node}
 use Rattle.axis.specs.Exact.{exact_node}
-use Rattle.rust.specs.declared.MaybeIndex.TheVariants.{Some, None}
 
 -- ---- the node of a cell that equals the reading
 module _ (nodes : List Float) (lower : ℕ) (p : Float) where
@@ -38,5 +37,5 @@ module _ (nodes : List Float) (lower : ℕ) (p : Float) where
   pub exact_past : length nodes ≤ lower → None ≡ exact_node nodes lower p
   exact_past h = exact_none nodes lower p (past lower h) (past (lower + 1) (omega arith))
 
-  pub exact-last : eq (node nodes lower) p ≡ false → length nodes ≤ lower + 1 → None ≡ exact_node nodes lower p
-  exact-last k h = exact_none nodes lower p k (past (lower + 1) h)
+  pub exact_last : eq (node nodes lower) p ≡ false → length nodes ≤ lower + 1 → None ≡ exact_node nodes lower p
+  exact_last k h = exact_none nodes lower p k (past (lower + 1) h)

@@ -77,20 +77,6 @@ module _ (xs : List Float) (p : Float) (ax : Axis xs) (fp : finite p ≡ true) w
   unfolding pick_index
   step_found pick h = pick_found_lem pick ∙ simp (lt-ltb pick 2 h)
 
--- ---- of any list at all
-module _ (pick : ℕ) (xs : List Float) (p : Float) where
-  pub pick_none : length xs < 2 → 0 ≡ pick_found pick xs p
-  unfolding pick_found
-  pick_none h = simp (lt-ltb (length xs) 2 h)
-
-  pub pick_step : 2 ≤ length xs → pick < 2 → rust_step pick xs p ≡ pick_found pick xs p
-  unfolding pick_found
-  pick_step n h = simp (le-ltb (length xs) 2 n, lt-ltb pick 2 h)
-
-  pub pick_nearest : 2 ≤ length xs → 2 ≤ pick → nearest_index xs p ≡ pick_found pick xs p
-  unfolding pick_found
-  pick_nearest n h = simp (le-ltb (length xs) 2 n, le-ltb pick 2 h)
-
 -- ---- a pick is a rule's index
 pub is_step : (pick : ℕ) (xs : List Float) (p : Float) → pick < 2 → pick_index pick xs p ≡ step_index pick xs p
 unfolding pick_index

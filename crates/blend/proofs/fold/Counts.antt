@@ -1,32 +1,29 @@
--- How many corners the axes have, counted from the last one on. Assumes nothing.
-use mathlib.Core.Path.{◌≡◌, sym, ap, ◌∙◌, subst}
-use mathlib.Core.List.{List, ◌∷◌}
-use Prim.Native.Nat.{ℕ, ◌+◌, ◌-◌, ◌^◌, ◌≤◌, ◌<◌}
-use native.Mathlib.Omega.{arith}
-use lib.ListN.{length, take, drop, get_or, length-drop, length-take}
-use Rattle.layout.proofs.Totals.{ahead, past}
+-- How many corners the first axes have. Assumes nothing.
+use Rattle.std.proofs.Common.{◌≡◌, ℕ, suc, ◌+◌, ◌^◌, ◌<◌, ◌≤◌, List, [], ◌∷◌, ◌++◌, length, take, drop, get_or, refl, sym, ap, ◌∙◌, subst, arith, length-take, length-drop}
+use Rattle.std.proofs.lemmas.List.{take_more}
 use Rattle.rust.specs.Scaffolding.{diffs}
 use Rattle.blend.specs.Scaffolding.{more_corners}
 use Rattle.rust.specs.declared.AxisLocation.{AxisLocation}
-use Rattle.rust.specs.declared.AxisLocation.TheVariants.{Exact}
+use Rattle.rust.specs.declared.AxisLocation.TheVariants.{Exact, Between}
 use Rattle.blend.proofs.Counts.{more_power, few_corners}
 
-left_few : (ls : List AxisLocation) (n d : ℕ) → n ≤ 4 → length (drop d (take n ls)) ≤ 4
-left_few ls n d l = omega (arith, length-drop d (take n ls), length-take n ls, l)
+-- one axis more at the end is one more in front
+at_end : (p : AxisLocation) (ps : List AxisLocation) → length (diffs (ps ++ p ∷ [])) ≡ length (diffs (p ∷ ps))
+at_end p [] = refl
+at_end (Exact m) (Exact n ∷ ps) = at_end (Exact m) ps
+at_end (Exact m) (Between l f ∷ ps) = ap suc (at_end (Exact m) ps)
+at_end (Between k g) (Exact n ∷ ps) = at_end (Between k g) ps
+at_end (Between k g) (Between l f ∷ ps) = ap suc (at_end (Between k g) ps)
 
--- from the last axis on
-pub count-step : (ls : List AxisLocation) (n d count : ℕ) → n ≤ 4 → n ≤ length ls → 0 < d → d ≤ n → count ≡ 2 ^ length (diffs (drop d (take n ls)))
-    → more_corners (get_or ls (d - 1) (Exact 0)) count ≡ 2 ^ length (diffs (drop (d - 1) (take n ls)))
-count-step ls n d count f a b l e =
-    let v : d ≡ d - 1 + 1 = omega arith in
-    let open_up : drop (d - 1) (take n ls) ≡ get_or ls (d - 1) (Exact 0) ∷ drop (d - 1 + 1) (take n ls) = ahead ls n (d - 1) (Exact 0) (omega arith) a in
-    let few : 2 ^ length (diffs (get_or ls (d - 1) (Exact 0) ∷ drop (d - 1 + 1) (take n ls))) ≤ 16 =
-    subst (λ (r : List AxisLocation). 2 ^ length (diffs r) ≤ 16) open_up (few_corners (drop (d - 1) (take n ls)) (left_few ls n (d - 1) f)) in
-    more_power (get_or ls (d - 1) (Exact 0)) (drop (d - 1 + 1) (take n ls)) count (e ∙ ap (λ (k : ℕ). 2 ^ length (diffs (drop k (take n ls)))) v) few
-    ∙ ap (λ (r : List AxisLocation). 2 ^ length (diffs r)) (sym open_up)
+pub count_step : (ls : List AxisLocation) (i count : ℕ) → length ls ≤ 4 → i < length ls → count ≡ 2 ^ length (diffs (take i ls))
+    → more_corners (get_or ls i (Exact 0)) count ≡ 2 ^ length (diffs (take (i + 1) ls))
+count_step ls i count four l e = more_power (get_or ls i (Exact 0)) (take i ls) count e few ∙ sym more
+  where
+    more : 2 ^ length (diffs (take (i + 1) ls)) ≡ 2 ^ length (diffs (get_or ls i (Exact 0) ∷ take i ls))
+    more = ap (λ (r : List AxisLocation). 2 ^ length (diffs r)) (take_more ls i (Exact 0) l) ∙ ap (λ (k : ℕ). 2 ^ k) (at_end (get_or ls i (Exact 0)) (take i ls))
 
-pub count_few : (ls : List AxisLocation) (n d count : ℕ) → n ≤ 4 → count ≡ 2 ^ length (diffs (drop d (take n ls))) → count ≤ 16
-count_few ls n d count l e = omega (arith, e, few_corners (drop d (take n ls)) (left_few ls n d l))
+    few : 2 ^ length (diffs (get_or ls i (Exact 0) ∷ take i ls)) ≤ 16
+    few = subst (λ (k : ℕ). k ≤ 16) more (few_corners (take (i + 1) ls) (omega (arith, length-take (i + 1) ls)))
 
-pub count_none : (ls : List AxisLocation) (n : ℕ) → 1 ≡ 2 ^ length (diffs (drop n (take n ls)))
-count_none ls n = sym (ap (λ (r : List AxisLocation). 2 ^ length (diffs r)) (past ls n n (omega arith)))
+pub count_few : (ls : List AxisLocation) (d count : ℕ) → length ls ≤ 4 → count ≡ 2 ^ length (diffs (drop d ls)) → count ≤ 16
+count_few ls d count four e = omega (arith, e, few_corners (drop d ls) (omega (arith, length-drop d ls)))

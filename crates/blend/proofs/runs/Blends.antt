@@ -1,15 +1,11 @@
 -- The blends of two runs, place by place. Assumes nothing.
-use mathlib.Core.Path.{◌≡◌, sym, ap, ◌∙◌}
-use mathlib.Core.List.{List}
-use Prim.Native.Nat.{ℕ, min}
-use native.Mathlib.Omega.{arith}
-use lib.ListN.{length, get_or}
+use Rattle.std.proofs.Common.{◌≡◌, ℕ, ◌+◌, ◌<◌, ◌≤◌, min, List, ◌++◌, length, get_or, set, drop, sym, ap, ap₂, ◌∙◌, arith}
+use Rattle.std.proofs.lemmas.List.{append-nil, drop_all}
 use lib.Ieee.{Float, nan}
-use Rattle.answer.specs.Faults.{first_fault}
-use Rattle.answer.specs.declared.Fault.{Fault}
+use Rattle.answer.specs.Faults.{Fault, first_fault}
 use Rattle.answer.proofs.Orders.{first_same}
 use Rattle.layout.specs.Layout.{tabulate}
-use Rattle.layout.proofs.Layouts.{length-tabulate, get_d_tabulate}
+use Rattle.layout.proofs.Layouts.{length-tabulate, get_d_tabulate, tabulate-step}
 use Rattle.blend.specs.Blend.{blended}
 use Rattle.blend.specs.Scaffolding.{blends}
 use Rattle.checks.specs.Numbers.{results_fault, result_fault}
@@ -29,3 +25,13 @@ results_blends f low high n e =
     ∙ sym
     (ap (first_fault (λ i. result_fault i (get_or (tabulate (min (length low) (length high)) (run_at f low high)) i nan)) 0) (length-tabulate (min (length low) (length high)) (run_at f low high))
     ∙ first_same _ _ 0 (min (length low) (length high)) (λ j a b. ap (result_fault j) (get_d_tabulate (min (length low) (length high)) j (run_at f low high) nan (omega arith))))
+
+-- ---- a run written over, place by place
+module _ (h : ℕ → Float) (xs w : List Float) (i : ℕ) (e : w ≡ tabulate i h ++ drop i xs) where
+  pub run_step : (b : Float) → i < length xs → b ≡ h i → set w i b ≡ tabulate (i + 1) h ++ drop (i + 1) xs
+  run_step b l q = ap₂ (λ (x : List Float) (y : Float). set x i y) e q ∙ tabulate-step i h xs l
+
+  pub run_done : i ≤ length xs → length xs ≤ i → w ≡ tabulate (length xs) h
+  run_done u l =
+      let here : i ≡ length xs = omega arith in
+      e ∙ ap (λ (r : List Float). tabulate i h ++ r) (drop_all i xs l) ∙ append-nil (tabulate i h) ∙ ap (λ (k : ℕ). tabulate k h) here

@@ -9,8 +9,7 @@ use lib.Dec.{ltb}
 use lib.ListN.{length}
 use lib.Ieee.{Float, binary64, lt, sub}
 use lib.Ieee.Scale.{finite}
-use Rattle.answer.specs.Faults.{refusal, no_fault, good, when}
-use Rattle.answer.specs.declared.Fault.{Fault}
+use Rattle.answer.specs.Faults.{Fault, refusal, no_fault, good, when}
 use Rattle.answer.proofs.Orders as orders
 use Rattle.answer.proofs.Tests.{not_false}
 use Rattle.checks.specs.Numbers.{count_fault, finite_fault, rise_fault, node_fault, nodes_fault}

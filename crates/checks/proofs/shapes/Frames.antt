@@ -1,18 +1,17 @@
 -- The rows that judge a shape, on plain values: which test gives which answer, and what is known where a row was passed.
-use mathlib.Core.Path.{refl, ◌≡◌, ap, ap₂, ◌∙◌}
+use mathlib.Core.Path.{refl, ◌≡◌, sym, ap, ◌∙◌}
 use mathlib.Core.Bool.{Bool, true, false}
 use Prim.Native.Nat.{ℕ, ◌≤◌, ◌<◌}
 use native.Mathlib.Omega.{arith}
 use borrow.Author.Tests.{le-ltb, ltb-false, leb-true, leb-false}
 use lib.Dec.{ltb, leb}
 use lib.ListN.{length, get_or, get_or-eq_default}
-use Rattle.answer.specs.Faults.{refusal, no_fault, good, when, ◌or◌, first_fault}
-use Rattle.answer.specs.declared.Fault.{Fault}
+use Rattle.answer.specs.Faults.{Fault, refusal, no_fault, good, when, ◌or◌, first_fault}
 use Rattle.answer.proofs.Orders as orders
 use Rattle.checks.specs.Numbers.{axes_count_fault, count_fault, product_fault}
 use Rattle.layout.specs.Shape.{counts_of, size, total}
 use Rattle.checks.specs.Shapes.{shape_fault}
-use Rattle.checks.specs.Scaffolding.{Few, sums_of, sizes_of}
+use Rattle.checks.specs.Scaffolding.{Few, sums_of}
 use Rattle.layout.specs.declared.Shape.{Shape}
 use Rattle.checks.specs.declared.shapes.Holding.{Holding}
 use Rattle.checks.proofs.counts.Rows.{axes_some, axes_four, count_enough, count_few}
@@ -28,14 +27,13 @@ module _ (s : Shape) where
   abbrev then : Fault
   then = first_fault counts 0 s.axes or large
 
-  -- a shape that passes, by what its three rows gave
-  pub product_fine : (q : Fault) → q ≡ axes_count_fault s.axes → q.number ≡ 0 → (r : Fault) → r ≡ first_fault counts 0 s.axes → r.number ≡ 0
-      → (n : ℕ) → n ≡ size (counts_of s) → n ≤ 4096 → no_fault ≡ shape_fault s
+  -- a shape that passes its three rows
+  pub product_fine : no_fault ≡ axes_count_fault s.axes → no_fault ≡ first_fault counts 0 s.axes → size (counts_of s) ≤ 4096 → no_fault ≡ shape_fault s
   unfolding shape_fault product_fault
-  product_fine q d z r e h n p k =
-      orders.or_goes_on q (axes_count_fault s.axes) d no_fault then z
-      (orders.or_goes_on r (first_fault counts 0 s.axes) e no_fault large h
-      (orders.row_passed (ltb 4096 (size (counts_of s))) 1 0 0 (le-ltb 4096 (size (counts_of s)) (omega arith))))
+  product_fine p q h =
+      orders.row_passed (ltb 4096 (size (counts_of s))) 1 0 0 (le-ltb 4096 (size (counts_of s)) h)
+      ∙ sym (orders.or_good (first_fault counts 0 s.axes) large (orders.passed-no_fault (first_fault counts 0 s.axes) q))
+      ∙ sym (orders.or_good (axes_count_fault s.axes) then (orders.passed-no_fault (axes_count_fault s.axes) p))
 
   pub counts_few : good (axes_count_fault s.axes) ≡ true → good (first_fault counts 0 s.axes) ≡ true → Few s
   counts_few p q = record {
@@ -83,27 +81,9 @@ module _ (s : Shape) where
     shape_size = ltb-false 4096 (size (counts_of s)) (orders.row_good (ltb 4096 (size (counts_of s))) 1 0 0 (orders.second_passed (first_fault counts 0 s.axes) large later))
 
 -- ---- what a shape holds
-module _ (s : Shape) (r : Fault) (e : r ≡ shape_fault s) where
-  pub refused_sizes : (r.number ≡ 0 → ⊥) → ◌≡◌ {A = Holding} (record { fault = r; nodes = 0; values = 0 }) (sizes_of s)
-  unfolding sizes_of
-  refused_sizes h =
-      ap (λ (a : Fault). record { fault = a; nodes = 0; values = 0 }) e
-      ∙ ap₂ (λ (n v : ℕ). record { fault = shape_fault s; nodes = n; values = v }) (orders.given-refused r (shape_fault s) e (total (counts_of s)) 0 h) (orders.given-refused r (shape_fault s) e (size (counts_of s)) 0 h)
-
-  pub given_sizes : r.number ≡ 0 → (h : Holding) → h ≡ sums_of s → ◌≡◌ {A = Holding} (record { fault = r; nodes = h.nodes; values = h.values }) (sizes_of s)
-  unfolding sizes_of
-  given_sizes z h q =
-      ap (λ (a : Fault). record { fault = a; nodes = h.nodes; values = h.values }) e
-      ∙ ap₂ (λ (n v : ℕ). record { fault = shape_fault s; nodes = n; values = v })
-      (orders.given_kept r (shape_fault s) e (total (counts_of s)) 0 h.nodes z (ap (λ (x : Holding). x.nodes) q))
-      (orders.given_kept r (shape_fault s) e (size (counts_of s)) 0 h.values z (ap (λ (x : Holding). x.values) q))
-
--- ---- what a judged shape holds
-module _ (s : Shape) (h : good (shape_fault s) ≡ true) (r : Holding) (e : r ≡ sizes_of s) where
+module _ (s : Shape) (r : Holding) (e : r ≡ sums_of s) where
   pub holds_nodes : r.nodes ≡ total (counts_of s)
-  unfolding sizes_of
-  holds_nodes = ap (λ (x : Holding). x.nodes) e ∙ orders.given-good (shape_fault s) (total (counts_of s)) 0 h
+  holds_nodes = ap (λ (x : Holding). x.nodes) e
 
   pub holds_values : r.values ≡ size (counts_of s)
-  unfolding sizes_of
-  holds_values = ap (λ (x : Holding). x.values) e ∙ orders.given-good (shape_fault s) (size (counts_of s)) 0 h
+  holds_values = ap (λ (x : Holding). x.values) e

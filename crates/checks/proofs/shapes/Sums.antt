@@ -1,62 +1,62 @@
--- The loop that sums and multiplies the counts, from the last axis on. Assumes nothing.
-use mathlib.Core.Path.{◌≡◌, sym, ap, ap₂, ◌∙◌, subst}
-use mathlib.Core.List.{List}
-use Prim.Native.Nat.{ℕ, ◌+◌, ◌-◌, ◌*◌, ◌≤◌, ◌<◌}
+-- The loop that sums and multiplies the counts, one after the other. Assumes nothing.
+use mathlib.Core.Path.{◌≡◌, refl, sym, ap, ap₂, ◌∙◌, subst}
+use mathlib.Core.List.{List, [], ◌∷◌}
+use Prim.Native.Nat.{ℕ, zero, suc, ◌+◌, ◌*◌, ◌≤◌, ◌<◌}
+use native.Mathlib.Nat.{mul_assoc}
+use native.Mathlib.Numerals.{add-one}
 use native.Mathlib.Omega.{arith}
-use lib.ListN.{length, take, drop, get_or}
-use Rattle.answer.specs.Faults.{no_fault}
-use Rattle.answer.specs.declared.Fault.{Fault}
+use lib.ListN.{length, take, get_or}
+use lib.Seq.{length-take-le, get_or-take, take_all}
 use Rattle.layout.specs.Shape.{size, total}
-use Rattle.layout.specs.Scaffolding.{Four}
-use Rattle.layout.proofs.Totals.{size_back, size_none, size_bound, total_back, total_none, total_bound}
+use Rattle.layout.proofs.Totals.{size_bound, total_bound}
 use Rattle.checks.specs.declared.shapes.Holding.{Holding}
 
--- what the first n counts make from axis a on
-pub record Sums (counts : List ℕ) (n a nodes values : ℕ) : Type 0 where
-  pub on : a ≤ n
-  pub summed : nodes ≡ total (drop a (take n counts))
-  pub times : values ≡ size (drop a (take n counts))
+-- what the first i counts make
+pub record Sums (counts : List ℕ) (i nodes values : ℕ) : Type 0 where
+  pub summed : nodes ≡ total (take i counts)
+  pub times : values ≡ size (take i counts)
 
--- the counts of a shape, as they were read; n of them are looked at
-module _ (own counts : List ℕ) (w : Four own counts) (n : ℕ) (four : n ≤ 4) (few : (a : ℕ) → a < n → get_or own a 0 ≤ 64) where
-  within : n ≤ length counts
-  within = omega (arith, w.four)
+total_suc : (ns : List ℕ) (i : ℕ) → i < length ns → total (take i ns) + get_or ns i 0 ≡ total (take (suc i) ns)
+unfolding total
+total_suc [] i h = absurd (omega arith)
+total_suc (n ∷ ns) zero h = omega arith
+total_suc (n ∷ ns) (suc i) h = let k : total (take i ns) + get_or ns i 0 ≡ total (take (suc i) ns) = total_suc ns i (omega arith) in omega arith
 
-  small : (a : ℕ) → a < n → get_or counts a 0 ≤ 64
-  small a l = subst (λ (cs : List ℕ). get_or cs a 0 ≤ 64) (sym w.same) (few a l)
+size_suc : (ns : List ℕ) (i : ℕ) → i < length ns → size (take i ns) * get_or ns i 0 ≡ size (take (suc i) ns)
+unfolding size
+size_suc [] i h = absurd (omega arith)
+size_suc (n ∷ ns) zero h = omega arith
+size_suc (n ∷ ns) (suc i) h = mul_assoc n (size (take i ns)) (get_or ns i 0) ∙ ap (λ (k : ℕ). n * k) (size_suc ns i (omega arith))
 
-  pub begin : Sums counts n n 0 1
-  begin = record { on = omega arith; summed = total_none counts n; times = size_none counts n }
+pub begin : (counts : List ℕ) → Sums counts 0 0 1
+unfolding total size
+begin counts = record { summed = refl; times = refl }
 
-  module _ (a nodes values : ℕ) (s : Sums counts n a nodes values) where
-    module _ (more : 0 < a) where
-      abbrev count : ℕ
-      count = get_or counts (a - 1) 0
+module _ (counts : List ℕ) (i nodes values : ℕ) (s : Sums counts i nodes values) where
+  module _ (more : i < length counts) where
+    abbrev count : ℕ
+    count = get_or counts i 0
 
-      pub again : Sums counts n (a - 1) (count + nodes) (count * values)
-      again = record {
-        on = omega (arith, s.on);
-        summed = ap (λ (k : ℕ). count + k) s.summed ∙ total_back counts n a within more s.on;
-        times = ap (λ (k : ℕ). count * k) s.times ∙ size_back counts n a within more s.on;
-      }
+    pub again : Sums counts (i + 1) (nodes + count) (values * count)
+    again = record {
+      summed = ap (λ (k : ℕ). k + count) s.summed ∙ total_suc counts i more ∙ ap (λ (k : ℕ). total (take k counts)) (sym (add-one i));
+      times = ap (λ (k : ℕ). k * count) s.times ∙ size_suc counts i more ∙ ap (λ (k : ℕ). size (take k counts)) (sym (add-one i));
+    }
 
-      pub sum_fits : count + nodes ≤ 256
-      sum_fits = omega (arith, again.summed, total_bound counts n (a - 1) within four small)
+    -- of few counts of few nodes
+    module _ (four : length counts ≤ 4) (few : (a : ℕ) → a < length counts → get_or counts a 0 ≤ 64) where
+      pub sum_fits : nodes + count ≤ 256
+      sum_fits = omega (arith, again.summed, total_bound counts (i + 1) 0 (omega arith) (omega arith) (λ k l. few k (omega arith)))
 
-      pub product_fits : count * values ≤ 16777216
-      product_fits = omega (arith, again.times, size_bound counts n (a - 1) within four small)
+      pub product_fits : values * count ≤ 16777216
+      product_fits = omega (arith, again.times, size_bound counts (i + 1) 0 (omega arith) (omega arith) (λ k l. few k (omega arith)))
 
-    module _ (end : a ≤ 0) where
-      none : a ≡ 0
-      none = omega arith
+  pub done : length counts ≤ i → ◌≡◌ {A = Holding} (record { nodes = nodes; values = values }) (record { nodes = total counts; values = size counts })
+  done h = ap₂ (λ (n v : ℕ). record { nodes = n; values = v }) (s.summed ∙ ap total (take_all i counts h)) (s.times ∙ ap size (take_all i counts h))
 
-      all : take n counts ≡ take n own
-      all = ap (take n) w.same
-
-      pub done : (f : Fault) → f ≡ no_fault
-          → ◌≡◌ {A = Holding} (record { fault = f; nodes = nodes; values = values }) (record { fault = no_fault; nodes = total (take n own); values = size (take n own) })
-      done f e =
-          ap (λ (x : Fault). record { fault = x; nodes = nodes; values = values }) e
-          ∙ ap₂ (λ (x y : ℕ). record { fault = no_fault; nodes = x; values = y })
-          (s.summed ∙ ap (λ (k : ℕ). total (drop k (take n counts))) none ∙ ap total all)
-          (s.times ∙ ap (λ (k : ℕ). size (drop k (take n counts))) none ∙ ap size all)
+-- the counts of a shape
+module _ (own : List ℕ) (n : ℕ) (within : n ≤ length own) (few : (a : ℕ) → a < n → get_or own a 0 ≤ 64) where
+  pub counts_few : (a : ℕ) → a < length (take n own) → get_or (take n own) a 0 ≤ 64
+  counts_few a h =
+      let l : a < n = omega (arith, length-take-le n own within) in
+      subst (λ (k : ℕ). k ≤ 64) (sym (get_or-take n own a 0 l)) (few a l)

@@ -7,8 +7,7 @@ use native.Mathlib.Omega.{arith}
 use lib.ListN.{length, drop, get_or, length-drop}
 use lib.Seq.{length-take-le, get_or-take}
 use lib.Ieee.{Float}
-use Rattle.answer.specs.Faults.{good, ◌or◌}
-use Rattle.answer.specs.declared.Fault.{Fault}
+use Rattle.answer.specs.Faults.{Fault, good, ◌or◌}
 use Rattle.answer.proofs.Orders as orders
 use Rattle.checks.specs.Numbers.{nodes_fault, length_fault, axes_fault}
 use Rattle.checks.proofs.nodes.Rows.{nodes_axis}

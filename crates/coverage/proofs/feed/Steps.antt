@@ -3,7 +3,7 @@ use mathlib.Core.Path.{◌≡◌, sym, ap, ap₂, ◌∙◌}
 use mathlib.Core.Bool.{Bool, true, false, ◌&&◌}
 use mathlib.Core.Logic.{◌⊎◌, inl, inr}
 use mathlib.Core.List.{List, ◌++◌}
-use Prim.Native.Nat.{ℕ, ◌-◌, ◌*◌, ◌≤◌, ◌<◌}
+use Prim.Native.Nat.{ℕ, ◌+◌, ◌-◌, ◌*◌, ◌≤◌, ◌<◌}
 use native.Mathlib.Nat.{zero-mul}
 use native.Mathlib.Omega.{arith}
 use borrow.Author.Tests.{eq-eqb, eqb-true, ltb-true, ltb-false}
@@ -23,17 +23,22 @@ use Rattle.ninterp.proofs.CoverageBlocks.{block_used, block_records}
 use Rattle.ninterp.proofs.CountEnds.{used_is}
 use Rattle.program.specs.Scaffolding.{shifted}
 use Rattle.program.proofs.turns.Turning.{left_moved}
+use Rattle.program.specs.declared.Counts.{Counts}
 use Rattle.coverage.specs.Scaffolding.{Room, Stepped}
 
 -- b is the buffer before the block was read and c after it
-pub record Done (s : Shape) (nodes values : List Float) (size held have : ℕ) (t : Tally) (done : BlockTally) (b c : List ℕ) : Type 0 where
-  pub room : Room s size held b
+pub record Done (s : Shape) (nodes values : List Float) (size held have : ℕ) (t : Tally) (done : BlockTally) (b c : List ℕ) (n : Counts) : Type 0 where
+  pub room : Room s size held b n
   pub filled : Filled held b c have
   pub kept : length c ≡ length b
   pub counted : done ≡ block_tally t s nodes values (take have c)
 
-module _ {s : Shape} {nodes values : List Float} {size held have : ℕ} {t : Tally} {done : BlockTally} {b c : List ℕ}
-    (k : Done s nodes values size held have t done b c) where
+abbrev pub done_of : {s : Shape} {nodes values : List Float} {size held have : ℕ} {t : Tally} {done : BlockTally} {b c : List ℕ} {n : Counts} → Room s size held b n
+    → (held ≤ length b → Filled held b c have) → length c ≡ length b → done ≡ block_tally t s nodes values (take have c) → Done s nodes values size held have t done b c n
+done_of r f k e = record { room = r; filled = f r.holds; kept = k; counted = e }
+
+module _ {s : Shape} {nodes values : List Float} {size held have : ℕ} {t : Tally} {done : BlockTally} {b c : List ℕ} {n : Counts}
+    (k : Done s nodes values size held have t done b c n) where
   pub step_used : done.used ≤ have
   step_used =
       omega (
@@ -66,22 +71,21 @@ module _ {s : Shape} {nodes values : List Float} {size held have : ℕ} {t : Tal
         let short : have - done.used < size = ltb-true (have - done.used) size (and_right (eqb have (length f)) (ltb (have - done.used) size) h) in
         more (omega (arith, k.room.whole, k.room.sized, k.kept, wide))
 
-    stops : eqb have (length f) && ltb (have - done.used) size ≡ false → (have - held < length b - held) ⊎ (record_size s ≤ have - done.used)
-    stops h = by_eq have (length f) full (λ n. inl (omega (arith, n, k.filled.within, k.kept, wide, grown)))
+    stops : eqb have (length f) && ltb (have - done.used) size ≡ false → (held + length k.filled.block < length b) ⊎ (record_size s ≤ have - done.used)
+    stops h = by_eq have (length f) full (λ n. inl (omega (arith, n, k.filled.within, k.kept, wide, filled_count k.room.holds k.filled)))
       where
-        full : have ≡ length f → (have - held < length b - held) ⊎ (record_size s ≤ have - done.used)
+        full : have ≡ length f → (held + length k.filled.block < length b) ⊎ (record_size s ≤ have - done.used)
         full e =
             let left : ltb (have - done.used) size ≡ false = sym (ap (λ (x : Bool). x && ltb (have - done.used) size) (eq-eqb have (length f) e)) ∙ h in
             inr (omega (arith, ltb-false (have - done.used) size left, k.room.sized))
 
-    pub stepped : (go : Bool) → go ≡ eqb have (length f) && ltb (have - done.used) size
-        → Stepped s nodes values held t b f
-        (record { tally = done.tally; held = have - done.used; asked = length b - held; read = have - held; go = go })
-    stepped go g = record {
+    pub stepped : (go : Bool) (after : Counts) → go ≡ eqb have (length f) && ltb (have - done.used) size → after.asked ≡ n.asked + (length b - held)
+        → after.read ≡ n.read + (have - held) → Stepped s nodes values held t b f n after (record { tally = done.tally; held = have - done.used; go = go })
+    stepped go after g a r = record {
       block = k.filled.block;
-      room = omega (arith, k.room.holds);
-      filled = omega (arith, k.filled.within, k.kept);
-      all_read = omega (arith, filled_count k.room.holds k.filled);
+      filled = omega (arith, filled_count k.room.holds k.filled, k.filled.within, k.kept);
+      asked = omega (arith, a, k.room.holds);
+      read = omega (arith, r, filled_count k.room.holds k.filled);
       counted = ap (λ (d : BlockTally). d.tally) whole;
       left =
           left_moved have done.used c f k.filled.within step_used m

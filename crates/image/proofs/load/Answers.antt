@@ -1,33 +1,34 @@
-use mathlib.Core.Path.{◌≡◌, ◌∙◌}
-use mathlib.Core.Bool.{true}
-use lib.ListN.{length}
-use Rattle.answer.specs.Faults.{good}
-use Rattle.answer.proofs.Orders.{passes}
-use Rattle.image.specs.Image.{nodes_in, values_in}
-use Rattle.image.specs.Load.{load_fault}
-use Rattle.image.proofs.Loads.{load-refused, load_made, out_kept, out_filled, loaded_rooms, nodes_fit, values_fit}
+use Rattle.std.proofs.Common.{◌∙◌, sym, length-take-le}
+use Rattle.image.proofs.Floats.{nodes_held, values_held, nodes_front, values_front}
+use Rattle.image.proofs.Loads.{load-refused, load_made, out_kept, out_begun, nodes_fit, values_fit}
 use Rattle.image.proofs.load.Goals as goal
 
-pub returns-then-fault-ne0 : goal.returns-then-fault-ne0
-returns-then-fault-ne0 c =
-    let no = c.if-fault-ne0.true in
-    record {
-      answer = c.refused.ensures ∙ load-refused _ _ _ _ c.load_fault-fault.ensures no;
-      nodes_out = out_kept _ _ c.load_fault-fault.ensures _ c.args.nodes.now no;
-      values_out = out_kept _ _ c.load_fault-fault.ensures _ c.args.values.now no;
-    }
+pub returns-in-Err : goal.returns-in-Err
+returns-in-Err c =
+    let no = c.in-Err.ensures.fault in
+    record { answer = c.from.ensures ∙ load-refused _ _ _ _ _ no; nodes_out = out_kept _ _ _ _ _ no; values_out = out_kept _ _ _ _ _ no }
+
+pub slice_bounds-read-end-2 : goal.slice_bounds-read-end-2
+slice_bounds-read-end-2 c = sym (length-take-le _ _ (nodes_fit _ _ _ _ c.in-Ok.ensures.fault c.in-Ok.ensures.held))
+
+pub slice_bounds-read-end-4 : goal.slice_bounds-read-end-4
+slice_bounds-read-end-4 c = sym (length-take-le _ _ (values_fit _ _ _ _ c.in-Ok.ensures.fault c.in-Ok.ensures.held))
 
 pub read-requires : goal.read-requires
 read-requires c =
-    let known : good (load_fault c.args.img.now (length c.args.nodes.now) (length c.args.values.now)) ≡ true = (passes _ _ c.load_fault-fault.ensures c.if-fault-ne0.false) in
-    loaded_rooms _ _ _ known
+    let held = c.in-Ok.ensures.held in
+    record {
+      judged = held.judged;
+      nodes_room = length-take-le _ _ (nodes_fit _ _ _ _ c.in-Ok.ensures.fault held) ∙ nodes_held _ _ held;
+      values_room = length-take-le _ _ (values_fit _ _ _ _ c.in-Ok.ensures.fault held) ∙ values_held _ _ held;
+    }
 
 pub returns : goal.returns
 returns c =
-    let known : good (load_fault c.args.img.now (length c.args.nodes.now) (length c.args.values.now)) ≡ true = (passes _ _ c.load_fault-fault.ensures c.if-fault-ne0.false) in
-    let yes = c.if-fault-ne0.false in
+    let yes = c.in-Ok.ensures.fault in
+    let held = c.in-Ok.ensures.held in
     record {
-      answer = load_made _ _ _ _ c.load_fault-fault.ensures yes _ _ c.pass.ensures c.shape_of.ensures;
-      nodes_out = out_filled _ _ c.load_fault-fault.ensures (nodes_in c.args.img.now) c.args.nodes.now yes _ (nodes_fit _ _ _ known) c.read.ensures.nodes_read;
-      values_out = out_filled _ _ c.load_fault-fault.ensures (values_in c.args.img.now) c.args.values.now yes _ (values_fit _ _ _ known) c.read.ensures.values_read;
+      answer = load_made _ _ _ _ yes _ _ c.pass.ensures c.shape_of.ensures;
+      nodes_out = out_begun _ _ _ _ yes _ (nodes_front _ _ held _ _ c.read.ensures.nodes);
+      values_out = out_begun _ _ _ _ yes _ (values_front _ _ held _ _ c.read.ensures.values);
     }

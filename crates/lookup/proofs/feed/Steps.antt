@@ -23,17 +23,25 @@ use Rattle.program.specs.Input.{goes_on, end_into, end_size}
 use Rattle.program.specs.Scaffolding.{shifted}
 use Rattle.program.proofs.input.Ends.{goes_on_means, stops_means, no_record_left, end_told}
 use Rattle.program.proofs.turns.Turning.{turning}
-use Rattle.lookup.specs.Scaffolding.{Room, Last, Stepped}
+use Rattle.program.specs.declared.Counts.{Counts}
+use Rattle.program.specs.declared.print.Unprinted.{Unprinted}
+use Rattle.std.specs.Prelude.{Result, IfOk}
+use Rattle.lookup.specs.Scaffolding.{Room, Last, Turn, Stepped}
+use Rattle.lookup.specs.declared.feed.Next.{Next}
 
 -- b is the buffer before the block was read and c after it; d is the output before the records were answered and e after it
-pub record Done (p : Rule) (size held left have count written : ℕ) (b c d e : List ℕ) : Type 0 where
-  pub room : Room p size held b d
+pub record Done (p : Rule) (size held left have count written : ℕ) (b c d e : List ℕ) (n : Counts) : Type 0 where
+  pub room : Room p size held b d n
   pub filled : Filled held b c have
   pub kept : length c ≡ length b
   pub block : Block p left (take have c) d e count written
   pub spaced : length e ≡ length d
 
-module _ {p : Rule} {size held left have count written : ℕ} {b c d e : List ℕ} (k : Done p size held left have count written b c d e) where
+abbrev pub done_of : {p : Rule} {size held left have count written : ℕ} {b c d e : List ℕ} {n : Counts} → Room p size held b d n → (held ≤ length b → Filled held b c have)
+    → length c ≡ length b → Block p left (take have c) d e count written → length e ≡ length d → Done p size held left have count written b c d e n
+done_of r f k a s = record { room = r; filled = f r.holds; kept = k; block = a; spaced = s }
+
+module _ {p : Rule} {size held left have count written : ℕ} {b c d e : List ℕ} {n : Counts} (k : Done p size held left have count written b c d e n) where
   done : Answered p left (take have c) d e count written
   done = answered k.block k.spaced
 
@@ -95,36 +103,44 @@ module _ {p : Rule} {size held left have count written : ℕ} {b c d e : List �
     spent : (left - (left - count)) * p.size ≡ count * size
     spent = ap (λ (n : ℕ). n * p.size) (omega (arith, step_count)) ∙ sym same
 
-    goes : (ok : Bool) → goes_on ok full (left - count) whole ≡ true → left - count < left
-    goes ok h =
-        let q = goes_on_means full (left - count) whole ok h in
+    goes : goes_on full (left - count) whole ≡ true → left - count < left
+    goes h =
+        let q = goes_on_means full (left - count) whole h in
         let n : count ≡ 0 → ⊥ = some q.0 (⊎_elim (λ x. inl (eqb-true have (length f) x ∙ wide)) (λ x. inr (leb-true size (have - count * size) x)) q.1) in
         omega (arith, n, step_count)
 
-    stops : goes_on true full (left - count) whole ≡ false → (left - count ≡ 0) ⊎ ((have - held < length b - held) × (have - count * size < p.size))
+    stops : goes_on full (left - count) whole ≡ false → (left - count ≡ 0) ⊎ ((held + length k.filled.block < length b) × (have - count * size < p.size))
     stops h = ⊎_elim inl (λ q. inr (short (eqb-false have (length f) q.0), omega (arith, leb-false size (have - count * size) q.1, k.room.sized))) (stops_means full (left - count) whole h)
       where
-        short : (have ≡ length f → ⊥) → have - held < length b - held
-        short n = omega (arith, n, wide, k.kept, step_there, step-grown)
+        short : (have ≡ length f → ⊥) → held + length k.filled.block < length b
+        short n = omega (arith, n, wide, k.kept, step_there, filled_count k.room.holds k.filled)
 
-    pub stepped : (printed : ℕ) (go ok : Bool) → printed ≡ length (lines_first p count (take have c))
-        → go ≡ goes_on ok (eqb have (length f)) (left - count) (leb size (have - count * size))
-        → Stepped p held left b f
-        (record { held = have - count * size; left = left - count; asked = length b - held; read = have - held; printed = printed; go = go; ok = ok })
-    stepped printed go ok w g = record {
-      block = k.filled.block;
+    pub stepped : (printed : ℕ) (go : Bool) (after : Counts) → printed ≡ length (lines_first p count (take have c))
+        → go ≡ goes_on (eqb have (length f)) (left - count) (leb size (have - count * size)) → after.printed ≡ n.printed + printed
+        → Turn p held left b f (length d) k.filled.block n after (record { held = have - count * size; left = left - count; go = go })
+    stepped printed go after w g q = record {
       text = take written e;
-      room = omega (arith, k.room.holds);
-      filled = omega (arith, step_there, k.kept);
-      counted = omega (arith, filled_count k.room.holds k.filled);
-      told = ap length step_text_lem ∙ sym w;
+      told = omega (arith, q, ap length step_text_lem ∙ sym w);
+      short = omega (arith, length-take-le written e step_room, step_room, k.spaced);
       turned = rw (← k.filled.bytes) turn;
-      spent = omega (arith, spent, step_used, step-grown);
+      spent = omega (arith, spent, step_used, filled_count k.room.holds k.filled);
       holds = omega (arith, step_there, wide);
       within = omega arith;
-      goes = λ h. goes ok (sym g ∙ h);
-      stops = λ h o. stops (sym (ap (λ (x : Bool). goes_on x full (left - count) whole) o) ∙ sym g ∙ h);
+      goes = λ h. goes (sym g ∙ h);
+      stops = λ h. stops (sym g ∙ h);
     }
+
+-- what was read is counted, whether or not it could be answered
+module _ {p : Rule} {held left have : ℕ} {b c f : List ℕ} {wide : ℕ} {before after : Counts} (h : held ≤ length b) (kept : length c ≡ length b) (filled : Filled held b c have) where
+  pub block_read : (r : Result Next Unprinted) → after.asked ≡ before.asked + (length b - held) → after.read ≡ before.read + (have - held)
+      → IfOk r (Turn p held left b f wide filled.block before after) → Stepped p held left b f wide before after r
+  block_read r a q t = record {
+    block = filled.block;
+    filled = omega (arith, filled_count h filled, filled.within, kept);
+    asked = omega (arith, a, h);
+    read = omega (arith, q, filled_count h filled);
+    turn = t;
+  }
 
 -- what is put at the input's end is what is printed of the rest
 pub end_put : (p : Rule) → p.cut ≡ line_of (refused (refusal 3 0 2)) → (left : ℕ) (rest out : List ℕ) → longest ≤ length out → Last p left rest

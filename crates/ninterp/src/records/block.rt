@@ -7,7 +7,7 @@ ghost use Rattle.ninterp.specs.Records.{record_size, record_answer, record_rule}
 ghost use Rattle.ninterp.specs.Scaffolding.{Known};
 
 use crate::records;
-use answer::Fault;
+use answer::Refusal;
 use checks::table;
 use layout::Shape;
 
@@ -23,8 +23,8 @@ fn put_answer(
     shape: Shape,
     nodes: &[f64],
     values: &[f64],
-    table: Fault,
-    uniform: Fault,
+    table: Result<(), Refusal>,
+    uniform: Result<(), Refusal>,
     rec: &[u8],
     out: &mut [u8],
     to: usize,
@@ -44,8 +44,8 @@ fn answer_records(
     shape: Shape,
     nodes: &[f64],
     values: &[f64],
-    table: Fault,
-    uniform: Fault,
+    table: Result<(), Refusal>,
+    uniform: Result<(), Refusal>,
     size: usize,
     records: &[u8],
     most: usize,
@@ -56,23 +56,18 @@ fn answer_records(
     ensures { Block (record_rule shape nodes.now values.now) most records.now
         out.old out.new result.count result.written }
 {
-    let mut count: usize = 0;
-    let mut at: usize = 0;
-    let mut written: usize = 0;
-    while count < most {
-        if records.len() - at < size {
-            return Done { count, written };
+    let mut done = Done {
+        count: 0,
+        written: 0,
+    };
+    for rec in records.chunks_exact(size).take(most) {
+        if out.len() - done.written < lines::LONGEST {
+            break;
         }
-        if out.len() - written < lines::LONGEST {
-            return Done { count, written };
-        }
-        let end = at + size;
-        let rec = &records[at..end];
-        written = put_answer(shape, nodes, values, table, uniform, rec, out, written);
-        at = end;
-        count += 1;
+        done.written = put_answer(shape, nodes, values, table, uniform, rec, out, done.written);
+        done.count += 1;
     }
-    Done { count, written }
+    done
 }
 
 // Answers the whole records of a block in order, until `most` are, or no whole one is left, or a longest line has no room.

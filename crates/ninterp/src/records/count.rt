@@ -9,7 +9,7 @@ ghost use Rattle.ninterp.specs.Counting.{outcome_of, counted_record, block_tally
 ghost use Rattle.ninterp.specs.Scaffolding.{FlatTable, Known};
 
 use crate::records;
-use answer::{Answer, Fault};
+use answer::{Answer, Refusal};
 use axis::cells;
 use checks::{lent, table};
 use layout::Shape;
@@ -28,19 +28,13 @@ fn cells_of(shape: Shape, nodes: &[f64], rec: &[u8]) -> [usize; 4]
     requires { FlatTable shape nodes.now }
     ensures { result ≡ tabulate 4 (λ a. cond (ltb a shape.axes) (record_cell shape nodes.now a rec.now) 0) }
 {
-    let axes = shape.axes;
-    let counts = shape.counts;
     let mut found = [0usize; 4];
     let mut at: usize = 0;
-    let mut a: usize = 0;
-    while a < axes {
-        let count = counts[a];
-        let end = at + count;
+    for a in 0..shape.axes {
+        let end = at + shape.counts[a];
         let reading = little_endian::float(rec, 1 + 8 * a);
-        let cell = cells::lower_index(&nodes[at..end], reading);
-        found[a] = cell;
+        found[a] = cells::lower_index(&nodes[at..end], reading);
         at = end;
-        a += 1;
     }
     found
 }
@@ -106,8 +100,8 @@ fn count_next(
     shape: Shape,
     nodes: &[f64],
     values: &[f64],
-    table: Fault,
-    uniform: Fault,
+    table: Result<(), Refusal>,
+    uniform: Result<(), Refusal>,
     rec: &[u8],
     cells: &mut [u32; 252],
     numbers: &mut [u32; 21],
@@ -130,39 +124,40 @@ fn count_records(
     shape: Shape,
     nodes: &[f64],
     values: &[f64],
-    table: Fault,
-    uniform: Fault,
+    table: Result<(), Refusal>,
+    uniform: Result<(), Refusal>,
     size: usize,
     records: &[u8],
 ) -> BlockTally
-    requires { Known shape nodes.now values.now table uniform × (size ≡ record_size shape) }
+    requires known { Known shape nodes.now values.now table uniform }
+    requires size_value { size ≡ record_size shape }
     ensures { result ≡ block_tally t shape nodes.now values.now records.now }
 {
     let mut cells = t.cells;
     let mut numbers = t.numbers;
     let mut read = t.records;
-    let mut at: usize = 0;
-    while read < lent::MOST_RECORDS && records.len() - at >= size {
-        let end = at + size;
+    let mut used: usize = 0;
+    let most = lent::MOST_RECORDS.saturating_sub(read) as usize;
+    for rec in records.chunks_exact(size).take(most) {
         read = count_next(
             shape,
             nodes,
             values,
             table,
             uniform,
-            &records[at..end],
+            rec,
             &mut cells,
             &mut numbers,
             read,
         );
-        at = end;
+        used += size;
     }
     let tally = Tally {
         records: read,
         cells,
         numbers,
     };
-    BlockTally { tally, used: at }
+    BlockTally { tally, used }
 }
 
 // Counts the whole records of a block in order, as many as may still come, and gives the tally after them.
@@ -204,7 +199,7 @@ pub fn counted_rest(
 ) -> TallyAnswer
     ensures { result ≡ counted_rest t shape nodes.now values.now rest.now }
 {
-    if rest.len() == 0 {
+    if rest.is_empty() {
         let answer = answer::pass();
         return TallyAnswer { answer, tally: t };
     }

@@ -4,8 +4,7 @@ use mathlib.Core.Bool.{Bool, true, not, ◌||◌}
 use Prim.Native.Nat.{ℕ, ◌<◌}
 use borrow.Author.Tests.{eq-eqb, eqb-true, lt-ltb, ltb-true, lt-leb, leb-false}
 use lib.Dec.{eqb, leb, ltb}
-use Rattle.answer.specs.Faults.{refusal, no_fault, good, when}
-use Rattle.answer.specs.declared.Fault.{Fault}
+use Rattle.answer.specs.Faults.{Fault, refusal, no_fault, good, when}
 use Rattle.answer.proofs.Orders as orders
 use Rattle.answer.proofs.Tests.{not_false, neither_left, neither_right}
 use Rattle.checks.specs.Numbers.{no_axis_fault, not_first_fault}

@@ -10,15 +10,14 @@ use borrow.Author.Tests.{eq-eqb, ne_eqb}
 use lib.Dec.{eqb}
 use lib.Ieee.{Float}
 use lib.ListN.{length, take, drop, drop_of_length-le}
-use Rattle.answer.specs.Faults.{good}
+use Rattle.answer.specs.Faults.{Fault, good}
 use Rattle.answer.specs.Answer.{refused, answered, fine, ◌then◌}
-use Rattle.answer.specs.declared.Fault.{Fault}
 use Rattle.answer.specs.declared.Answer.{Answer}
 use Rattle.answer.proofs.Answers.{then_good, then_bad, refused_number}
 use Rattle.answer.proofs.Orders.{clash}
 use Rattle.layout.specs.declared.Shape.{Shape}
 use Rattle.layout.proofs.Totals.{take_there}
-use Rattle.checks.specs.Scaffolding.{sizes_of}
+use Rattle.checks.specs.Scaffolding.{sums_of}
 use Rattle.checks.specs.Shapes.{shape_fault}
 use Rattle.checks.specs.declared.shapes.Holding.{Holding}
 use Rattle.checks.proofs.shapes.Frames.{shape_four}
@@ -34,6 +33,12 @@ use Rattle.program.specs.Run.{run_by}
 use Rattle.program.specs.Whole.{TableOf, Ran}
 use Rattle.program.specs.Scaffolding.{Loads}
 use Rattle.program.specs.declared.front.Front.{Front}
+use Rattle.program.specs.declared.print.Unprinted.{Unprinted}
+use Rattle.std.specs.Prelude.{Result, Ok, Err, OnOk, IfOk}
+use Rattle.std.specs.Result.{result_unwrap_or}
+use Rattle.answer.specs.Rows.{said}
+use Rattle.answer.specs.declared.Refusal.{Refusal}
+use Rattle.answer.proofs.Checks.{fails}
 
 -- an answer's number is 0 exactly where nothing is wrong
 pub number_good : (f : Fault) (a : Answer) → a ≡ (f then fine) → eqb a.number 0 ≡ good f
@@ -46,6 +51,11 @@ number_good f a e = go (good f) refl
     go : (b : Bool) → good f ≡ b → eqb a.number 0 ≡ good f
     go true h = ap number (e ∙ then_good f fine h) ∙ sym h
     go false h = ap number (e ∙ then_bad f fine h) ∙ refused_number f
+
+-- what a shape holds that passes 1 and 2, whatever is held of another
+pub sized_held : (s : Shape) (r : Result Holding Refusal) → said r ≡ shape_fault s → IfOk r (λ h. h ≡ sums_of s) → (d h : Holding) → h ≡ result_unwrap_or r d → good (shape_fault s) ≡ true → h ≡ sums_of s
+sized_held s (Ok x) e held d h q g = q ∙ held
+sized_held s (Err x) e held d h q g = clash (good (shape_fault s)) g (fails Holding x (shape_fault s) e)
 
 least_front : (n m : ℕ) (xs : List Float) → n ≡ min m (length xs) → take n xs ≡ take m xs
 least_front n m xs q = ap (λ (k : ℕ). take k xs) q ∙ take_there m xs
@@ -64,7 +74,7 @@ module _ (input : List ℕ) (size : ℕ) (e : size ≡ min (image_size input) (l
 
   -- ---- what the loader gave
   module _ {ns vs ns' vs' : List Float} {r : LoadAnswer} (l : Loaded (take size input) ns vs ns' vs' r) (x : length ns ≡ 256) (y : length vs ≡ 4096)
-      (h : Holding) (q : h ≡ sizes_of r.shape) (n v : ℕ) (i : n ≡ min h.nodes (length ns')) (j : v ≡ min h.values (length vs')) where
+      (h : Holding) (q : good (shape_fault r.shape) ≡ true → h ≡ sums_of r.shape) (n v : ℕ) (i : n ≡ min h.nodes (length ns')) (j : v ≡ min h.values (length vs')) where
     same : load_fault (take size input) (length ns) (length vs) ≡ load_fault (image_in input) 256 4096
     same = rw (x, y, front_image)
 
@@ -76,8 +86,8 @@ module _ (input : List ℕ) (size : ℕ) (e : size ≡ min (image_size input) (l
     table z = record {
       loads = loads;
       shape_is = front_shape l given ∙ ap shape_of front_image;
-      nodes_are = least_front n h.nodes ns' i ∙ front_nodes l given h q ∙ ap nodes_in front_image;
-      values_are = least_front v h.values vs' j ∙ front_values l given h q ∙ ap values_in front_image;
+      nodes_are = least_front n h.nodes ns' i ∙ front_nodes l given h held ∙ ap nodes_in front_image;
+      values_are = least_front v h.values vs' j ∙ front_values l given h held ∙ ap values_in front_image;
     }
       where
         loads : good (load_fault (image_in input) 256 4096) ≡ true
@@ -85,6 +95,9 @@ module _ (input : List ℕ) (size : ℕ) (e : size ≡ min (image_size input) (l
 
         given : good (load_fault (take size input) (length ns) (length vs)) ≡ true
         given = ap good same ∙ loads
+
+        held : h ≡ sums_of r.shape
+        held = q (ap (λ (s : Shape). good (shape_fault s)) (front_shape l given) ∙ loaded_shape (take size input) (length ns) (length vs) given)
 
     pub front_loads : Loads input ns' vs' (record { size = size; answer = r.answer; shape = r.shape; nodes = n; values = v })
     front_loads = record { image_is = front_image; rest_is = front_rest; told = told; table = table }
@@ -125,12 +138,13 @@ module _ {input : List ℕ} {ns vs : List Float} {f : Front} (l : Loads input ns
     pub image_table : f.answer.number ≡ 0 → TableOf input f.shape (take f.nodes ns) (take f.values vs)
     image_table h = subst (λ (x : List ℕ). TableOf x f.shape (take f.nodes ns) (take f.values vs)) e (l.table h)
 
-pub refused_ran : (text : List ℕ → List ℕ → List ℕ) (enough : ℕ) (img : List ℕ) (printed : ℕ) (ok : Bool) → good (load_fault img 256 4096) ≡ false
-    → printed ≡ length (run_by text img) → Ran text enough img (record { asked = 0; read = 0; printed = printed; ok = ok })
-refused_ran text enough img printed ok h e = record {
+-- nothing is read after it
+pub refused_ran : (text : List ℕ → List ℕ → List ℕ) (enough : ℕ) (img : List ℕ) (printed : ℕ) (r : Result (Unit {0}) Unprinted) → good (load_fault img 256 4096) ≡ false
+    → OnOk r (printed ≡ length (run_by text img)) → Ran text enough img (record { asked = 0; read = 0; printed = printed }) r
+refused_ran text enough img printed r h e = record {
   records = [];
   all_read = refl;
-  all_printed = λ _. e ∙ ap (λ (l : List ℕ). length (run_by text l)) (sym (append-nil img));
+  all_printed = rw (append-nil img) e;
   refused_ends = λ _. refl;
   input_ends = λ t. clash (good (load_fault img 256 4096)) t h;
 }

@@ -10,10 +10,12 @@ use lib.Dec.{eqb, ltb}
 use lib.ListN.{length, drop}
 use Rattle.answer.specs.Faults.{refusal, no_fault, good, when, given, filled_into}
 use Rattle.answer.specs.Answer.{refused, fine}
-use Rattle.answer.specs.declared.Fault.{Fault}
 use Rattle.answer.specs.declared.Answer.{Answer}
 use Rattle.answer.proofs.Orders as orders
-use Rattle.answer.proofs.Answers.{then_stops, then_goes_on}
+use Rattle.answer.proofs.Checks.{given_kept, given-refused, then_stops, then_goes_on}
+use Rattle.answer.specs.Rows.{said, fault_of}
+use Rattle.answer.specs.declared.Refusal.{Refusal}
+use Rattle.std.specs.Prelude.{Ok, Err}
 use Rattle.checks.specs.Numbers.{room_fault}
 use Rattle.checks.proofs.lent.Rows.{room_passed}
 use Rattle.lines.specs.Line.{line_of}
@@ -45,18 +47,17 @@ put_front d xs = rw (zero-add (length xs))
 
 -- ---- the room
 
--- r is what the check of the room gave
-module _ (need room : ℕ) {r : Fault} (e : r ≡ room_fault 2 need room) where
+module _ (need room : ℕ) where
   both : (a b : Answer) (v w : ℕ) → a ≡ b → v ≡ w → ◌≡◌ {A = RunAnswer} (record { answer = a; written = v }) (record { answer = b; written = w })
   both a b v w p q = ap₂ (λ (x : Answer) (n : ℕ). record { answer = x; written = n }) p q
 
-  pub room_refused : (r.number ≡ 0 → ⊥) → (a : Answer) → a ≡ refused r → record { answer = a; written = 0 } ≡ room_answer need room
+  pub room_refused : (e : Refusal) → said {A = Unit {0}} (Err e) ≡ room_fault 2 need room → (a : Answer) → a ≡ refused (fault_of e) → record { answer = a; written = 0 } ≡ room_answer need room
   unfolding room_answer
-  room_refused h a q = both a _ 0 _ (then_stops r (room_fault 2 need room) e a fine h q) (orders.given-refused r (room_fault 2 need room) e need 0 h)
+  room_refused e s a q = both a _ 0 _ (then_stops (Unit {0}) e (room_fault 2 need room) s a fine q) (given-refused (Unit {0}) e (room_fault 2 need room) s need 0)
 
-  pub room_given : r.number ≡ 0 → (a : Answer) → a ≡ fine → record { answer = a; written = need } ≡ room_answer need room
+  pub room_given : {x : Unit {0}} → said (Ok x) ≡ room_fault 2 need room → (a : Answer) → a ≡ fine → record { answer = a; written = need } ≡ room_answer need room
   unfolding room_answer
-  room_given h a q = both a _ need _ (then_goes_on r (room_fault 2 need room) e a fine h q) (orders.given_kept r (room_fault 2 need room) e need 0 need h refl)
+  room_given {x} s a q = both a _ need _ (then_goes_on x (room_fault 2 need room) s a fine q) (given_kept x (room_fault 2 need room) s need need 0 refl)
 
 -- a text put where it has room
 all_missing : (text d : List ℕ) → length d < length text → all_into text d 0 ≡ d

@@ -1,37 +1,19 @@
-use native.Mathlib.Omega.{arith}
-use mathlib.Core.Bool.{true}
-use mathlib.Core.Path.{◌≡◌}
-use Rattle.answer.specs.Faults.{good}
-use Rattle.answer.proofs.Orders.{passes}
-use Rattle.orders.specs.Orders.{linear_uniform_front}
+use mathlib.Core.Path.{ap, ◌∙◌}
+use Rattle.answer.specs.Faults.{Fault}
+use Rattle.answer.proofs.Orders.{first-passed}
+use Rattle.slices.specs.Slices.{slice_answer}
 use Rattle.slices.specs.LinearSlices.{linear_uniform_slice_fault, linear_uniform_slice, linear_uniform_sliced}
-use Rattle.slices.specs.Scaffolding.{Ready}
-use Rattle.slices.proofs.Sliced.{linear_ready, linear-first, uniform_linear, or_kept, or_filled, on-axis, answer_refused, sliced}
+use Rattle.slices.proofs.Sliced.{linear_axis, uniform_linear, where_made}
 use Rattle.slices.proofs.linear_uniform.Goals as goal
 
-pub returns-then-fault-ne0 : goal.returns-then-fault-ne0
-unfolding linear_uniform_slice linear_uniform_sliced linear_uniform_slice_fault
-returns-then-fault-ne0 c =
-    let all = sliced _ _ _ (or_kept _ _ c.linear_uniform_front-fault.ensures _ _ _ c.if-fault-ne0.true) _ (answer_refused _ _ _ c.if-fault-ne0.true _ c.refused_slice.ensures) in
-    record { value = all.0; out_after = all.1 }
-
-pub linear_judged-fault-requires : goal.linear_judged-fault-requires
-linear_judged-fault-requires c =
-    let passed : good (linear_uniform_front c.args.shape c.args.nodes.now c.args.values.now c.args.axis) ≡ true = (passes _ _ c.linear_uniform_front-fault.ensures c.if-fault-ne0.false) in
-    let known : Ready c.args.shape c.args.nodes.now c.args.values.now 0 = (linear_ready _ _ _ _ (uniform_linear _ _ _ _ passed)) in
-    known
-
 pub slice_answer-requires : goal.slice_answer-requires
-slice_answer-requires c =
-    let passed : good (linear_uniform_front c.args.shape c.args.nodes.now c.args.values.now c.args.axis) ≡ true = (passes _ _ c.linear_uniform_front-fault.ensures c.if-fault-ne0.false) in
-    let known : Ready c.args.shape c.args.nodes.now c.args.values.now 0 = (linear_ready _ _ _ _ (uniform_linear _ _ _ _ passed)) in
-    let j = known in
-    record { le_axes = omega (arith, j.many); axes_bound = j.four }
+unfolding linear_uniform_slice_fault
+slice_answer-requires c = where_made _ _ c.linear_uniform_into-judged.ensures.judged (λ g. linear_axis _ _ _ _ (uniform_linear _ _ _ _ (first-passed _ _ g)))
 
-pub returns : goal.returns
-unfolding linear_uniform_slice linear_uniform_sliced linear_uniform_slice_fault
-returns c =
-    let passed : good (linear_uniform_front c.args.shape c.args.nodes.now c.args.values.now c.args.axis) ≡ true = (passes _ _ c.linear_uniform_front-fault.ensures c.if-fault-ne0.false) in
-    let first : c.args.axis ≡ 0 = (linear-first _ _ _ _ (uniform_linear _ _ _ _ passed)) in
-    let all = sliced _ _ _ (or_filled _ _ c.linear_uniform_front-fault.ensures _ _ _ c.if-fault-ne0.false (on-axis _ _ _ _ _ _ _ first c.linear_judged-fault.ensures)) _ c.slice_answer.ensures in
-    record { value = all.0; out_after = all.1 }
+pub returns-clause-value : goal.returns-clause-value
+unfolding linear_uniform_slice
+returns-clause-value c = c.slice_answer.ensures ∙ ap (λ (f : Fault). slice_answer f c.args.shape c.args.axis) c.linear_uniform_into-judged.ensures.judged
+
+pub returns-clause-out_after : goal.returns-clause-out_after
+unfolding linear_uniform_sliced
+returns-clause-out_after c = c.linear_uniform_into-judged.ensures.output

@@ -1,24 +1,14 @@
-use mathlib.Core.Path.{refl, ap, ◌∙◌}
-use Prim.Native.Nat.{◌≤◌}
-use native.Mathlib.Omega.{arith}
+use mathlib.Core.Path.{◌≡◌, ap, ◌∙◌}
+use Rattle.std.proofs.Common.{rules, length}
 use Rattle.layout.proofs.Totals.{counts_least}
 use Rattle.tally.specs.Tally.{cells_more}
 use Rattle.tally.proofs.Steps.{cells_step, cells_done}
 use Rattle.tally.proofs.count_cells.Goals as goal
 
-pub loop-a-init : goal.loop-a-init
-loop-a-init c = (omega arith, refl)
-
 pub loop-a-preserved : goal.loop-a-preserved
-loop-a-preserved c =
-    let few : c.least-n.result ≤ 4 = omega (arith, c.least-n.ensures) in (
-      omega arith,
-      cells_step c.args.found c.least-n.result c.loop-a.a c.loop-a.cells _ _ c.loop-a-test.true
-          (omega (arith, c.well_formed.1.1.0.1.0.1, few)) c.count_cell.ensures c.loop-a.invariant.1,
-    )
+loop-a-preserved c = cells_step _ _ _ _ _ c.loop-a-test.true c.count_cell.ensures c.loop-a.invariant
 
 pub returns : goal.returns
 returns c =
-    cells_done c.args.found c.least-n.result c.loop-a.a c.loop-a.cells _ c.loop-a-test.false c.loop-a.invariant.1
-    ∙ ap (cells_more c.args.cells.now 0)
-    (counts_least c.args.found c.least-n.result c.args.axes c.well_formed.1.1.0.1.0.1 c.least-n.ensures)
+    let four : length c.args.found ≡ 4 = search rules in
+    cells_done _ _ _ _ c.loop-a-test.false c.loop-a.invariant ∙ ap (cells_more c.args.cells.now 0) (counts_least _ _ _ four c.min.ensures)

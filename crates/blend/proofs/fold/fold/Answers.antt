@@ -1,9 +1,5 @@
-use mathlib.Core.Path.{refl, ap, ◌∙◌}
-use mathlib.Core.List.{List}
-use Prim.Native.Nat.{◌+◌, ◌≤◌}
-use native.Mathlib.Omega.{arith}
-use lib.ListN.{take, drop, get_or}
-use Rattle.layout.proofs.Totals.{counts_least}
+use Rattle.std.proofs.Common.{◌≡◌, ℕ, ◌+◌, ◌≤◌, min, List, length, take, drop, get_or, ap, ◌∙◌, arith, rules, length-take}
+use Rattle.layout.proofs.Totals.{take_there}
 use Rattle.rust.specs.Scaffolding.{diffs, butterfly}
 use Rattle.rust.specs.declared.AxisLocation.{AxisLocation}
 use Rattle.rust.specs.declared.AxisLocation.TheVariants.{Exact}
@@ -11,25 +7,25 @@ use Rattle.blend.proofs.fold.Counts.{count_few}
 use Rattle.blend.proofs.fold.Folds.{fold_step, fold_fits, fold_at, fold_done}
 use Rattle.blend.proofs.fold.fold.Goals as goal
 
-pub loop-d-init : goal.loop-d-init
-loop-d-init c = ((omega arith, c.well_formed.0.1.0.1), record { counted = c.corner_count-half.ensures; same = refl })
-
 pub merge-requires : goal.merge-requires
 merge-requires c =
-    let few : c.least-axes.result ≤ 4 = omega (arith, c.least-axes.ensures) in
-    let z = fold_at c.args.locations c.least-axes.result c.loop-d.d c.loop-d-test.true (omega (arith, c.well_formed.1.0.1.0.1, few)) c.loop-d.invariant.1 in
-    omega (arith, c.loop-d.invariant.0.1, fold_fits (get_or c.args.locations c.loop-d.d (Exact 0)) (drop (c.loop-d.d + 1) (take c.least-axes.result c.args.locations)) c.loop-d.half c.half_of-half.result z.counted (count_few c.args.locations c.least-axes.result c.loop-d.d c.loop-d.half few c.loop-d.invariant.1.counted) c.half_of-half.ensures)
+    let xs = take c.min.result c.args.locations in
+    let d = c.loop-location.location-index in
+    let four : length c.args.locations ≡ 4 = search rules in
+    let few : length xs ≤ 4 = omega (arith, length-take c.min.result c.args.locations) in
+    let z = fold_at xs d c.loop-location-test.true c.loop-location.invariant in
+    let fits = fold_fits (get_or xs d (Exact 0)) (drop (d + 1) xs) c.loop-location.half c.half_of-half.result z.counted (count_few xs d c.loop-location.half few c.loop-location.invariant.counted) c.half_of-half.ensures in
+    let wide : length c.loop-location.vals ≡ 16 = search rules in
+    omega (arith, fits)
 
-pub loop-d-preserved : goal.loop-d-preserved
-loop-d-preserved c =
-    let few : c.least-axes.result ≤ 4 = omega (arith, c.least-axes.ensures) in
-    let z = fold_at c.args.locations c.least-axes.result c.loop-d.d c.loop-d-test.true (omega (arith, c.well_formed.1.0.1.0.1, few)) c.loop-d.invariant.1 in (
-      (omega (arith, c.loop-d-test.true), c.merge.auto.vals ∙ c.loop-d.invariant.0.1),
-      fold_step (get_or c.args.locations c.loop-d.d (Exact 0)) (drop (c.loop-d.d + 1) (take c.least-axes.result c.args.locations)) _ c.loop-d.v _ c.loop-d.half c.half_of-half.result z c.half_of-half.ensures c.merge.ensures,
-    )
+pub loop-location-preserved : goal.loop-location-preserved
+loop-location-preserved c =
+    let z = fold_at (take c.min.result c.args.locations) c.loop-location.location-index c.loop-location-test.true c.loop-location.invariant in
+    fold_step _ _ _ _ _ _ _ z c.half_of-half.ensures c.merge.ensures
 
 pub returns : goal.returns
 returns c =
-    let m = c.least-axes.result in
-    fold_done c.args.locations m c.loop-d.d c.loop-d-test.false c.loop-d.invariant.1
-    ∙ ap (λ (ls : List AxisLocation). butterfly (diffs ls) c.args.vals) (counts_least c.args.locations m c.args.n c.well_formed.1.0.1.0.1 c.least-axes.ensures)
+    let four : length c.args.locations ≡ 4 = search rules in
+    let least : c.min.result ≡ min c.args.n (length c.args.locations) = omega arith in
+    fold_done _ _ c.loop-location-test.false c.loop-location.invariant
+    ∙ ap (λ (ls : List AxisLocation). butterfly (diffs ls) c.args.vals) (ap (λ (k : ℕ). take k c.args.locations) least ∙ take_there c.args.n c.args.locations)

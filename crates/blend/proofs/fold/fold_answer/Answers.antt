@@ -1,16 +1,14 @@
-use mathlib.Core.Path.{ap, ◌∙◌}
+use Rattle.std.proofs.Common.{ap, ◌∙◌}
 use Rattle.answer.specs.Answer.{answered}
-use Rattle.answer.proofs.Answers.{then_stops, then_goes_on}
+use Rattle.answer.proofs.Checks.{then_stops, then_goes_on}
 use Rattle.checks.specs.Numbers.{result_fault}
 use Rattle.blend.specs.Blend.{computed}
 use Rattle.blend.proofs.fold.fold_answer.Goals as goal
 
-pub returns-then-fault-ne0 : goal.returns-then-fault-ne0
+pub returns-in-Ok : goal.returns-in-Ok
 unfolding computed
-returns-then-fault-ne0 c =
-    then_stops _ _ (c.result_fault-fault.ensures ∙ ap (result_fault 0) c.fold-value.ensures) _ _ c.if-fault-ne0.true c.refuse.ensures
+returns-in-Ok c = then_goes_on _ _ (c.in-Ok.ensures ∙ ap (result_fault 0) c.fold-value.ensures) _ _ (c.from.ensures ∙ ap answered c.fold-value.ensures)
 
-pub returns : goal.returns
+pub returns-in-Err : goal.returns-in-Err
 unfolding computed
-returns c =
-    then_goes_on _ _ (c.result_fault-fault.ensures ∙ ap (result_fault 0) c.fold-value.ensures) _ _ c.if-fault-ne0.false (c.succeed.ensures ∙ ap answered c.fold-value.ensures)
+returns-in-Err c = then_stops _ _ _ (c.in-Err.ensures ∙ ap (result_fault 0) c.fold-value.ensures) _ _ c.from-in-Err.ensures

@@ -1,23 +1,17 @@
-use mathlib.Core.Path.{ap, ◌∙◌}
-use native.Mathlib.Omega.{arith}
+use Rattle.std.proofs.Common.{ap, ◌∙◌}
 use Rattle.answer.proofs.Loops as loops
 use Rattle.checks.specs.Numbers.{result_fault}
 use Rattle.blend.proofs.runs.Blends.{results_blends}
 use Rattle.blend.proofs.runs.blend_fault.Goals as goal
 
-pub loop-i-init : goal.loop-i-init
-loop-i-init c = loops.begin _ 0 _ _ (omega arith)
-
-pub returns-then-fault-ne0 : goal.returns-then-fault-ne0
-returns-then-fault-ne0 c =
-    loops.stop _ _ _ _ _ c.loop-i.invariant c.loop-i-test.true _ (c.result_fault-fault.ensures ∙ ap (result_fault _) c.blend.ensures) c.if-fault-ne0.true
-    ∙ results_blends _ _ _ _ c.least-count.ensures
+pub returns-in_err-result_fault : goal.returns-in_err-result_fault
+returns-in_err-result_fault c =
+    loops.stop _ _ _ _ _ c.loop-i.invariant c.loop-i-test.true _ _ (c.in_err-result_fault.ensures ∙ ap (result_fault _) c.blend.ensures) _ c.from_residual.ensures
+    ∙ results_blends _ _ _ _ c.min-count.ensures
 
 pub loop-i-preserved : goal.loop-i-preserved
 loop-i-preserved c =
-    loops.again _ _ _ _ _ c.loop-i.invariant c.loop-i-test.true _ (c.result_fault-fault.ensures ∙ ap (result_fault _) c.blend.ensures) c.if-fault-ne0.false
+    loops.again _ _ _ _ _ c.loop-i.invariant c.loop-i-test.true _ (c.in_ok-result_fault.ensures ∙ ap (result_fault _) c.blend.ensures)
 
 pub returns : goal.returns
-returns c =
-    loops.done _ _ _ _ _ c.loop-i.invariant c.loop-i-test.false _ c.no_fault.ensures
-    ∙ results_blends _ _ _ _ c.least-count.ensures
+returns c = loops.done _ _ _ _ _ c.loop-i.invariant _ c.loop-i-test.false ∙ results_blends _ _ _ _ c.min-count.ensures

@@ -1,19 +1,12 @@
-use Rattle.checks.specs.Numbers.{directions_fault}
-use native.Mathlib.Omega.{arith}
 use Rattle.answer.proofs.Loops as loops
 use Rattle.checks.proofs.lists.directions_fault.Goals as goal
 
-pub loop-a-init : goal.loop-a-init
-unfolding directions_fault
-loop-a-init c = loops.begin _ 0 _ _ (omega arith)
-
-pub returns-then-fault-ne0 : goal.returns-then-fault-ne0
-returns-then-fault-ne0 c =
-    loops.stop _ _ _ _ _ c.loop-a.invariant c.loop-a-test.true _ c.direction_fault-fault.ensures c.if-fault-ne0.true
+pub returns-in_err-direction_fault : goal.returns-in_err-direction_fault
+returns-in_err-direction_fault c =
+    loops.stop _ _ _ _ _ c.loop-a.invariant c.loop-a-test.true _ _ c.in_err-direction_fault.ensures _ c.from_residual.ensures
 
 pub loop-a-preserved : goal.loop-a-preserved
-loop-a-preserved c =
-    loops.again _ _ _ _ _ c.loop-a.invariant c.loop-a-test.true _ c.direction_fault-fault.ensures c.if-fault-ne0.false
+loop-a-preserved c = loops.again _ _ _ _ _ c.loop-a.invariant c.loop-a-test.true _ c.in_ok-direction_fault.ensures
 
 pub returns : goal.returns
-returns c = loops.done _ _ _ _ _ c.loop-a.invariant c.loop-a-test.false _ c.no_fault.ensures
+returns c = loops.done _ _ _ _ _ c.loop-a.invariant _ c.loop-a-test.false

@@ -1,4 +1,3 @@
-use Prim.Native.Nat.{◌-◌}
 use Rattle.checks.specs.Numbers.{direction_fault, directions_fault}
 use lib.ListN.{length, get_or}
 use Rattle.answer.proofs.Loops as loops
@@ -6,6 +5,3 @@ use Rattle.checks.proofs.lists.directions_fault.Given as goal
 
 abbrev pub invariant-loop-a : goal.invariant-loop-a
 invariant-loop-a l = loops.Left (λ k. direction_fault k (get_or l.directions k 0)) (directions_fault l.directions) 0 (length l.directions) l.a
-
-abbrev pub decreases-loop-a : goal.decreases-loop-a
-decreases-loop-a l = length l.directions - l.a

@@ -6,6 +6,3 @@ use Rattle.checks.proofs.spacing.uniform_fault.Given as goal
 
 abbrev pub invariant-loop-i : goal.invariant-loop-i
 invariant-loop-i l = loops.Left (gap_fault l.axis l.grid l.tolerance) (uniform_fault l.axis l.grid l.tolerance) 1 (1 + (length l.grid - 2)) l.i
-
-abbrev pub decreases-loop-i : goal.decreases-loop-i
-decreases-loop-i l = length l.grid - l.i

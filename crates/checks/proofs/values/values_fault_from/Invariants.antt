@@ -7,6 +7,3 @@ use Rattle.checks.proofs.values.values_fault_from.Given as goal
 
 abbrev pub invariant-loop-i : goal.invariant-loop-i
 invariant-loop-i l = loops.Left (value_fault l.values) (first_fault (value_fault l.values) l.from (length l.values - l.from)) l.from (length l.values) l.i
-
-abbrev pub decreases-loop-i : goal.decreases-loop-i
-decreases-loop-i l = length l.values - l.i

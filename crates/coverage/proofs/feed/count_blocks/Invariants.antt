@@ -1,11 +1,10 @@
 use Rattle.checks.specs.Numbers.{most_records}
-use Rattle.program.proofs.turns.Turning.{turns_left}
 use Rattle.coverage.proofs.feed.Loops.{Feeding}
 use Prim.Native.Nat.{◌-◌}
 use Rattle.coverage.proofs.feed.count_blocks.Given as goal
 
-abbrev pub invariant-loop-go : goal.invariant-loop-go
-invariant-loop-go l = Feeding l.shape l.nodes l.values l.buf l.t l.held l.asked l.read l.go
+abbrev pub invariant-loop : goal.invariant-loop
+invariant-loop g l = Feeding l.shape l.nodes l.values l.buf l.t l.held l.ports.counts
 
-abbrev pub decreases-loop-go : goal.decreases-loop-go
-decreases-loop-go l = turns_left (most_records - l.t.records) l.go
+abbrev pub decreases-loop : goal.decreases-loop
+decreases-loop g l = most_records - l.t.records

@@ -1,10 +1,11 @@
-use mathlib.Core.Path.{sym, ◌∙◌}
-use native.Mathlib.Omega.{arith}
-use Rattle.answer.proofs.Orders.{first_begin}
+use Rattle.answer.proofs.Loops as loops
 use Rattle.image.proofs.areas.areas_fault.Goals as goal
 
-pub rows_fault-requires : goal.rows_fault-requires
-rows_fault-requires c = record { held = c.requires; inside = omega arith; with_one = tt }
+pub returns-in_err-area_fault : goal.returns-in_err-area_fault
+returns-in_err-area_fault c = loops.stop _ _ _ _ _ c.loop-k.invariant c.loop-k-test.true _ _ c.in_err-area_fault.ensures _ c.from_residual.ensures
+
+pub loop-k-preserved : goal.loop-k-preserved
+loop-k-preserved c = loops.again _ _ _ _ _ c.loop-k.invariant c.loop-k-test.true _ c.in_ok-area_fault.ensures
 
 pub returns : goal.returns
-returns c = c.rows_fault.ensures ∙ sym (first_begin _ 0 _ _ (omega arith))
+returns c = loops.done _ _ _ _ _ c.loop-k.invariant _ c.loop-k-test.false

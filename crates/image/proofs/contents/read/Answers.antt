@@ -1,13 +1,11 @@
-use mathlib.Core.Path.{ap₂, ◌∙◌}
-use Prim.Native.Nat.{ℕ}
-use lib.Seq.{sets}
+use Rattle.std.proofs.Common.{◌∙◌, ap₂, arith}
 use Rattle.image.specs.Image.{floats_at, values_in}
+use Rattle.image.proofs.Floats.{size_small}
 use Rattle.image.proofs.contents.read.Goals as goal
 
-pub returns : goal.returns
+pub read_floats-requires : goal.read_floats-requires
+read_floats-requires c = record { near = c.values_at.ensures.below; few = omega (arith, c.requires.values_room, size_small _ c.requires.judged) }
+
+pub returns-clause-values : goal.returns-clause-values
 unfolding values_in
-returns c =
-    record {
-      nodes_read = c.read_nodes.ensures;
-      values_read = c.read_floats.ensures ∙ ap₂ (λ (i j : ℕ). sets c.args.values.now 0 (floats_at c.args.img.now i j)) c.values_at.ensures.is c.sizes_of-held.ensures.values;
-    }
+returns-clause-values c = c.read_floats.ensures ∙ ap₂ (floats_at c.args.img.now) c.values_at.ensures.is c.requires.values_room

@@ -1,23 +1,31 @@
-use mathlib.Core.Path.{◌≡◌, sym, ap, ◌∙◌}
-use Prim.Native.Nat.{min}
+use mathlib.Core.Path.{◌≡◌, ap, ◌∙◌}
 use native.Mathlib.Omega.{arith}
-use lib.ListN.{length, take, length-take}
-use Rattle.lines.specs.Report.{held}
-use Rattle.lines.proofs.Reports.{join_start, join_step, join_end, held-length, held_cells}
 use borrow.Author.Rules.{rules}
+use lib.ListN.{length}
+use Rattle.lines.proofs.Reports.{axis_part, join_start, join_step, join_end, walk_start, walk_below, walk_here, walk_on, walk_end, held_cells}
 use Rattle.lines.proofs.report.put_axes.Goals as goal
 
 pub loop-a-init : goal.loop-a-init
-loop-a-init c = join_start _ _ _ _ _
+loop-a-init c =
+    let z : c.into_iter-a-iterator.result.count ≡ 0 = cc in
+    (walk_start _ _ _ _ _ (cc) (cc) z, rw z (join_start _ _ _ _))
+
+pub put_cells-next-requires : goal.put_cells-next-requires
+put_cells-next-requires c =
+    let s = c.in-Some.ensures.steps in
+    let four : length c.args.counts ≡ 4 = search rules in
+    let below = walk_below c.loop-a.invariant.0 s.0.0 in
+    (omega (arith, s), (omega arith, omega (arith, s)))
 
 pub loop-a-preserved : goal.loop-a-preserved
 loop-a-preserved c =
-    join_step c.loop-a.invariant c.loop-a-test.true (omega arith)
-    (held_cells c.args.axes c.args.counts c.loop-a.a c.cells_of-many.result _ (omega (arith, c.axes_of-n.ensures, c.loop-a-test.true)) c.cells_of-many.ensures)
-    c.put_cells-next.ensures.wrote c.put_cells-next.ensures.upper_bound (search rules)
+    let s = c.in-Some.ensures.steps in
+    let here = walk_here c.loop-a.invariant.0 s.0.0 s.1 in
+    let part = held_cells c.args.axes c.args.counts c.in-Some.a c.saturating_sub-n.result _ (omega (arith, s)) (omega (arith, here)) in
+    (rw s.2 (walk_on c.loop-a.invariant.0 s.0.0 s.0.1), rw s.2 (join_step c.loop-a.invariant.1 (omega arith) (part ∙ ap (axis_part c.args.axes c.args.counts c.args.cells.now) s.1) (omega arith) c.put_cells-next.ensures.wrote))
 
 pub returns : goal.returns
 returns c =
-    let n : length (held (take c.args.axes c.args.counts)) ≡ c.axes_of-n.result =
-    held-length (take c.args.axes c.args.counts) ∙ length-take c.args.axes c.args.counts ∙ ap (min c.args.axes) c.well_formed.1.0.1.0.1 ∙ sym c.axes_of-n.ensures in
-    record { wrote = rw n (join_end c.loop-a.invariant c.loop-a-test.false); upper_bound = omega arith }
+    let four : length c.args.counts ≡ 4 = search rules in
+    let all = walk_end c.loop-a.invariant.0 (λ h. (c.in-None.ensures.steps.0 h).0) in
+    record { wrote = join_end c.loop-a.invariant.1 all; upper_bound = omega arith }

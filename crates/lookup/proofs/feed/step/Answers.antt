@@ -1,64 +1,47 @@
 use lib.Seq.{length-take-le}
-use Rattle.lines.proofs.Feeds.{filled_count}
-use Rattle.program.specs.Run.{rule_of}
-use Rattle.lookup.proofs.Tables.{of_image}
-use Rattle.lookup.proofs.feed.Steps.{Done, step_there, step_count, step_used, step_room, step_text_lem, stepped}
-use mathlib.Core.Path.{sym}
+use mathlib.Core.Path.{refl, sym}
 use native.Mathlib.Omega.{arith}
-use borrow.Author.Rules.{rules}
+use Rattle.std.proofs.lemmas.Result.{IfOk-from_err}
+use Rattle.lines.proofs.Feeds.{filled_count}
+use Rattle.lookup.proofs.Tables.{of_image}
+use Rattle.lookup.proofs.feed.Steps.{done_of, step_there, step_count, step_used, step_room, step_text_lem, stepped, block_read}
 use Rattle.lookup.proofs.feed.step.Goals as goal
 
 pub overflow_sub-read : goal.overflow_sub-read
-overflow_sub-read c = omega (arith, filled_count (search rules) (c.fill-have.ensures (search rules)))
-
-pub slice_bounds-answer_block-end : goal.slice_bounds-answer_block-end
-slice_bounds-answer_block-end c = (c.fill-have.ensures (search rules)).within
-
-pub slice_bounds-answer_block-end-2 : goal.slice_bounds-answer_block-end-2
-slice_bounds-answer_block-end-2 c = sym (length-take-le _ _ (c.fill-have.ensures (search rules)).within)
-
-pub slice_bounds-lines-end : goal.slice_bounds-lines-end
-slice_bounds-lines-end c =
-    let done : Done (rule_of c.args.img.now) c.args.size c.args.held c.args.left c.fill-have.result c.answer_block-done.result.count c.answer_block-done.result.written c.args.buf.now c.fill-have.new.buf c.args.out.now c.answer_block-done.new.out = (record { room = c.requires.room; filled = c.fill-have.ensures (search rules); kept = c.fill-have.auto.buf; block = of_image c.requires.table_of c.answer_block-done.ensures; spaced = c.answer_block-done.auto.out }) in
-    step_there done
-
-pub slice_bounds-lines-end-2 : goal.slice_bounds-lines-end-2
-slice_bounds-lines-end-2 c =
-    let done : Done (rule_of c.args.img.now) c.args.size c.args.held c.args.left c.fill-have.result c.answer_block-done.result.count c.answer_block-done.result.written c.args.buf.now c.fill-have.new.buf c.args.out.now c.answer_block-done.new.out = (record { room = c.requires.room; filled = c.fill-have.ensures (search rules); kept = c.fill-have.auto.buf; block = of_image c.requires.table_of c.answer_block-done.ensures; spaced = c.answer_block-done.auto.out }) in
-    sym (length-take-le _ _ (step_there done))
+overflow_sub-read g c = let h = c.requires.room.holds in omega (arith, filled_count h (c.fill-have.ensures h))
 
 pub slice_bounds-lines-end-3 : goal.slice_bounds-lines-end-3
-slice_bounds-lines-end-3 c =
-    let done : Done (rule_of c.args.img.now) c.args.size c.args.held c.args.left c.fill-have.result c.answer_block-done.result.count c.answer_block-done.result.written c.args.buf.now c.fill-have.new.buf c.args.out.now c.answer_block-done.new.out = (record { room = c.requires.room; filled = c.fill-have.ensures (search rules); kept = c.fill-have.auto.buf; block = of_image c.requires.table_of c.answer_block-done.ensures; spaced = c.answer_block-done.auto.out }) in
-    step_room done
+slice_bounds-lines-end-3 g c = step_room (done_of c.requires.room c.fill-have.ensures c.fill-have.auto.buf (of_image c.requires.table_of c.answer_block-done.ensures) c.answer_block-done.auto.out)
 
 pub slice_bounds-lines-end-4 : goal.slice_bounds-lines-end-4
-slice_bounds-lines-end-4 c =
-    let done : Done (rule_of c.args.img.now) c.args.size c.args.held c.args.left c.fill-have.result c.answer_block-done.result.count c.answer_block-done.result.written c.args.buf.now c.fill-have.new.buf c.args.out.now c.answer_block-done.new.out = (record { room = c.requires.room; filled = c.fill-have.ensures (search rules); kept = c.fill-have.auto.buf; block = of_image c.requires.table_of c.answer_block-done.ensures; spaced = c.answer_block-done.auto.out }) in
-    sym (length-take-le _ _ (step_room done))
+slice_bounds-lines-end-4 g c = sym (length-take-le _ _ (step_room (done_of c.requires.room c.fill-have.ensures c.fill-have.auto.buf (of_image c.requires.table_of c.answer_block-done.ensures) c.answer_block-done.auto.out)))
 
-pub lines-printed-requires : goal.lines-printed-requires
-lines-printed-requires c =
-    let done : Done (rule_of c.args.img.now) c.args.size c.args.held c.args.left c.fill-have.result c.answer_block-done.result.count c.answer_block-done.result.written c.args.buf.now c.fill-have.new.buf c.args.out.now c.answer_block-done.new.out = (record { room = c.requires.room; filled = c.fill-have.ensures (search rules); kept = c.fill-have.auto.buf; block = of_image c.requires.table_of c.answer_block-done.ensures; spaced = c.answer_block-done.auto.out }) in
-    step_text_lem done
+pub lines-requires : goal.lines-requires
+lines-requires g c = step_text_lem (done_of c.requires.room c.fill-have.ensures c.fill-have.auto.buf (of_image c.requires.table_of c.answer_block-done.ensures) c.answer_block-done.auto.out)
+
+pub returns-in_err-printed : goal.returns-in_err-printed
+returns-in_err-printed g c =
+    let h = c.requires.room.holds in
+    block_read h c.fill-have.auto.buf (c.fill-have.ensures h) c.from_residual.result refl refl (IfOk-from_err c.from_residual.result _ c.from_residual.ensures.0)
+
+pub overflow_add-ports-3 : goal.overflow_add-ports-3
+overflow_add-ports-3 g c =
+    let k = done_of c.requires.room c.fill-have.ensures c.fill-have.auto.buf (of_image c.requires.table_of c.answer_block-done.ensures) c.answer_block-done.auto.out in
+    omega (arith, c.in_ok-printed.ensures.printed, k.block.long, step_room k, k.spaced, c.requires.room.printed)
 
 pub overflow_mul-used : goal.overflow_mul-used
-overflow_mul-used c =
-    let done : Done (rule_of c.args.img.now) c.args.size c.args.held c.args.left c.fill-have.result c.answer_block-done.result.count c.answer_block-done.result.written c.args.buf.now c.fill-have.new.buf c.args.out.now c.answer_block-done.new.out = (record { room = c.requires.room; filled = c.fill-have.ensures (search rules); kept = c.fill-have.auto.buf; block = of_image c.requires.table_of c.answer_block-done.ensures; spaced = c.answer_block-done.auto.out }) in
-    omega (arith, step_used done, step_there done)
+overflow_mul-used g c =
+    let k = done_of c.requires.room c.fill-have.ensures c.fill-have.auto.buf (of_image c.requires.table_of c.answer_block-done.ensures) c.answer_block-done.auto.out in
+    omega (arith, step_used k, step_there k)
 
 pub overflow_sub-rest : goal.overflow_sub-rest
-overflow_sub-rest c =
-    let done : Done (rule_of c.args.img.now) c.args.size c.args.held c.args.left c.fill-have.result c.answer_block-done.result.count c.answer_block-done.result.written c.args.buf.now c.fill-have.new.buf c.args.out.now c.answer_block-done.new.out = (record { room = c.requires.room; filled = c.fill-have.ensures (search rules); kept = c.fill-have.auto.buf; block = of_image c.requires.table_of c.answer_block-done.ensures; spaced = c.answer_block-done.auto.out }) in
-    step_used done
+overflow_sub-rest g c = step_used (done_of c.requires.room c.fill-have.ensures c.fill-have.auto.buf (of_image c.requires.table_of c.answer_block-done.ensures) c.answer_block-done.auto.out)
 
 pub overflow_sub-more : goal.overflow_sub-more
-overflow_sub-more c =
-    let done : Done (rule_of c.args.img.now) c.args.size c.args.held c.args.left c.fill-have.result c.answer_block-done.result.count c.answer_block-done.result.written c.args.buf.now c.fill-have.new.buf c.args.out.now c.answer_block-done.new.out = (record { room = c.requires.room; filled = c.fill-have.ensures (search rules); kept = c.fill-have.auto.buf; block = of_image c.requires.table_of c.answer_block-done.ensures; spaced = c.answer_block-done.auto.out }) in
-    step_count done
+overflow_sub-more g c = step_count (done_of c.requires.room c.fill-have.ensures c.fill-have.auto.buf (of_image c.requires.table_of c.answer_block-done.ensures) c.answer_block-done.auto.out)
 
 pub returns : goal.returns
-returns c =
-    let done : Done (rule_of c.args.img.now) c.args.size c.args.held c.args.left c.fill-have.result c.answer_block-done.result.count c.answer_block-done.result.written c.args.buf.now c.fill-have.new.buf c.args.out.now c.answer_block-done.new.out = (record { room = c.requires.room; filled = c.fill-have.ensures (search rules); kept = c.fill-have.auto.buf; block = of_image c.requires.table_of c.answer_block-done.ensures; spaced = c.answer_block-done.auto.out }) in
-    let k = done in
-    record { stepped = stepped k _ c.shift.ensures c.shift.auto.buf _ _ _ c.lines-printed.ensures c.goes_on.ensures; printed_in_bounds = omega (arith, c.lines-printed.ensures, k.block.long, step_room k, k.spaced) }
+returns g c =
+    let h = c.requires.room.holds in
+    let k = done_of c.requires.room c.fill-have.ensures c.fill-have.auto.buf (of_image c.requires.table_of c.answer_block-done.ensures) c.answer_block-done.auto.out in
+    block_read h c.fill-have.auto.buf (c.fill-have.ensures h) _ refl refl (stepped k _ c.shift.ensures c.shift.auto.buf _ _ _ c.in_ok-printed.ensures.printed c.goes_on.ensures refl)

@@ -31,13 +31,10 @@ fn spread(places: &mut [usize], count: usize, low: usize, high: usize)
     requires { Spreadable places.old count low high }
     ensures { Spread places.old places.new count low high }
 {
-    let mut i: usize = 0;
-    while i < count {
+    for i in 0..count {
         let at = places[i];
-        let j = i + count;
-        places[j] = at + high;
+        places[i + count] = at + high;
         places[i] = at + low;
-        i += 1;
     }
 }
 
@@ -61,38 +58,35 @@ fn rest_places(
     requires blank { Blank places.old }
     ensures { Placed counts locations n places.new result.count result.low result.high }
 {
-    let mut count: usize = 1;
+    let mut rest = Rest {
+        count: 1,
+        low: 0,
+        high: 0,
+    };
     let mut stride: usize = 1;
-    let mut d = n;
-    while d > 1 {
-        d -= 1;
+    for d in (0..n).rev() {
         let location = locations[d];
-        let low = locate::lower_node(location) * stride;
-        let high = upper_node(location) * stride;
-        spread(places, count, low, high);
-        count = blend::grow(location, count);
-        stride = counts[d] * stride;
+        rest.low = locate::lower_node(location) * stride;
+        rest.high = upper_node(location) * stride;
+        if d > 0 {
+            spread(places, rest.count, rest.low, rest.high);
+            rest.count = blend::grow(location, rest.count);
+            stride = counts[d] * stride;
+        }
     }
-    // The first axis. By a literal index the compiler would take it apart from the others and copy them.
-    let first = locations[d - 1];
-    let low = locate::lower_node(first) * stride;
-    let high = upper_node(first) * stride;
-    Rest { count, low, high }
+    rest
 }
 
-// The values at so many places under one node of the first axis, and as many more under another.
-fn gather(values: &[f64], places: &[usize], count: usize, low: usize, high: usize) -> [f64; 16]
-    requires { Gatherable values.now places.now count low high }
-    ensures { Gathered values.now places.now count low high result }
+// The values at the places under one node of the first axis, and as many more under another.
+fn gather(values: &[f64], places: &[usize], low: usize, high: usize) -> [f64; 16]
+    requires { Gatherable values.now places.now low high }
+    ensures { Gathered values.now places.now low high result }
 {
+    let count = places.len();
     let mut vals = [0.0f64; 16];
-    let mut i: usize = 0;
-    while i < count {
-        let at = places[i];
-        let j = i + count;
-        vals[j] = values[at + high];
-        vals[i] = values[at + low];
-        i += 1;
+    for (i, at) in places.iter().enumerate() {
+        vals[i + count] = values[*at + high];
+        vals[i] = values[*at + low];
     }
     vals
 }
@@ -103,14 +97,10 @@ fn corner_answer(shape: Shape, values: &[f64], locations: [AxisLocation; 4]) -> 
     requires { Cornered shape values.now locations }
     ensures { result ≡ computed (linear (take shape.axes locations) (table (counts_of shape) values.now)) }
 {
-    let axes = shape.axes;
-    let counts = shape.counts;
-    let mut space = [0usize; 16];
-    let places: &mut [usize] = &mut space;
-    let rest = rest_places(counts, locations, axes, places);
-    let corners: &[usize] = places;
-    let vals = gather(values, corners, rest.count, rest.low, rest.high);
-    fold::fold_answer(vals, locations, axes)
+    let mut places = [0usize; 16];
+    let rest = rest_places(shape.counts, locations, shape.axes, &mut places);
+    let vals = gather(values, &places[..rest.count], rest.low, rest.high);
+    fold::fold_answer(vals, locations, shape.axes)
 }
 
 // The same of a judged reading, by Linear's rule or by LinearUniform's.

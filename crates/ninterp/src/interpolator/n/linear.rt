@@ -11,9 +11,8 @@ use orders::before_lookup;
 pub fn interpolate(shape: Shape, nodes: &[f64], values: &[f64], point: &[f64]) -> Answer
     ensures { result ≡ linear_answer shape nodes.now values.now point.now }
 {
-    let fault = before_lookup::lookup_fault(shape, nodes, values, point);
-    if fault.number != 0 {
-        return answer::refuse(fault);
+    match before_lookup::lookup_fault(shape, nodes, values, point) {
+        Ok(()) => corners::interpolated(false, shape, nodes, values, point),
+        Err(refusal) => Answer::from(refusal),
     }
-    corners::interpolated(false, shape, nodes, values, point)
 }

@@ -11,18 +11,12 @@ pub(crate) fn all(uniform: bool, shape: Shape, nodes: &[f64], point: &[f64]) -> 
     requires { ReadableTable shape nodes.now point.now }
     ensures { Located (location_by uniform) shape nodes.now point.now result }
 {
-    let counts = shape.counts;
-    let axes = shape.axes;
     let mut found = [AxisLocation::Exact(0); 4];
     let mut at: usize = 0;
-    let mut a: usize = 0;
-    while a < axes {
-        let count = counts[a];
-        let end = at + count;
-        let location = locate::location_by(uniform, &nodes[at..end], point[a]);
-        found[a] = location;
+    for a in 0..shape.axes {
+        let end = at + shape.counts[a];
+        found[a] = locate::location_by(uniform, &nodes[at..end], point[a]);
         at = end;
-        a += 1;
     }
     found
 }

@@ -4,6 +4,7 @@ ghost use Rattle.ninterp.specs.Tables.{nearest_answer};
 
 use crate::interpolator::n::pick;
 use answer::Answer;
+use axis::picks::Pick;
 use layout::Shape;
 use orders::before_lookup;
 
@@ -11,10 +12,8 @@ use orders::before_lookup;
 pub fn interpolate(shape: Shape, nodes: &[f64], values: &[f64], point: &[f64]) -> Answer
     ensures { result ≡ nearest_answer shape nodes.now values.now point.now }
 {
-    let fault = before_lookup::lookup_fault(shape, nodes, values, point);
-    if fault.number != 0 {
-        return answer::refuse(fault);
+    match before_lookup::lookup_fault(shape, nodes, values, point) {
+        Ok(()) => pick::stored(shape, nodes, values, |_| Pick::Nearest, point),
+        Err(refusal) => Answer::from(refusal),
     }
-    let picks = [2u8; 4];
-    pick::stored(shape, nodes, values, &picks, point)
 }

@@ -4,6 +4,7 @@ ghost use Rattle.ninterp.specs.Tables.{step_answer};
 
 use crate::interpolator::n::pick;
 use answer::Answer;
+use axis::picks::Pick;
 use layout::Shape;
 use orders::before_lookup;
 
@@ -18,9 +19,11 @@ pub fn interpolate(
     ensures { result ≡ step_answer shape nodes.now values.now point.now
         directions.now }
 {
-    let fault = before_lookup::step_fault(shape, nodes, values, point, directions);
-    if fault.number != 0 {
-        return answer::refuse(fault);
+    match before_lookup::step_fault(shape, nodes, values, point, directions) {
+        Ok(()) => {
+            let pick = |a| Pick::toward(directions[a]);
+            pick::stored(shape, nodes, values, pick, point)
+        }
+        Err(refusal) => Answer::from(refusal),
     }
-    pick::stored(shape, nodes, values, directions, point)
 }

@@ -1,12 +1,9 @@
+use mathlib.Core.Path.{refl, ◌∙◌}
 use Rattle.program.proofs.run.Gives.{room_refused, room_given}
 use Rattle.program.proofs.run.room_answer.Goals as goal
 
-pub returns-then-fault-ne0 : goal.returns-then-fault-ne0
-returns-then-fault-ne0 c =
-    let a = c.args in
-    room_refused a.need a.room c.room_fault-fault.ensures c.if-fault-ne0.true _ c.refuse.ensures
+pub returns-in-Ok : goal.returns-in-Ok
+returns-in-Ok c = room_given c.args.need c.args.room c.in-Ok.ensures _ c.pass.ensures
 
-pub returns : goal.returns
-returns c =
-    let a = c.args in
-    room_given a.need a.room c.room_fault-fault.ensures c.if-fault-ne0.false _ c.pass.ensures
+pub returns-in-Err : goal.returns-in-Err
+returns-in-Err c = c.from.ensures ∙ room_refused c.args.need c.args.room _ c.in-Err.ensures _ refl

@@ -1,21 +1,16 @@
+use mathlib.Core.Path.{◌∙◌}
 use native.Mathlib.Omega.{arith}
-use Rattle.program.proofs.turns.Shifts.{shift_start, shift_step, shift_end, shift_left}
+use Rattle.program.proofs.turns.Shifts.{shift_there, shift_left}
 use Rattle.program.proofs.turns.shift.Goals as goal
+use Rattle.program.proofs.turns.shift.Goals.{else-from-buf-via-then-from-buf+else-n-buf, else-from-buf-via-else-from-buf}
 
-pub returns-then-from-len : goal.returns-then-from-len
-returns-then-from-len c = let a = c.args in shift_left a.buf.now a.from a.n (omega (arith, c.if-from-len.true))
+pub returns-then-n-buf : goal.returns-then-n-buf
+returns-then-n-buf c = let a = c.args in c.copy_within.ensures.after ∙ shift_there a.buf.now a.from a.n c.if-from-buf.true c.if-n-buf.true
 
-pub returns-then-n-len : goal.returns-then-n-len
-returns-then-n-len c = let a = c.args in shift_left a.buf.now a.from a.n (omega (arith, c.if-from-len.false, c.if-n-len.true))
-
-pub loop-i-init : goal.loop-i-init
-loop-i-init c = let a = c.args in shift_start a.buf.now a.from a.n (omega (arith, c.if-from-len.false, c.if-n-len.false))
-
-pub loop-i-preserved : goal.loop-i-preserved
-loop-i-preserved c =
-    shift_step c.loop-i.invariant c.loop-i-test.true
-
-pub returns : goal.returns
-returns c =
+pub returns-else-from-buf : goal.returns-else-from-buf
+returns-else-from-buf c =
     let a = c.args in
-    shift_end a.buf.now a.from a.n c.loop-i.i c.loop-i.buf c.loop-i.invariant c.loop-i-test.false
+    shift_left a.buf.now a.from a.n (elim c.else-from-buf.branch [
+      | else-from-buf-via-then-from-buf+else-n-buf w ↦ omega (arith, w.if-from-buf.true, w.if-n-buf.false)
+      | else-from-buf-via-else-from-buf w ↦ omega (arith, w.if-from-buf.false)
+    ])

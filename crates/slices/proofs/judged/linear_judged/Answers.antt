@@ -1,16 +1,15 @@
-use Rattle.answer.proofs.Orders.{passes}
+use Rattle.answer.proofs.Checks.{passes}
 use Rattle.slices.specs.LinearSlices.{linear_rest}
 use Rattle.slices.proofs.Sliced.{or_kept, or_filled, point_taken}
 use Rattle.slices.proofs.judged.linear_judged.Goals as goal
 
-pub returns-then-fault-ne0 : goal.returns-then-fault-ne0
+pub returns-in_err-point_fault : goal.returns-in_err-point_fault
 unfolding linear_rest
-returns-then-fault-ne0 c = or_kept _ _ c.point_fault-fault.ensures _ _ _ c.if-fault-ne0.true
+returns-in_err-point_fault c = or_kept _ _ _ c.in_err-point_fault.ensures _ _ c.from_residual.ensures _ _
 
-pub along_first-requires : goal.along_first-requires
-along_first-requires c = record { ready = c.requires; taken = point_taken _ _ _ _ _ (passes _ _ c.point_fault-fault.ensures c.if-fault-ne0.false) }
+pub along_first-requires-clause-taken : goal.along_first-requires-clause-taken
+along_first-requires-clause-taken c = point_taken _ _ _ _ _ (passes _ _ c.in_ok-point_fault.ensures)
 
 pub returns : goal.returns
 unfolding linear_rest
-returns c =
-    or_filled _ _ c.point_fault-fault.ensures _ _ _ c.if-fault-ne0.false c.along_first.ensures
+returns c = or_filled _ _ c.in_ok-point_fault.ensures _ _ _ c.along_first.ensures

@@ -1,15 +1,14 @@
 use mathlib.Core.Path.{sym}
-use Rattle.answer.proofs.Orders.{passes}
+use Rattle.answer.proofs.Checks.{passes}
 use Rattle.layout.proofs.Removals.{length_slice}
 use Rattle.slices.proofs.Sliced.{kept, written, point_taken}
 use Rattle.slices.proofs.judged.pick_judged.Goals as goal
 
-pub returns-then-fault-ne0 : goal.returns-then-fault-ne0
-returns-then-fault-ne0 c = kept _ _ c.point_fault-fault.ensures _ _ c.if-fault-ne0.true
+pub returns-in_err-point_fault : goal.returns-in_err-point_fault
+returns-in_err-point_fault c = kept _ _ _ c.in_err-point_fault.ensures _ c.from_residual.ensures _ _
 
-pub pick_slice-requires : goal.pick_slice-requires
-pick_slice-requires c = record { ready = c.requires; taken = point_taken _ _ _ _ _ (passes _ _ c.point_fault-fault.ensures c.if-fault-ne0.false) }
+pub pick_slice-requires-clause-taken : goal.pick_slice-requires-clause-taken
+pick_slice-requires-clause-taken c = point_taken _ _ _ _ _ (passes _ _ c.in_ok-point_fault.ensures)
 
 pub returns : goal.returns
-returns c =
-    written _ _ c.point_fault-fault.ensures _ _ c.if-fault-ne0.false _ (sym (length_slice _ _ _ _)) _ c.pick_slice.ensures
+returns c = written _ _ c.in_ok-point_fault.ensures _ _ _ _ (sym (length_slice _ _ _ _)) _ c.pick_slice.ensures

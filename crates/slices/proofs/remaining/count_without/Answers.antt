@@ -1,4 +1,4 @@
-use Rattle.slices.proofs.Slices.{count_left, count_gone}
+use Rattle.slices.proofs.Counts.{count_left, count_gone}
 use native.Mathlib.Omega.{arith}
 use Rattle.slices.proofs.remaining.count_without.Goals as goal
 

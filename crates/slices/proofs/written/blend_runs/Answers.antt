@@ -1,38 +1,31 @@
-use mathlib.Core.Path.{◌≡◌, sym, ap₂, ◌∙◌}
+use mathlib.Core.Path.{sym, ap₂, ◌∙◌}
 use mathlib.Core.List.{List}
-use Prim.Native.Nat.{ℕ, ◌+◌, ◌-◌, ◌*◌, ◌≤◌}
+use Prim.Native.Nat.{◌+◌, ◌*◌}
 use native.Mathlib.Omega.{arith}
-use lib.ListN.{length, take, drop, length-drop}
-use lib.Seq.{length-take-le}
 use lib.Ieee.{Float}
 use Rattle.blend.specs.Scaffolding.{blends, blended_into}
 use Rattle.checks.specs.Numbers.{results_fault}
-use Rattle.slices.specs.Scaffolding.{blended_runs}
 use Rattle.slices.proofs.Sliced.{kept, written}
-use Rattle.slices.proofs.Alongs.{into_blends, length-blends}
+use Rattle.slices.proofs.Alongs.{low_run, high_run, long_run, into_blends, length-blends}
 use Rattle.slices.proofs.written.blend_runs.Goals as goal
 
--- a run of r values from place k on, as it is lent
-cut : (k r : ℕ) → k + r - k ≡ r
-cut k r = omega arith
-
-run_length : (values : List Float) (k r : ℕ) → k + r ≤ length values → length (take r (drop k values)) ≡ r
-run_length values k r h = length-take-le r (drop k values) (omega (arith, length-drop k values, h))
-
-pub returns-then-fault-ne0 : goal.returns-then-fault-ne0
-returns-then-fault-ne0 c =
-    let told : c.blend_fault-fault.result ≡ results_fault (blended_runs c.args.frac c.args.lower c.args.rest c.args.values.now) = (let r = c.args.rest in c.blend_fault-fault.ensures ∙ ap₂ (λ (i j : ℕ). results_fault (blends c.args.frac (take i (drop (c.args.lower * r) c.args.values.now)) (take j (drop (c.args.lower * r + r) c.args.values.now)))) (cut (c.args.lower * r) r) (cut (c.args.lower * r + r) r)) in
-    kept _ _ told _ _ c.if-fault-ne0.true
+pub returns-in_err-blend_fault : goal.returns-in_err-blend_fault
+returns-in_err-blend_fault c =
+    let a = c.args in
+    let from = a.lower * a.rest in
+    let low = low_run a.values.now from a.rest _ c.split_at.ensures.front in
+    let high = high_run a.values.now from a.rest _ c.split_at.ensures.back in
+    let told = c.in_err-blend_fault.ensures ∙ ap₂ (λ (xs ys : List Float). results_fault (blends a.frac xs ys)) low high in
+    kept _ _ _ told _ c.from_residual.ensures _ _
 
 pub returns : goal.returns
 returns c =
-    let told : c.blend_fault-fault.result ≡ results_fault (blended_runs c.args.frac c.args.lower c.args.rest c.args.values.now) = (let r = c.args.rest in c.blend_fault-fault.ensures ∙ ap₂ (λ (i j : ℕ). results_fault (blends c.args.frac (take i (drop (c.args.lower * r) c.args.values.now)) (take j (drop (c.args.lower * r + r) c.args.values.now)))) (cut (c.args.lower * r) r) (cut (c.args.lower * r + r) r)) in
-    let r = c.args.rest in
-    let from = c.args.lower * r in
-    let vs = c.args.values.now in
-    let low : length (take r (drop from vs)) ≡ r = run_length vs from r (omega (arith, c.requires.reach)) in
-    let high : length (take r (drop (from + r) vs)) ≡ r = run_length vs (from + r) r c.requires.reach in
-    written _ _ told _ _ c.if-fault-ne0.false r (sym (length-blends c.args.frac _ _ r low high)) _
-    (c.blend_into.ensures
-    ∙ ap₂ (λ (i j : ℕ). blended_into c.args.frac (take i (drop from vs)) (take j (drop (from + r) vs)) c.args.out.now) (cut from r) (cut (from + r) r)
-    ∙ into_blends c.args.frac _ _ c.args.out.now r low high c.requires.enough)
+    let a = c.args in
+    let from = a.lower * a.rest in
+    let low = low_run a.values.now from a.rest _ c.split_at.ensures.front in
+    let high = high_run a.values.now from a.rest _ c.split_at.ensures.back in
+    let told = c.in_ok-blend_fault.ensures ∙ ap₂ (λ (xs ys : List Float). results_fault (blends a.frac xs ys)) low high in
+    let long_low = long_run a.values.now from a.rest from (omega (arith, c.requires.reach)) in
+    let long_high = long_run a.values.now from a.rest (from + a.rest) c.requires.reach in
+    written _ _ told _ _ _ a.rest (sym (length-blends a.frac _ _ a.rest long_low long_high)) _
+    (c.blend_into.ensures ∙ ap₂ (λ (xs ys : List Float). blended_into a.frac xs ys a.out.now) low high ∙ into_blends a.frac _ _ a.out.now a.rest long_low long_high c.requires.enough)

@@ -1,12 +1,14 @@
-use Rattle.writer.proofs.Headers.{count_used, count_unused}
-use mathlib.Core.Path.{refl}
+use mathlib.Core.Path.{◌≡◌}
 use native.Mathlib.Omega.{arith}
+use lib.ListN.{get_or}
+use Rattle.std.proofs.Common.{rules}
+use Rattle.layout.specs.Shape.{counts_of}
+use Rattle.writer.specs.Made.{count_in}
+use Rattle.writer.proofs.Headers.{count_in_few}
 use Rattle.writer.proofs.header.count_in.Goals as goal
 
-pub returns-then-axis-shape : goal.returns-then-axis-shape
-returns-then-axis-shape c =
-    let u = count_used _ c.requires.judged c.args.axis c.if-axis-shape.true _ refl in
-    record { is = u.0; few = u.1 }
-
-pub returns-else-axis-shape : goal.returns-else-axis-shape
-returns-else-axis-shape c = record { is = count_unused _ c.requires.judged c.args.axis c.if-axis-shape.false; few = omega arith }
+pub returns : goal.returns
+unfolding count_in
+returns c =
+    let same : c.unwrap_or.result ≡ get_or (counts_of c.args.shape) c.args.axis 0 = search rules in
+    record { is = same; few = omega (arith, same, count_in_few c.args.shape c.requires c.args.axis) }

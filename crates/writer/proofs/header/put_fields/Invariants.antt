@@ -1,13 +1,17 @@
 use lib.Seq.{sets}
 use Rattle.writer.specs.Made.{field_bytes}
-use Rattle.writer.specs.Scaffolding.{sum, pairs}
+use Rattle.writer.specs.Scaffolding.{widths}
 use mathlib.Core.Path.{◌≡◌}
-use Prim.Native.Nat.{◌+◌, ◌-◌, ◌≤◌}
+use mathlib.Core.List.{List}
+use Prim.Native.Nat.{ℕ, ◌+◌}
 use lib.ListN.{length, drop}
 use Rattle.writer.proofs.header.put_fields.Given as goal
 
-abbrev pub invariant-loop-k : goal.invariant-loop-k
-invariant-loop-k l = (l.k ≤ length l.widths) × ((length l.out ≡ length l.initial.out) × ((l.at + sum (drop l.k l.widths) ≡ sum l.widths) × (sets l.out l.at (field_bytes (pairs (drop l.k l.widths) (drop l.k l.fields))) ≡ sets l.initial.out 0 (field_bytes (pairs l.widths l.fields)))))
+-- k fields are put, and the next one goes to `at`: the fields that are left, put there, are all of them
+pub record Going (fields : List (ℕ × ℕ)) (out₀ out : List ℕ) (at k : ℕ) : Type 0 where
+  pub long : length out ≡ length out₀
+  pub far : at + widths (drop k fields) ≡ widths fields
+  pub rest : sets out at (field_bytes (drop k fields)) ≡ sets out₀ 0 (field_bytes fields)
 
-abbrev pub decreases-loop-k : goal.decreases-loop-k
-decreases-loop-k l = length l.widths - l.k
+abbrev pub invariant-loop-width : goal.invariant-loop-width
+invariant-loop-width l = Going l.fields l.initial.out l.out l.at l.width-index

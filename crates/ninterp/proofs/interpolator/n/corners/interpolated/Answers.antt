@@ -1,5 +1,4 @@
-use mathlib.Core.Path.{ap, ◌∙◌}
-use native.Mathlib.Omega.{arith}
+use Rattle.std.proofs.Common.{ap, ◌∙◌}
 use Rattle.layout.specs.Shape.{counts_of}
 use Rattle.layout.specs.Layout.{table}
 use Rattle.blend.specs.Blend.{linear, computed}
@@ -7,14 +6,22 @@ use Rattle.ninterp.specs.Linears.{interpolated}
 use Rattle.ninterp.proofs.interpolator.n.corners.interpolated.Goals as goal
 
 pub all-locations-requires : goal.all-locations-requires
-all-locations-requires c =
-    let j = c.requires in
-    record { grid = j.grid; four = j.four; read = omega (arith, j.read); finites = j.finites }
+all-locations-requires c = c.requires.readable
 
 pub corner_answer-requires : goal.corner_answer-requires
 corner_answer-requires c =
-    let j = c.requires in
-    record { four = j.four; small = j.grid.small; within = c.all-locations.ensures.within; stored = j.stored; some = j.some }
+    let t = c.requires.readable in
+    record {
+      placeable = record {
+        some = c.requires.some;
+        few = t.four;
+        long_counts = t.long;
+        long_locations = c.all-locations.ensures.long;
+        small = t.grid.small;
+        within = c.all-locations.ensures.within;
+      };
+      stored = c.requires.stored;
+    }
 
 pub returns : goal.returns
 unfolding interpolated

@@ -1,9 +1,5 @@
-use Prim.Native.Nat.{◌-◌, ◌≤◌}
 use Rattle.ninterp.proofs.Corners.{Spreaded}
 use Rattle.ninterp.proofs.interpolator.n.corners.spread.Given as goal
 
 abbrev pub invariant-loop-i : goal.invariant-loop-i
-invariant-loop-i l = (l.i ≤ l.count) × Spreaded l.initial.places l.count l.low l.high l.i l.places
-
-abbrev pub decreases-loop-i : goal.decreases-loop-i
-decreases-loop-i l = l.count - l.i
+invariant-loop-i l = Spreaded l.initial.places l.count l.low l.high l.i l.places

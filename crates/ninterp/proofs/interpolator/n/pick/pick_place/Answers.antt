@@ -1,63 +1,30 @@
-use mathlib.Core.Path.{◌≡◌, refl}
-use Prim.Native.Nat.{ℕ, ◌≤◌}
-use native.Mathlib.Omega.{arith}
-use lib.ListN.{length}
-use borrow.Author.Rules.{rules}
-use mathlib.Core.List.{List}
-use Rattle.layout.proofs.Layouts.{place_start}
-use Rattle.ninterp.proofs.Picks.{axis_within, axis-next, flat_next, flat_fits, flat_done}
+use Rattle.std.proofs.Common.{arith}
+use Rattle.ninterp.proofs.Picks.{axis_within, picking_begin, picking_walks, picking_fits, picking_next, picking_done}
 use Rattle.ninterp.proofs.interpolator.n.pick.pick_place.Goals as goal
 
 pub loop-a-init : goal.loop-a-init
-loop-a-init c = (search rules, (refl, place_start _ _))
-
-pub bounds-counts-a : goal.bounds-counts-a
-bounds-counts-a c =
-    let C : List ℕ = (c.args.shape.counts) in
-    let four : length C ≡ 4 = (search rules) in
-    let long : c.args.shape.axes ≤ length C = (omega (arith, four, c.requires.readable_table.four)) in
-    omega (arith, four, long)
+loop-a-init g c = picking_begin _ c.requires.readable_table
 
 pub overflow_add-end : goal.overflow_add-end
-overflow_add-end c =
-    let C : List ℕ = (c.args.shape.counts) in
-    let four : length C ≡ 4 = (search rules) in
-    let long : c.args.shape.axes ≤ length C = (omega (arith, four, c.requires.readable_table.four)) in
-    omega (arith, axis_within C c.args.shape.axes c.args.nodes.now c.args.picks.now c.args.point.now c.requires.readable_table.grid long c.requires.readable_table.finites c.loop-a.a c.loop-a.at c.loop-a-test.true c.loop-a.invariant.1.0)
+overflow_add-end g c = omega (arith, axis_within c.requires.readable_table (picking_walks c.loop-a.invariant) c.loop-a-test.true)
+
+pub pick-requires : goal.pick-requires
+pick-requires g c = c.requires.callable _ c.loop-a-test.true
+
+pub offset_bounds-nodes-at : goal.offset_bounds-nodes-at
+offset_bounds-nodes-at g c = omega (arith, axis_within c.requires.readable_table (picking_walks c.loop-a.invariant) c.loop-a-test.true)
 
 pub slice_bounds-pick_index-end : goal.slice_bounds-pick_index-end
-slice_bounds-pick_index-end c =
-    let C : List ℕ = (c.args.shape.counts) in
-    let four : length C ≡ 4 = (search rules) in
-    let long : c.args.shape.axes ≤ length C = (omega (arith, four, c.requires.readable_table.four)) in
-    omega (arith, axis_within C c.args.shape.axes c.args.nodes.now c.args.picks.now c.args.point.now c.requires.readable_table.grid long c.requires.readable_table.finites c.loop-a.a c.loop-a.at c.loop-a-test.true c.loop-a.invariant.1.0)
+slice_bounds-pick_index-end g c = omega (arith, axis_within c.requires.readable_table (picking_walks c.loop-a.invariant) c.loop-a-test.true)
 
 pub overflow_mul-flat : goal.overflow_mul-flat
-overflow_mul-flat c =
-    let C : List ℕ = (c.args.shape.counts) in
-    let four : length C ≡ 4 = (search rules) in
-    let long : c.args.shape.axes ≤ length C = (omega (arith, four, c.requires.readable_table.four)) in
-    omega (arith, flat_fits C c.args.shape.axes c.args.nodes.now c.args.picks.now c.args.point.now c.requires.readable_table.grid long c.requires.readable_table.finites c.loop-a.a c.loop-a.at c.loop-a-test.true c.loop-a.invariant.1.0 c.pick_index-i.result c.pick_index-i.ensures c.loop-a.flat c.loop-a.invariant.1.1)
+overflow_mul-flat g c = omega (arith, picking_fits _ c.requires.readable_table c.loop-a.invariant c.loop-a-test.true _ c.pick.ensures c.pick_index-i.ensures)
 
 pub overflow_add-flat : goal.overflow_add-flat
-overflow_add-flat c =
-    let C : List ℕ = (c.args.shape.counts) in
-    let four : length C ≡ 4 = (search rules) in
-    let long : c.args.shape.axes ≤ length C = (omega (arith, four, c.requires.readable_table.four)) in
-    omega (arith, flat_fits C c.args.shape.axes c.args.nodes.now c.args.picks.now c.args.point.now c.requires.readable_table.grid long c.requires.readable_table.finites c.loop-a.a c.loop-a.at c.loop-a-test.true c.loop-a.invariant.1.0 c.pick_index-i.result c.pick_index-i.ensures c.loop-a.flat c.loop-a.invariant.1.1)
+overflow_add-flat g c = omega (arith, picking_fits _ c.requires.readable_table c.loop-a.invariant c.loop-a-test.true _ c.pick.ensures c.pick_index-i.ensures)
 
 pub loop-a-preserved : goal.loop-a-preserved
-loop-a-preserved c =
-    let C : List ℕ = (c.args.shape.counts) in
-    let four : length C ≡ 4 = (search rules) in
-    let long : c.args.shape.axes ≤ length C = (omega (arith, four, c.requires.readable_table.four)) in
-    let t = c.loop-a-test.true in
-    (omega (arith, axis_within C c.args.shape.axes c.args.nodes.now c.args.picks.now c.args.point.now c.requires.readable_table.grid long c.requires.readable_table.finites c.loop-a.a c.loop-a.at t c.loop-a.invariant.1.0), (axis-next C c.args.shape.axes c.args.nodes.now c.args.picks.now c.args.point.now c.requires.readable_table.grid long c.requires.readable_table.finites c.loop-a.a c.loop-a.at t c.loop-a.invariant.1.0, flat_next C c.args.shape.axes c.args.nodes.now c.args.picks.now c.args.point.now c.requires.readable_table.grid long c.requires.readable_table.finites c.loop-a.a c.loop-a.at t c.loop-a.invariant.1.0 c.pick_index-i.result c.pick_index-i.ensures c.loop-a.flat c.loop-a.invariant.1.1))
+loop-a-preserved g c = picking_next _ c.requires.readable_table c.loop-a.invariant c.loop-a-test.true _ c.pick.ensures c.pick_index-i.ensures
 
 pub returns : goal.returns
-returns c =
-    let C : List ℕ = (c.args.shape.counts) in
-    let four : length C ≡ 4 = (search rules) in
-    let long : c.args.shape.axes ≤ length C = (omega (arith, four, c.requires.readable_table.four)) in
-    let d = flat_done C c.args.shape.axes c.args.nodes.now c.args.picks.now c.args.point.now c.requires.readable_table.grid long c.requires.readable_table.finites c.loop-a.a c.loop-a.flat c.loop-a-test.false c.loop-a.invariant.1.1 in
-    record { same = d.0; below = d.1 }
+returns g c = picking_done _ c.requires.readable_table c.loop-a.invariant c.loop-a-test.false

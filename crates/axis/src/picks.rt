@@ -28,6 +28,17 @@ impl Pick {
             Pick::Upper
         }
     }
+
+    // A pick by its number: 0 is Lower, 1 Upper, anything else Nearest.
+    fn numbered(pick: u8) -> Pick
+        ensures { code_of result ≡ min pick 2 }
+    {
+        match pick {
+            0 => Pick::Lower,
+            1 => Pick::Upper,
+            _ => Pick::Nearest,
+        }
+    }
 }
 
 // Step's lower node: a reading on a node lies in the cell below it, so the node is one further up.
@@ -72,7 +83,7 @@ fn nearest_index(grid: &[f64], point: f64) -> usize
 }
 
 // The index that a pick gives; 0 on fewer than two nodes, which have no cell.
-pub fn pick_index(pick: Pick, grid: &[f64], point: f64) -> usize
+pub fn index_by(pick: Pick, grid: &[f64], point: f64) -> usize
     ensures { result ≡ pick_found (code_of pick) grid.now point }
 {
     if grid.len() < 2 {
@@ -83,4 +94,11 @@ pub fn pick_index(pick: Pick, grid: &[f64], point: f64) -> usize
         Pick::Upper => upper_step(grid, point),
         Pick::Nearest => nearest_index(grid, point),
     }
+}
+
+// The same by a pick's number, as a board lends it: 0 is Lower, 1 Upper, anything else Nearest.
+pub fn pick_index(pick: u8, grid: &[f64], point: f64) -> usize
+    ensures { result ≡ pick_found pick grid.now point }
+{
+    index_by(Pick::numbered(pick), grid, point)
 }

@@ -24,9 +24,10 @@ fn merge(location: AxisLocation, vals: &mut [f64], half: usize)
     requires { grown location half ≤ length vals.old }
     ensures { vals.new ≡ merged location half vals.old }
 {
-    if let AxisLocation::Between { frac, .. } = location {
-        pass_over(vals, half, frac);
-    }
+    let AxisLocation::Between { frac, .. } = location else {
+        return;
+    };
+    pass_over(vals, half, frac);
 }
 
 // How many corners one axis leaves.

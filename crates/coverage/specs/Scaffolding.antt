@@ -1,11 +1,10 @@
 -- Not for the reader of promises: what the functions between a block and the whole run ask for and give, held to by the checker.
-use Rattle.std.specs.Prelude.{◌≡◌, true, false, ◌⊎◌, List, ◌++◌, ℕ, ◌+◌, ◌^◌, ◌≤◌, ◌<◌, Float, length, take, drop, Result, OnOk}
+use Rattle.std.specs.Prelude.{◌≡◌, true, false, ◌⊎◌, List, ◌++◌, ℕ, ◌+◌, ◌^◌, ◌≤◌, ◌<◌, Float, length, take, drop}
 use Rattle.layout.specs.declared.Shape.{Shape}
 use Rattle.tally.specs.declared.Tally.{Tally}
 use Rattle.ninterp.specs.Records.{record_size}
 use Rattle.ninterp.specs.Counting.{block_tally}
 use Rattle.program.specs.declared.Counts.{Counts}
-use Rattle.program.specs.declared.print.Unprinted.{Unprinted}
 use Rattle.coverage.specs.declared.feed.Next.{Next}
 
 -- so many bytes more can be counted
@@ -34,8 +33,8 @@ pub record Stepped (s : Shape) (nodes values : List Float) (held : ℕ) (t : Tal
   pub goes : n.go ≡ true → t.records < n.tally.records
   pub stops : n.go ≡ false → (held + length block < length b) ⊎ (record_size s ≤ n.held)
 
--- nothing more was read, and where the output stands so many bytes were printed
-pub record Ended (printed : ℕ) (before after : Counts) (r : Result (Unit {0}) Unprinted) : Type 0 where
+-- nothing more was read, and so many bytes were to be printed, and counted
+pub record Ended (printed : ℕ) (before after : Counts) : Type 0 where
   pub asked : after.asked ≡ before.asked
   pub read : after.read ≡ before.read
-  pub told : OnOk r (after.printed ≡ printed)
+  pub told : after.printed ≡ printed

@@ -75,11 +75,14 @@ fn end<R, W: Write>(
 ) -> Result<(), Unprinted>
     requires reported { Reported img.now ports.old.counts.read (last_report t shape nodes.now values.now rest.now) }
     requires report_most_in_bounds { report_most ≤ length out.old }
-    ensures { Ended (length (last_report t shape nodes.now values.now rest.now)) ports.old.counts ports.new.counts result }
+    ensures { Ended (length (last_report t shape nodes.now values.now rest.now)) ports.old.counts ports.new.counts }
 {
     let n = coverage::finish(t, shape, nodes, values, rest, out);
     let read = ports.counts.read;
-    ports.counts.printed = print::report(&mut ports.to, img, read, &out[..n])?;
+    let printed = print::report(&mut ports.to, img, read, &out[..n]);
+    let told = printed.unwrap_or_else(|unprinted| unprinted.bytes);
+    ports.counts.printed = told;
+    printed?;
     Ok(())
 }
 
@@ -100,14 +103,13 @@ fn count_blocks<R: Read, W: Write>(
     let size = 1 + 8 * shape.axes;
     let mut t = tally::none_read();
     let mut held: usize = 0;
+    let mut go = true;
     ports.counts = Counts::none();
-    loop {
+    while go {
         let next = step(ports, shape, nodes, values, size, buf, held, t);
         t = next.tally;
         held = next.held;
-        if !next.go {
-            break;
-        }
+        go = next.go;
     }
     end(ports, img, shape, nodes, values, t, &buf[..held], out)
 }

@@ -9,7 +9,7 @@ mod print;
 ghost use Rattle.program.specs.Coverage.{report_by};
 ghost use Rattle.coverage.specs.Whole.{report_enough};
 
-use layout::Shape;
+use program::loaded::Loaded;
 use program::print::Unprinted;
 use program::whole::Records;
 use program::{Ports, whole};
@@ -26,12 +26,9 @@ impl Records for Report {
 
     fn feed<R: Read, W: Write>(
         ports: &mut Ports<R, W>,
-        img: &[u8],
-        shape: Shape,
-        nodes: &[f64],
-        values: &[f64],
+        loaded: &Loaded<'_>,
     ) -> Result<(), Unprinted> {
-        feed::count_all(ports, img, shape, nodes, values)
+        feed::count_all(ports, loaded.img, loaded.shape, loaded.nodes, loaded.values)
     }
 }
 

@@ -1,5 +1,22 @@
 -- Theorems that the pages name, of steps that the code no longer takes: orders of checks by a fault's number, a count node by node, a
--- slice's turn value by value. They hold as they did; no proof stands on them.
+-- slice's turn value by value. They hold as they did; no proof stands on them. Beside them, by subject, are laws that no page names.
+pub mod Orders
+pub mod Axes
+pub mod Words
+pub mod Loads
+pub mod Cells
+pub mod Uniforms
+pub mod Corners
+pub mod Places
+pub mod Digits
+pub mod Records
+pub mod Picks
+pub mod Locations
+pub mod Headers
+pub mod Fronts
+pub mod Tallies
+pub mod Lines
+pub mod Kinds
 use mathlib.Core.Path.{◌≡◌, refl, sym, ap, ap₂, ◌∙◌, subst}
 use mathlib.Core.Logic.{inl, inr}
 use mathlib.Core.Bool.{Bool, true, false, cond}

@@ -1,4 +1,4 @@
--- A line of a word and numbers, number by number, and the lines that are such.
+-- A line of a head and numbers, number by number, and the lines that are such.
 use mathlib.Core.Path.{◌≡◌, refl, sym, ap, ◌∙◌}
 use mathlib.Core.List.{List, [], ◌∷◌, ◌++◌, append_assoc, append-nil}
 use Prim.Native.Nat.{ℕ, ◌+◌, ◌≤◌, ◌<◌}
@@ -26,11 +26,12 @@ fields_nil : fields [] ≡ []
 unfolding fields
 fields_nil = refl
 
-module _ (word ns : List ℕ) where
-  pub fields_front : length word ≤ length (fields_line word ns)
-  unfolding fields_line
-  fields_front = simp length-append (omega arith)
+pub fields_front : (head : List ℕ) (first : ℕ) (ns : List ℕ) → length head + length (decimal first) ≤ length (fields_line (head ++ decimal first) ns)
+unfolding fields_line
+fields_front head first ns = simp length-append (omega arith)
 
+-- what stands before the numbers after the first is the word here
+module _ (word ns : List ℕ) where
   pub fields_start : {d : List ℕ} {at : ℕ} {e : List ℕ} {r : ℕ} → Wrote d at word e r → Wrote d at (word ++ fields []) e r
   fields_start w = rw (fields_nil, append-nil) w
 
@@ -62,23 +63,23 @@ module _ (word ns : List ℕ) where
 
 -- ---- the lines that are such
 
-two : (w s a b t : List ℕ) → w ++ ((s ++ a) ++ ((s ++ b) ++ [])) ++ t ≡ (w ++ s) ++ a ++ s ++ b ++ t
-two w s a b t = simp (append-nil b, append_assoc)
+two : (w a s b t : List ℕ) → (w ++ a) ++ ((s ++ b) ++ []) ++ t ≡ w ++ a ++ s ++ b ++ t
+two w a s b t = simp (append-nil b, append_assoc)
 
-three : (w s a b c t : List ℕ) → w ++ ((s ++ a) ++ ((s ++ b) ++ ((s ++ c) ++ []))) ++ t ≡ (w ++ s) ++ a ++ s ++ b ++ s ++ c ++ t
-three w s a b c t = simp (append-nil c, append_assoc)
+three : (w a s b c t : List ℕ) → (w ++ a) ++ ((s ++ b) ++ ((s ++ c) ++ [])) ++ t ≡ w ++ a ++ s ++ b ++ s ++ c ++ t
+three w a s b c t = simp (append-nil c, append_assoc)
 
-pub no_is : (number axis place : ℕ) → fields_line (110 ∷ 111 ∷ []) (number ∷ axis ∷ place ∷ []) ≡ no_line number axis place
+pub no_is : (number axis place : ℕ) → fields_line ((110 ∷ 111 ∷ 32 ∷ []) ++ decimal number) (axis ∷ place ∷ []) ≡ no_line number axis place
 unfolding fields_line fields no_line
-no_is number axis place = three (110 ∷ 111 ∷ []) (32 ∷ []) (decimal number) (decimal axis) (decimal place) (10 ∷ [])
+no_is number axis place = three (110 ∷ 111 ∷ 32 ∷ []) (decimal number) (32 ∷ []) (decimal axis) (decimal place) (10 ∷ [])
 
-pub cell_is : (axis index count : ℕ) → fields_line (99 ∷ 101 ∷ 108 ∷ 108 ∷ []) (axis ∷ index ∷ count ∷ []) ≡ cell_line axis index count
+pub cell_is : (axis index count : ℕ) → fields_line ((99 ∷ 101 ∷ 108 ∷ 108 ∷ 32 ∷ []) ++ decimal axis) (index ∷ count ∷ []) ≡ cell_line axis index count
 unfolding fields_line fields cell_line
-cell_is axis index count = three (99 ∷ 101 ∷ 108 ∷ 108 ∷ []) (32 ∷ []) (decimal axis) (decimal index) (decimal count) (10 ∷ [])
+cell_is axis index count = three (99 ∷ 101 ∷ 108 ∷ 108 ∷ 32 ∷ []) (decimal axis) (32 ∷ []) (decimal index) (decimal count) (10 ∷ [])
 
-pub number_is : (number count : ℕ) → (count ≡ 0 → ⊥) → fields_line (110 ∷ 111 ∷ []) (number ∷ count ∷ []) ≡ number_line number count
+pub number_is : (number count : ℕ) → (count ≡ 0 → ⊥) → fields_line ((110 ∷ 111 ∷ 32 ∷ []) ++ decimal number) (count ∷ []) ≡ number_line number count
 unfolding fields_line fields number_line
-number_is number count h = rw (ne_eqb count 0 h) (two (110 ∷ 111 ∷ []) (32 ∷ []) (decimal number) (decimal count) (10 ∷ []))
+number_is number count h = rw (ne_eqb count 0 h) (two (110 ∷ 111 ∷ 32 ∷ []) (decimal number) (32 ∷ []) (decimal count) (10 ∷ []))
 
 -- what the proofs of the code look for
 pub ruleset writes = (fields_front, fields_room, fields_here)

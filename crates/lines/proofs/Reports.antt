@@ -14,6 +14,7 @@ use borrow.Author.Tests.{le-leb, lt-leb, eq-eqb}
 use Rattle.answer.specs.Faults.{refusal}
 use Rattle.answer.specs.Answer.{refused}
 use Rattle.lines.specs.Line.{line_of, longest}
+use Rattle.lines.specs.Digit.{decimal}
 use Rattle.lines.specs.Put.{room_for}
 use Rattle.lines.specs.Report.{cell_line, number_line, joined, cell_lines, number_lines, report_of}
 use Rattle.lines.specs.Report.{held, cell_at, tally_report, report_most, report_into, report_end}
@@ -89,7 +90,7 @@ pub cell_fits : (a i n : ℕ) → a < 10 → i < 100 → n < 2 ^ 32 → length (
 unfolding cell_line
 cell_fits a i n h k l = simp length-append (omega (arith, decimal_most 0 a (omega arith), decimal_most 1 i (omega arith), decimal_most 9 n (omega arith)))
 
-pub cell_room : (a i n : ℕ) → a < 10 → i < 100 → n < 2 ^ 32 → length (fields_line (99 ∷ 101 ∷ 108 ∷ 108 ∷ []) (a ∷ i ∷ n ∷ [])) ≤ 21
+pub cell_room : (a i n : ℕ) → a < 10 → i < 100 → n < 2 ^ 32 → length (fields_line ((99 ∷ 101 ∷ 108 ∷ 108 ∷ 32 ∷ []) ++ decimal a) (i ∷ n ∷ [])) ≤ 21
 cell_room a i n h k l = rw cell_is (cell_fits a i n h k l)
 
 -- ---- the line of a number
@@ -105,7 +106,7 @@ module _ (k n : ℕ) where
       either_most (eqb n 0) 17 _ _ (omega arith)
       (simp length-append (omega (arith, decimal_most 1 k (omega arith), decimal_most 9 n (omega arith))))
 
-  pub number_room : (n ≡ 0 → ⊥) → k < 100 → n < 2 ^ 32 → length (fields_line (110 ∷ 111 ∷ []) (k ∷ n ∷ [])) ≤ 17
+  pub number_room : (n ≡ 0 → ⊥) → k < 100 → n < 2 ^ 32 → length (fields_line ((110 ∷ 111 ∷ 32 ∷ []) ++ decimal k) (n ∷ [])) ≤ 17
   number_room m h l = rw (number_is k n m) (number_fits h l)
 
 -- ---- counts of nodes that are held at 64

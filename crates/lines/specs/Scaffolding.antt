@@ -16,12 +16,12 @@ pub record Wrote (d : List ℕ) (at : ℕ) (xs e : List ℕ) (r : ℕ) : Type 0 
   pub bytes : e ≡ put d at xs
   pub next : r ≡ at + length xs
 
--- numbers in decimal, each after a blank
+-- further numbers in decimal, each after a blank
 unfoldable pub fields : List ℕ → List ℕ
 fields [] = []
 fields (n ∷ ns) = (32 ∷ decimal n) ++ fields ns
 
--- a line of a word and numbers
+-- a line of a word, such as a head and its first number, and further numbers
 unfoldable pub fields_line : List ℕ → List ℕ → List ℕ
 fields_line word ns = word ++ fields ns ++ (10 ∷ [])
 

@@ -41,8 +41,8 @@ pub fn put_line(a: Answer, out: &mut [u8], at: usize) -> usize
     if a.number == 0 {
         put_ok(a.value, out, at)
     } else {
-        let numbers = [u64::from(a.number), a.axis as u64, a.place as u64];
-        text::put_fields(b"no", &numbers, out, at)
+        let numbers = [a.axis as u64, a.place as u64];
+        text::put_fields(b"no ", u64::from(a.number), &numbers, out, at)
     }
 }
 

@@ -21,8 +21,8 @@ fn put_cells(axis: usize, n: usize, cells: &[u32; 252], out: &mut [u8], at: usiz
     let mut next = at;
     let from = axis * 63;
     for (i, count) in cells[from..from + n].iter().enumerate() {
-        let numbers = [axis as u64, i as u64, u64::from(*count)];
-        next = text::put_fields(b"cell", &numbers, out, next);
+        let numbers = [i as u64, u64::from(*count)];
+        next = text::put_fields(b"cell ", axis as u64, &numbers, out, next);
     }
     next
 }
@@ -50,8 +50,8 @@ fn put_numbers(numbers: &[u32; 21], out: &mut [u8], at: usize) -> usize
     let mut next = at;
     for (k, count) in numbers[1..].iter().enumerate() {
         if *count != 0 {
-            let met = [k as u64 + 1, u64::from(*count)];
-            next = text::put_fields(b"no", &met, out, next);
+            let met = [u64::from(*count)];
+            next = text::put_fields(b"no ", k as u64 + 1, &met, out, next);
         }
     }
     next

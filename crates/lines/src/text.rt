@@ -1,7 +1,7 @@
 // Bytes and digits put into a buffer: each writer gives the place past what it wrote.
 #![tactic(auto, using(crate::proofs::Digits::texts))]
 
-ghost use Rattle.std.specs.Prelude.{◌≡◌, [], ◌∷◌, ◌+◌, ◌<◌, ◌≤◌, length};
+ghost use Rattle.std.specs.Prelude.{◌≡◌, [], ◌∷◌, ◌++◌, ◌+◌, ◌<◌, ◌≤◌, length};
 ghost use Rattle.lines.specs.Scaffolding.{Wrote, fields_line};
 ghost use Rattle.lines.specs.Digit.{glyph_of, digits, places, decimal};
 
@@ -60,16 +60,17 @@ fn put_decimal(n: u64, out: &mut [u8], at: usize) -> usize
     put_digits(n, 10, k, out, at)
 }
 
-// A line of a word and numbers in decimal, each after a blank.
+// A line of a head with its blank and numbers in decimal, a blank between two.
 #[tactic(auto, using(crate::proofs::Fields::writes))]
-pub(crate) fn put_fields(word: &[u8], numbers: &[u64], out: &mut [u8], at: usize) -> usize
-    requires { at + length (fields_line word.now numbers.now) ≤ length out.old }
-    ensures { Wrote out.old at (fields_line word.now numbers.now) out.new result }
+pub(crate) fn put_fields(head: &[u8], first: u64, rest: &[u64], out: &mut [u8], at: usize) -> usize
+    requires { at + length (fields_line (head.now ++ decimal first) rest.now) ≤ length out.old }
+    ensures { Wrote out.old at (fields_line (head.now ++ decimal first) rest.now) out.new result }
 {
-    let mut next = put_bytes(word, out, at);
-    for n in numbers {
-        let from = put_byte(b' ', out, next);
-        next = put_decimal(*n, out, from);
+    let from = put_bytes(head, out, at);
+    let mut next = put_decimal(first, out, from);
+    for n in rest {
+        let after = put_byte(b' ', out, next);
+        next = put_decimal(*n, out, after);
     }
     put_byte(b'\n', out, next)
 }

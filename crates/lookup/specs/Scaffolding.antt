@@ -1,9 +1,8 @@
 -- Not for the reader of promises: what the functions between a block and the whole run ask for and give, held to by the checker.
-use Rattle.std.specs.Prelude.{◌≡◌, true, false, ◌⊎◌, List, ◌++◌, ℕ, ◌+◌, ◌-◌, ◌*◌, ◌^◌, ◌≤◌, ◌<◌, length, take, Result, IfOk, OnOk}
+use Rattle.std.specs.Prelude.{◌≡◌, true, false, ◌⊎◌, List, ◌++◌, ℕ, ◌+◌, ◌-◌, ◌*◌, ◌^◌, ◌≤◌, ◌<◌, length, take, OnOk, OnErr}
 use Rattle.lines.specs.Stream.{Rule}
 use Rattle.lines.specs.Scaffolding.{Turned}
 use Rattle.program.specs.declared.Counts.{Counts}
-use Rattle.program.specs.declared.print.Unprinted.{Unprinted}
 use Rattle.lookup.specs.declared.feed.Next.{Next}
 
 -- so many bytes more can be counted
@@ -25,11 +24,16 @@ pub record Room (p : Rule) (size held : ℕ) (buf out : List ℕ) (n : Counts) :
 abbrev pub Last : Rule → ℕ → List ℕ → Type 0
 Last p left rest = (left ≡ 0) ⊎ (length rest < p.size)
 
--- The block that was read into the buffer b after the bytes that are held was answered with them, a text of no more bytes than the output
--- has was printed and counted, and what is left of the bytes stands at the front of the buffer c. It goes on only where records were
--- answered, and stops only at the limit, or where the block did not fill the buffer and no whole record is left.
-pub record Turn (p : Rule) (held left : ℕ) (b c : List ℕ) (wide : ℕ) (block : List ℕ) (before after : Counts) (n : Next) : Type 0 where
+-- A block was read into the buffer b after the bytes that are held, and counted, and answered with them; a text of no more bytes than
+-- the output has was to be printed, and counted, and what is left of the bytes stands at the front of the buffer c. It goes on only where
+-- records were answered and the output stands. Where the output stands it stops only at the limit, or where the block did not fill the
+-- buffer and no whole record is left.
+pub record Stepped (p : Rule) (held left : ℕ) (b c : List ℕ) (wide : ℕ) (before after : Counts) (n : Next) : Type 0 where
+  pub block : List ℕ
   pub text : List ℕ
+  pub filled : held + length block ≤ length b
+  pub asked : after.asked + held ≡ before.asked + length b
+  pub read : after.read ≡ before.read + length block
   pub told : after.printed ≡ before.printed + length text
   pub short : length text ≤ wide
   pub turned : Turned p left (take held b ++ block) text n.left (take n.held c)
@@ -37,18 +41,12 @@ pub record Turn (p : Rule) (held left : ℕ) (b c : List ℕ) (wide : ℕ) (bloc
   pub holds : n.held ≤ length c
   pub within : n.left ≤ left
   pub goes : n.go ≡ true → n.left < left
-  pub stops : n.go ≡ false → (n.left ≡ 0) ⊎ ((held + length block < length b) × (n.held < p.size))
+  pub fails : OnErr n.printed (n.go ≡ false)
+  pub stops : n.go ≡ false → OnOk n.printed ((n.left ≡ 0) ⊎ ((held + length block < length b) × (n.held < p.size)))
 
--- A block was read into the buffer b after the bytes that are held, and counted; where the output stands it was a whole turn.
-pub record Stepped (p : Rule) (held left : ℕ) (b c : List ℕ) (wide : ℕ) (before after : Counts) (r : Result Next Unprinted) : Type 0 where
-  pub block : List ℕ
-  pub filled : held + length block ≤ length b
-  pub asked : after.asked + held ≡ before.asked + length b
-  pub read : after.read ≡ before.read + length block
-  pub turn : IfOk r (Turn p held left b c wide block before after)
-
--- nothing more was read, and where the output stands so many bytes more were printed
-pub record Ended (more : ℕ) (before after : Counts) (r : Result (Unit {0}) Unprinted) : Type 0 where
+-- nothing more was read, and so many bytes more, no more than the output has, were to be printed, and counted
+pub record Ended (more wide : ℕ) (before after : Counts) : Type 0 where
   pub asked : after.asked ≡ before.asked
   pub read : after.read ≡ before.read
-  pub printed : OnOk r (after.printed ≡ before.printed + more)
+  pub printed : after.printed ≡ before.printed + more
+  pub short : more ≤ wide

@@ -1,5 +1,5 @@
 // Records from an input, block by block, to lines on an output.
-ghost use Rattle.std.specs.Prelude.{◌≡◌, IfOk, ◌≤◌, length};
+ghost use Rattle.std.specs.Prelude.{◌≡◌, ◌≤◌, length};
 ghost use Rattle.lines.specs.Line.{longest};
 ghost use Rattle.lines.specs.Stream.{lines_of};
 ghost use Rattle.program.specs.Run.{rule_of};
@@ -14,12 +14,13 @@ use program::print::Unprinted;
 use program::{Counts, Ports, input, stdin, turns};
 use std::io::{Read, Write};
 
-// What a turn leaves: how many bytes are held, how many records may still come, and whether to go on.
+// What a turn leaves: how many bytes are held, how many records may still come, whether to go on, and whether the output stands.
 #[derive(Clone, Copy)]
 struct Next {
     held: usize,
     left: usize,
     go: bool,
+    printed: Result<usize, Unprinted>,
 }
 
 // Reads on after the bytes that are held, answers the whole records, prints their lines, and moves what is left to the front.
@@ -34,7 +35,7 @@ fn step<R: Read, W: Write>(
     out: &mut [u8],
     held: usize,
     left: usize,
-) -> Result<Next, Unprinted>
+) -> Next
     requires table_of { TableOf img.now shape nodes.now values.now }
     requires room { Room (rule_of img.now) size held buf.old out.old ports.old.counts }
     ensures { Stepped (rule_of img.now) held left buf.old buf.new (length out.old) ports.old.counts ports.new.counts result }
@@ -47,18 +48,20 @@ fn step<R: Read, W: Write>(
     let done = block::answer_block(shape, nodes, values, &buf[..have], left, out);
     let count = done.count;
     let written = done.written;
-    let printed = print::lines(&mut ports.to, img, &buf[..have], count, &out[..written])?;
-    ports.counts.printed += printed;
+    let printed = print::lines(&mut ports.to, img, &buf[..have], count, &out[..written]);
+    let told = printed.unwrap_or_else(|unprinted| unprinted.bytes);
+    ports.counts.printed += told;
     let used = count * size;
     let rest = have - used;
     turns::shift(buf, used, rest);
     let more = left - count;
     let full = have == buf.len();
-    Ok(Next {
+    Next {
         held: rest,
         left: more,
-        go: input::goes_on(full, more, rest >= size),
-    })
+        go: input::goes_on(printed.is_ok(), full, more, rest >= size),
+        printed,
+    }
 }
 
 // Prints what is printed at the input's end, of the bytes that are left.
@@ -72,10 +75,13 @@ fn end<R, W: Write>(
     requires room { longest ≤ length out.old }
     requires last { Last (rule_of img.now) left rest.now }
     requires printed_fits { Countable ports.old.counts.printed (length out.old) }
-    ensures { Ended (length (lines_of (rule_of img.now) left rest.now)) ports.old.counts ports.new.counts result }
+    ensures { Ended (length (lines_of (rule_of img.now) left rest.now)) (length out.old) ports.old.counts ports.new.counts }
 {
     let n = input::finish(rest.len(), left, out);
-    ports.counts.printed += print::end(&mut ports.to, img, rest, left, &out[..n])?;
+    let printed = print::end(&mut ports.to, img, rest, left, &out[..n]);
+    let last = printed.unwrap_or_else(|unprinted| unprinted.bytes);
+    ports.counts.printed += last;
+    printed?;
     Ok(())
 }
 
@@ -96,15 +102,17 @@ fn answer_blocks<R: Read, W: Write>(
     let size = 1 + 8 * shape.axes;
     let mut held: usize = 0;
     let mut left: usize = program::MOST_RECORDS;
+    let mut go = true;
+    let mut printed = Ok(0);
     ports.counts = Counts::none();
-    loop {
-        let next = step(ports, img, shape, nodes, values, size, buf, out, held, left)?;
+    while go {
+        let next = step(ports, img, shape, nodes, values, size, buf, out, held, left);
         held = next.held;
         left = next.left;
-        if !next.go {
-            break;
-        }
+        go = next.go;
+        printed = next.printed;
     }
+    printed?;
     end(ports, img, &buf[..held], left, out)
 }
 

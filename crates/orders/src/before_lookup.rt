@@ -18,6 +18,7 @@ pub fn lookup_fault(
 ) -> Result<(), Refusal>
     ensures { said result ≡ lookup_fault shape nodes.now values.now point.now }
 {
+    // what is lent, what is stored, what is read
     shapes::frame_fault(shape, nodes.len(), values.len())?;
     lent::length_fault(2, shape.axes, point.len())?;
     table::axes_fault(shape, nodes)?;
@@ -36,6 +37,7 @@ pub fn step_fault(
 ) -> Result<(), Refusal>
     ensures { said result ≡ step_fault shape nodes.now values.now point.now directions.now }
 {
+    // the same, with the length of the directions after that of the reading, and the directions after the values
     shapes::frame_fault(shape, nodes.len(), values.len())?;
     lent::length_fault(2, shape.axes, point.len())?;
     lent::length_fault(3, shape.axes, directions.len())?;
@@ -46,7 +48,8 @@ pub fn step_fault(
     table::ranges_fault(shape, nodes, point)
 }
 
-// The same with 8 of all axes.
+// The same with 8 of all axes. Never inlined: its frame would stay on a board's stack under the blend's.
+#[inline(never)]
 pub fn linear_uniform_fault(
     shape: Shape,
     nodes: &[f64],
@@ -55,6 +58,7 @@ pub fn linear_uniform_fault(
 ) -> Result<(), Refusal>
     ensures { said result ≡ linear_uniform_fault shape nodes.now values.now point.now }
 {
+    // the same, with the spacing of the axes after the values
     shapes::frame_fault(shape, nodes.len(), values.len())?;
     lent::length_fault(2, shape.axes, point.len())?;
     table::axes_fault(shape, nodes)?;

@@ -34,6 +34,7 @@ pub fn nearest_front(
 ) -> Result<(), Refusal>
     ensures { said result ≡ nearest_front shape nodes.now values.now axis }
 {
+    // what is lent, the axis, what is stored
     shapes::frame_fault(shape, nodes.len(), values.len())?;
     no_axis_fault(shape.axes, axis)?;
     table::axes_fault(shape, nodes)?;

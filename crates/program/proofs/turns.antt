@@ -1,3 +1,4 @@
 pub mod Shifts
 pub mod Turning
 pub mod Unique
+pub mod Kept

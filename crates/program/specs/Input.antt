@@ -13,9 +13,9 @@ image_size input = cond (leb 40 (word_at 4 input 4) && leb (word_at 4 input 4) 3
 abbrev pub image_in : List ℕ → List ℕ
 image_in input = take (image_size input) input
 
--- whether the program, whose output stands, reads on: records may still come, and the buffer was filled or holds a whole record still
-unfoldable pub goes_on : Bool → ℕ → Bool → Bool
-goes_on full left whole = cond (eqb left 0) false (full || whole)
+-- whether the program reads on: its output stands, records may still come, and the buffer was filled or holds a whole record still
+unfoldable pub goes_on : Bool → Bool → ℕ → Bool → Bool
+goes_on ok full left whole = cond ok (cond (eqb left 0) false (full || whole)) false
 
 -- "A short last record prints `no 3 0 2` and nothing more.": no bytes are no record, and once the last record of the limit is answered nothing is printed
 unfoldable pub nothing_more : ℕ → ℕ → Bool

@@ -19,11 +19,11 @@ pub fn image_size(head: &[u8]) -> usize
     stated
 }
 
-// Whether to read on, where the output stands.
-pub fn goes_on(full: bool, left: usize, whole: bool) -> bool
-    ensures { result ≡ goes_on full left whole }
+// Whether to read on.
+pub fn goes_on(ok: bool, full: bool, left: usize, whole: bool) -> bool
+    ensures { result ≡ goes_on ok full left whole }
 {
-    left != 0 && (full || whole)
+    ok && left != 0 && (full || whole)
 }
 
 // Puts what is printed at the input's end, where so many bytes are left and so many records may still come.

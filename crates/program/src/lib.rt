@@ -12,6 +12,8 @@ use print::Unprinted;
 pub mod input;
 // the image at the front of an input, loaded
 pub mod front;
+// an image that was loaded, and its table
+pub mod loaded;
 // one whole run as a call: an input in memory, its lines in an output
 pub mod run;
 // the same of the coverage report

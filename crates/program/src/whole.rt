@@ -1,11 +1,11 @@
 // One whole run of a program: the image is read and loaded, and the records that follow it are taken, or its refusal is printed.
 ghost use Rattle.std.specs.Prelude.{◌≡◌, List, ℕ, length, take};
 ghost use Rattle.program.specs.Input.{image_in};
-ghost use Rattle.program.specs.Whole.{TableOf, Ran};
+ghost use Rattle.program.specs.Whole.{Ran};
 
+use crate::loaded::Loaded;
 use crate::print::Unprinted;
 use crate::{Ports, Totals, front, refused, stdin};
-use layout::Shape;
 use std::io::{Read, Write};
 
 // What a program does with records.
@@ -19,13 +19,9 @@ pub trait Records {
     // Takes the records that follow an image, until the input ends or there were enough.
     fn feed<R: Read, W: Write>(
         ports: &mut Ports<R, W>,
-        img: &[u8],
-        shape: Shape,
-        nodes: &[f64],
-        values: &[f64],
+        loaded: &Loaded<'_>,
     ) -> Result<(), Unprinted>
-        requires { TableOf img.now shape nodes.now values.now }
-        ensures { Ran text (enough img.now) img.now ports.new.counts result };
+        ensures { Ran text (enough loaded.now.img.now) loaded.now.img.now ports.new.counts result };
 }
 
 // Loads the image that was read into two outputs, and takes the records by what stands at their fronts; or the image is refused.
@@ -45,7 +41,13 @@ fn take_image<P: Records, R: Read, W: Write>(
     }
     let n = loaded.nodes;
     let v = loaded.values;
-    P::feed(ports, img, loaded.shape, &nodes[..n], &values[..v])
+    let table = Loaded {
+        img,
+        shape: loaded.shape,
+        nodes: &nodes[..n],
+        values: &values[..v],
+    };
+    P::feed(ports, &table)
 }
 
 // One whole run: the image, and what follows it.

@@ -20,6 +20,7 @@ use Rattle.layout.specs.Shape.{counts_of, size}
 use Rattle.layout.specs.Layout.{place, table, tabulate, indices_at, without, slice_values, axis_of}
 use Rattle.layout.specs.declared.Shape.{Shape}
 use Rattle.layout.proofs.Layouts.{length-tabulate, get_d_tabulate, tabulate_same, size-cons, place-cons, place_below, indices-place, indices_inside}
+use Rattle.axis.specs.Locations.{location_index}
 use Rattle.blend.specs.Blend.{blended, sliced}
 use Rattle.blend.specs.Scaffolding.{blends, blended_into}
 use Rattle.checks.specs.Numbers.{results_fault, result_fault}
@@ -39,6 +40,11 @@ without-first [] = refl
 without-first (c ∷ cs) = refl
 
 -- ---- at a node
+
+-- a location that lies between no two nodes is the node that it names
+pub at_node : {l found : AxisLocation} {m n : ℕ} → l ≡ Exact m → n ≡ location_index l → l ≡ found → Exact n ≡ found
+at_node e q s = ap Exact (q ∙ ap location_index e) ∙ sym e ∙ s
+
 along-exact : (node : ℕ) (counts : List ℕ) (values : List Float) → along_first (Exact node) counts values ≡ slice_values 0 node counts values
 unfolding along_first slice_values
 along-exact node counts values = refl

@@ -31,7 +31,7 @@ fn pick_slice(
         ++ drop (size (without axis (counts_of shape))) out.old }
 {
     let grid = remaining::axis_nodes(shape, nodes, axis);
-    let i = picks::pick_index(pick, grid, point);
+    let i = picks::index_by(pick, grid, point);
     let inner = remaining::stride(shape, axis);
     written::fill(values, grid.len(), inner, i, out);
 }
@@ -73,15 +73,13 @@ fn along_first(
     let grid = remaining::axis_nodes(shape, nodes, 0);
     let n = grid.len();
     let rest = values.len() / n;
-    match locate::location_by(uniform, grid, point) {
-        AxisLocation::Exact(node) => {
-            written::fill(values, n, rest, node, out);
-            Ok(())
-        }
-        AxisLocation::Between { lower, frac } => {
-            written::blend_runs(values, rest, lower, frac, out)
-        }
-    }
+    let location = locate::location_by(uniform, grid, point);
+    let node = locate::lower_node(location);
+    let AxisLocation::Between { lower, frac } = location else {
+        written::fill(values, n, rest, node, out);
+        return Ok(());
+    };
+    written::blend_runs(values, rest, lower, frac, out)
 }
 
 // Judges the one reading and the room, then the values, and writes.

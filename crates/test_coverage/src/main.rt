@@ -2,6 +2,19 @@
 // those of vectors/coverage.py.
 #![tactic(auto)]
 
+use program::coverage;
+use program::run::RunAnswer;
+use test_runs::Call;
+
+// The coverage report of an input.
+struct Report;
+
+impl Call for Report {
+    fn run(input: &[u8], out: &mut [u8]) -> RunAnswer {
+        coverage::run(input, out)
+    }
+}
+
 fn main() {
-    test_runs::take_all(program::coverage::run);
+    test_runs::take_all::<Report>();
 }

@@ -1,5 +1,5 @@
-// Runs each input of a list on standard input, an image and records, from memory, by the call that it is given: `program::run::run`, which
-// gives an input's lines, or `program::coverage::run`, which gives its coverage report.
+// Runs each input of a list on standard input, an image and records, from memory, by a call: `program::run::run`, which gives an input's
+// lines, or `program::coverage::run`, which gives its coverage report.
 #![tactic(auto)]
 
 // what every test that answers a list shares
@@ -16,23 +16,25 @@ const MOST_BYTES: usize = 40_000;
 // The text of an input of the list: at most 20 bytes for 9 of a record, or a report.
 const MOST_TEXT: usize = 98_304;
 
+// The call that runs an input of the list.
+pub trait Call {
+    // Puts what the input says into an output, which may be longer.
+    fn run(input: &[u8], out: &mut [u8]) -> RunAnswer;
+}
+
 // Runs an input, and writes what it put into the output.
-fn print_run<F: Fn(&[u8], &mut [u8]) -> RunAnswer>(call: &F, input: &[u8], out: &mut [u8])
-    requires { F.IsAlwaysCallable call.now }
-{
-    let done = call(input, out);
+fn print_run<C: Call>(input: &[u8], out: &mut [u8]) {
+    let done = C::run(input, out);
     let n = done.written.min(out.len());
     list::put(&out[..n]);
 }
 
 // Runs an input in all of the output, then in one byte less than its text has, then in just as many, which are written.
-fn answer<F: Fn(&[u8], &mut [u8]) -> RunAnswer>(call: &F, input: &[u8], out: &mut [u8])
-    requires { F.IsAlwaysCallable call.now }
-{
-    let done = call(input, out);
+fn answer<C: Call>(input: &[u8], out: &mut [u8]) {
+    let done = C::run(input, out);
     let n = done.written.min(out.len());
-    room::try_less(call, input, n, out);
-    print_run(call, input, &mut out[..n]);
+    room::try_less::<C>(input, n, out);
+    print_run::<C>(input, &mut out[..n]);
 }
 
 // The length of the next run: four bytes, little-endian.
@@ -43,14 +45,7 @@ fn read_length() -> Result<usize, Stop> {
 }
 
 // Takes the next run of the list.
-fn take<F: Fn(&[u8], &mut [u8]) -> RunAnswer>(
-    call: &F,
-    run: u64,
-    space: &mut [u8],
-    out: &mut [u8],
-) -> Result<(), Stop>
-    requires { F.IsAlwaysCallable call.now }
-{
+fn take<C: Call>(run: u64, space: &mut [u8], out: &mut [u8]) -> Result<(), Stop> {
     let length = read_length()?;
     if length > space.len() {
         return Err(Stop::BadList);
@@ -59,18 +54,16 @@ fn take<F: Fn(&[u8], &mut [u8]) -> RunAnswer>(
     list::read_rest(input)?;
     list::put_number(b"run ", run);
     list::end(b"\n")?;
-    answer(call, input, out);
+    answer::<C>(input, out);
     Ok(())
 }
 
 // Takes all runs of the list, and writes what the call gives of each.
-pub fn take_all<F: Fn(&[u8], &mut [u8]) -> RunAnswer>(call: F)
-    requires { F.IsAlwaysCallable call }
-{
+pub fn take_all<C: Call>() {
     let mut space = [0u8; MOST_BYTES];
     let mut out = [0u8; MOST_TEXT];
     for run in 0..u64::MAX {
-        if let Err(stop) = take(&call, run, &mut space, &mut out) {
+        if let Err(stop) = take::<C>(run, &mut space, &mut out) {
             return list::say_stop(stop);
         }
     }

@@ -1,5 +1,5 @@
 // An output of one byte less than a run writes.
-use crate::list;
+use crate::{Call, list};
 use program::run::RunAnswer;
 
 const MARK: u8 = 165;
@@ -11,11 +11,9 @@ fn is_refused(done: RunAnswer) -> bool {
 }
 
 // Runs an input into an output that is too short, and writes a line where it is not refused or not left as it was.
-fn try_short<F: Fn(&[u8], &mut [u8]) -> RunAnswer>(call: &F, input: &[u8], out: &mut [u8])
-    requires { F.IsAlwaysCallable call.now }
-{
+fn try_short<C: Call>(input: &[u8], out: &mut [u8]) {
     out.fill(MARK);
-    let refused = is_refused(call(input, out));
+    let refused = is_refused(C::run(input, out));
     let kept = out.iter().all(|byte| *byte == MARK);
     if !(refused && kept) {
         list::put(b"bad room\n");
@@ -23,17 +21,10 @@ fn try_short<F: Fn(&[u8], &mut [u8]) -> RunAnswer>(call: &F, input: &[u8], out: 
 }
 
 // Runs an input that writes n bytes into one byte less.
-pub(crate) fn try_less<F: Fn(&[u8], &mut [u8]) -> RunAnswer>(
-    call: &F,
-    input: &[u8],
-    n: usize,
-    out: &mut [u8],
-)
-    requires { F.IsAlwaysCallable call.now }
-{
+pub(crate) fn try_less<C: Call>(input: &[u8], n: usize, out: &mut [u8]) {
     if n == 0 {
         return;
     }
     let less = (n - 1).min(out.len());
-    try_short(call, input, &mut out[..less]);
+    try_short::<C>(input, &mut out[..less]);
 }

@@ -1,3 +1,2 @@
-pub mod Points
 pub mod Primitives
 pub mod Refusals

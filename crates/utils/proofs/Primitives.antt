@@ -90,13 +90,9 @@ module _ (nodes : List Float) (p : Float) where
             direction judged,
       )
 
-  -- the pick toward a direction that was judged is Step's index
-  pub directed : (direction : ℕ) → said {A = Unit {0}} (Ok tt) ≡ directed_fault direction nodes p → step_index direction nodes p ≡ pick_found (min direction 1) nodes p
-  directed direction s =
-      let judged = directed_good direction (passes tt (directed_fault direction nodes p) s) in
-      let few : direction < 2 = judged.0 in
-      let same : direction ≡ min direction 1 = omega arith in
-      sym judged.1 ∙ ap (λ (d : ℕ). pick_found d nodes p) same
+  -- the pick of a direction that was judged is Step's index
+  pub directed : (direction : ℕ) → said {A = Unit {0}} (Ok tt) ≡ directed_fault direction nodes p → step_index direction nodes p ≡ pick_found direction nodes p
+  directed direction s = sym (directed_good direction (passes tt (directed_fault direction nodes p) s)).1
 
   -- where `locate_axis` found a location it is the paper's
   pub location_is : said {A = Unit {0}} (Ok tt) ≡ axis_reading_fault nodes p → axis_location nodes p ≡ location_found false nodes p

@@ -13,8 +13,7 @@ ghost use Rattle.utils.specs.Calls.{locate_lower_index_uniform, validate_uniform
 ghost use Rattle.utils.specs.Scaffolding.{ReadableAxis};
 
 use answer::{Answer, Refusal};
-use axis::picks::{self, Pick};
-use axis::{exact, locate, uniform};
+use axis::{exact, locate, picks, uniform};
 use rust::AxisLocation;
 
 // the checks of the primitives, in their orders
@@ -130,8 +129,21 @@ fn lower_index(grid: &[f64], point: f64) -> usize
     if point >= grid[n - 1] {
         return n - 2;
     }
-    let upper = grid.partition_point(|node| *node < point);
-    upper.saturating_sub(1)
+    let mut low = 0;
+    let mut high = n - 1;
+    while low < high {
+        let mid = low + (high - low) / 2;
+        if grid[mid] >= point {
+            high = mid;
+        } else {
+            low = mid + 1;
+        }
+    }
+    if low > 0 && grid[low] >= point {
+        low - 1
+    } else {
+        low
+    }
 }
 
 // Where a reading lies for Linear, with its checks in front and the one of its fraction after it.
@@ -174,7 +186,7 @@ pub fn locate_step_index(direction: u8, grid: &[f64], point: f64) -> IndexAnswer
     ensures { result ≡ locate_step_index direction grid.now point }
 {
     match front::directed_fault(direction, grid, point) {
-        Ok(()) => IndexAnswer::from(picks::pick_index(Pick::toward(direction), grid, point)),
+        Ok(()) => IndexAnswer::from(picks::pick_index(direction, grid, point)),
         Err(refusal) => IndexAnswer::from(refusal),
     }
 }

@@ -1,5 +1,5 @@
 -- A turn: a block is read, answered and printed, and what is left is moved to the front. Assumes nothing.
-use mathlib.Core.Path.{◌≡◌, sym, ap, ◌∙◌, subst}
+use mathlib.Core.Path.{◌≡◌, refl, sym, ap, ◌∙◌, subst}
 use mathlib.Core.Bool.{Bool, true, false}
 use mathlib.Core.Logic.{◌⊎◌, inl, inr, ⊎_elim}
 use mathlib.Core.List.{List}
@@ -21,13 +21,12 @@ use Rattle.lines.proofs.Puts.{wrote_take}
 use Rattle.lines.proofs.Runs.{cut_off}
 use Rattle.program.specs.Input.{goes_on, end_into, end_size}
 use Rattle.program.specs.Scaffolding.{shifted}
-use Rattle.program.proofs.input.Ends.{goes_on_means, stops_means, no_record_left, end_told}
+use Rattle.program.proofs.input.Ends.{goes_on_means, stops_means, output_failed, no_record_left, end_told}
 use Rattle.program.proofs.turns.Turning.{turning}
 use Rattle.program.specs.declared.Counts.{Counts}
 use Rattle.program.specs.declared.print.Unprinted.{Unprinted}
-use Rattle.std.specs.Prelude.{Result, IfOk}
-use Rattle.lookup.specs.Scaffolding.{Room, Last, Turn, Stepped}
-use Rattle.lookup.specs.declared.feed.Next.{Next}
+use Rattle.std.specs.Prelude.{Result, Ok, Err, OnOk, OnErr, is_ok}
+use Rattle.lookup.specs.Scaffolding.{Room, Last, Stepped, Ended}
 
 -- b is the buffer before the block was read and c after it; d is the output before the records were answered and e after it
 pub record Done (p : Rule) (size held left have count written : ℕ) (b c d e : List ℕ) (n : Counts) : Type 0 where
@@ -103,44 +102,50 @@ module _ {p : Rule} {size held left have count written : ℕ} {b c d e : List �
     spent : (left - (left - count)) * p.size ≡ count * size
     spent = ap (λ (n : ℕ). n * p.size) (omega (arith, step_count)) ∙ sym same
 
-    goes : goes_on full (left - count) whole ≡ true → left - count < left
-    goes h =
-        let q = goes_on_means full (left - count) whole h in
+    goes : (ok : Bool) → goes_on ok full (left - count) whole ≡ true → left - count < left
+    goes ok h =
+        let q = goes_on_means full (left - count) whole ok h in
         let n : count ≡ 0 → ⊥ = some q.0 (⊎_elim (λ x. inl (eqb-true have (length f) x ∙ wide)) (λ x. inr (leb-true size (have - count * size) x)) q.1) in
         omega (arith, n, step_count)
 
-    stops : goes_on full (left - count) whole ≡ false → (left - count ≡ 0) ⊎ ((held + length k.filled.block < length b) × (have - count * size < p.size))
+    stops : goes_on true full (left - count) whole ≡ false → (left - count ≡ 0) ⊎ ((held + length k.filled.block < length b) × (have - count * size < p.size))
     stops h = ⊎_elim inl (λ q. inr (short (eqb-false have (length f) q.0), omega (arith, leb-false size (have - count * size) q.1, k.room.sized))) (stops_means full (left - count) whole h)
       where
         short : (have ≡ length f → ⊥) → held + length k.filled.block < length b
         short n = omega (arith, n, wide, k.kept, step_there, filled_count k.room.holds k.filled)
 
-    pub stepped : (printed : ℕ) (go : Bool) (after : Counts) → printed ≡ length (lines_first p count (take have c))
-        → go ≡ goes_on (eqb have (length f)) (left - count) (leb size (have - count * size)) → after.printed ≡ n.printed + printed
-        → Turn p held left b f (length d) k.filled.block n after (record { held = have - count * size; left = left - count; go = go })
-    stepped printed go after w g q = record {
+    -- by whether the output stands
+    fails_by : (printed : Result ℕ Unprinted) (go : Bool) → go ≡ goes_on (is_ok printed) full (left - count) whole → OnErr printed (go ≡ false)
+    fails_by (Ok x) go g = tt
+    fails_by (Err e) go g = g ∙ sym (output_failed false full (left - count) whole refl)
+
+    stops_by : (printed : Result ℕ Unprinted) (go : Bool) → go ≡ goes_on (is_ok printed) full (left - count) whole → go ≡ false
+        → OnOk printed ((left - count ≡ 0) ⊎ ((held + length k.filled.block < length b) × (have - count * size < p.size)))
+    stops_by (Ok x) go g h = stops (sym g ∙ h)
+    stops_by (Err e) go g h = tt
+
+    pub stepped : (printed : Result ℕ Unprinted) (told : ℕ) (ok go : Bool) (after : Counts) → told ≡ length (lines_first p count (take have c))
+        → ok ≡ is_ok printed → go ≡ goes_on ok full (left - count) whole → after.asked ≡ n.asked + (length b - held) → after.read ≡ n.read + (have - held)
+        → after.printed ≡ n.printed + told → Stepped p held left b f (length d) n after (record { held = have - count * size; left = left - count; go = go; printed = printed })
+    stepped printed told ok go after w o g a r q = record {
+      block = k.filled.block;
       text = take written e;
+      filled = omega (arith, filled_count k.room.holds k.filled, k.filled.within, k.kept);
+      asked = omega (arith, a, k.room.holds);
+      read = omega (arith, r, filled_count k.room.holds k.filled);
       told = omega (arith, q, ap length step_text_lem ∙ sym w);
       short = omega (arith, length-take-le written e step_room, step_room, k.spaced);
       turned = rw (← k.filled.bytes) turn;
       spent = omega (arith, spent, step_used, filled_count k.room.holds k.filled);
       holds = omega (arith, step_there, wide);
       within = omega arith;
-      goes = λ h. goes (sym g ∙ h);
-      stops = λ h. stops (sym g ∙ h);
+      goes = λ h. goes ok (sym g ∙ h);
+      fails = fails_by printed go by_printed;
+      stops = stops_by printed go by_printed;
     }
-
--- what was read is counted, whether or not it could be answered
-module _ {p : Rule} {held left have : ℕ} {b c f : List ℕ} {wide : ℕ} {before after : Counts} (h : held ≤ length b) (kept : length c ≡ length b) (filled : Filled held b c have) where
-  pub block_read : (r : Result Next Unprinted) → after.asked ≡ before.asked + (length b - held) → after.read ≡ before.read + (have - held)
-      → IfOk r (Turn p held left b f wide filled.block before after) → Stepped p held left b f wide before after r
-  block_read r a q t = record {
-    block = filled.block;
-    filled = omega (arith, filled_count h filled, filled.within, kept);
-    asked = omega (arith, a, h);
-    read = omega (arith, q, filled_count h filled);
-    turn = t;
-  }
+      where
+        by_printed : go ≡ goes_on (is_ok printed) full (left - count) whole
+        by_printed = g ∙ ap (λ (b : Bool). goes_on b full (left - count) whole) o
 
 -- what is put at the input's end is what is printed of the rest
 pub end_put : (p : Rule) → p.cut ≡ line_of (refused (refusal 3 0 2)) → (left : ℕ) (rest out : List ℕ) → longest ≤ length out → Last p left rest
@@ -152,3 +157,13 @@ end_put p cut left rest out room (inl z) r after e f =
 end_put p cut left rest out room (inr s) r after e f =
     let t = end_told p cut (length rest) left rest out (omega arith) room s r after e f in
     (t.0 ∙ ap (lines_of p left) (take_all (length rest) rest (omega arith)), t.1)
+
+-- the rest was printed or not, and what is put of it is as long as the output has room for
+pub ended : {more told n : ℕ} (after out : List ℕ) {before counts : Counts} → counts.asked ≡ before.asked → counts.read ≡ before.read → counts.printed ≡ before.printed + told → told ≡ more
+    → length (take n after) ≡ more → n ≤ length after → length after ≡ length out → Ended more (length out) before counts
+ended {n = n} after out a r q w put fits kept = record {
+  asked = a;
+  read = r;
+  printed = omega (arith, q, w);
+  short = omega (arith, put, length-take-le n after fits, fits, kept);
+}

@@ -131,26 +131,33 @@ image_read img after size r l e f k =
     ap image_in f.bytes ∙ read_whole (take 40 img) f.block h (omega (arith, n, k, e)) ∙ sym f.bytes
 
 -- ---- whether the program reads on
+module _ (ok full : Bool) (left : ℕ) (whole : Bool) where
+  pub output_failed : ok ≡ false → false ≡ goes_on ok full left whole
+  unfolding goes_on
+  output_failed h = sym (ap (λ (b : Bool). cond b (cond (eqb left 0) false (full || whole)) false) h)
+
+  module _ (h : ok ≡ true) where
+    pub limit_reached : left ≡ 0 → false ≡ goes_on ok full left whole
+    unfolding goes_on
+    limit_reached z = sym (ap₂ (λ (b c : Bool). cond b (cond c false (full || whole)) false) h (eq-eqb left 0 z))
+
+    pub more_to_come : (left ≡ 0 → ⊥) → (full || whole) ≡ goes_on ok full left whole
+    unfolding goes_on
+    more_to_come z = sym (ap₂ (λ (b c : Bool). cond b (cond c false (full || whole)) false) h (ne_eqb left 0 z))
+
+-- what it means that the program reads on, and that it does not though its output stands
 module _ (full : Bool) (left : ℕ) (whole : Bool) where
-  pub limit_reached : left ≡ 0 → false ≡ goes_on full left whole
+  pub goes_on_means : (ok : Bool) → goes_on ok full left whole ≡ true → (left ≡ 0 → ⊥) × ((full ≡ true) ⊎ (whole ≡ true))
   unfolding goes_on
-  limit_reached z = sym (ap (λ (b : Bool). cond b false (full || whole)) (eq-eqb left 0 z))
-
-  pub more_to_come : (left ≡ 0 → ⊥) → (full || whole) ≡ goes_on full left whole
-  unfolding goes_on
-  more_to_come z = sym (ap (λ (b : Bool). cond b false (full || whole)) (ne_eqb left 0 z))
-
-  -- what it means that the program reads on, and that it does not
-  pub goes_on_means : goes_on full left whole ≡ true → (left ≡ 0 → ⊥) × ((full ≡ true) ⊎ (whole ≡ true))
-  unfolding goes_on
-  goes_on_means h = go (eqb left 0) (eqb-false left 0) full whole h
+  goes_on_means ok h = go ok (eqb left 0) (eqb-false left 0) full whole h
     where
-      go : (b : Bool) → (b ≡ false → left ≡ 0 → ⊥) → (f w : Bool) → cond b false (f || w) ≡ true → (left ≡ 0 → ⊥) × ((f ≡ true) ⊎ (w ≡ true))
-      go false n true w e = (n refl, inl refl)
-      go false n false w e = (n refl, inr e)
-      go true n f w e = clash false e refl
+      go : (a b : Bool) → (b ≡ false → left ≡ 0 → ⊥) → (f w : Bool) → cond a (cond b false (f || w)) false ≡ true → (left ≡ 0 → ⊥) × ((f ≡ true) ⊎ (w ≡ true))
+      go true false n true w e = (n refl, inl refl)
+      go true false n false w e = (n refl, inr e)
+      go true true n f w e = clash false e refl
+      go false b n f w e = clash false e refl
 
-  pub stops_means : goes_on full left whole ≡ false → (left ≡ 0) ⊎ ((full ≡ false) × (whole ≡ false))
+  pub stops_means : goes_on true full left whole ≡ false → (left ≡ 0) ⊎ ((full ≡ false) × (whole ≡ false))
   unfolding goes_on
   stops_means h = go (eqb left 0) (eqb-true left 0) full whole h
     where

@@ -1,8 +1,8 @@
 -- A turn of the buffer, by a block and a shift, and what it means for the bytes still to come. Assumes nothing.
 use mathlib.Core.Path.{◌≡◌, refl, sym, ap, ◌∙◌}
-use mathlib.Core.Bool.{Bool, true, false, not}
+use mathlib.Core.Bool.{Bool, true, false, cond}
 use mathlib.Core.List.{List, [], ◌∷◌}
-use Prim.Native.Nat.{ℕ, zero, suc, ◌+◌, ◌-◌, ◌*◌, ◌≤◌}
+use Prim.Native.Nat.{ℕ, zero, suc, ◌+◌, ◌-◌, ◌*◌, ◌≤◌, ◌<◌}
 use native.Mathlib.Omega.{arith}
 use lib.ListN.{length, take, drop}
 use lib.Seq.{length-take-le, take-nil}
@@ -26,14 +26,20 @@ left_moved have used b c h u m =
     let fits : used + (have - used) ≤ length b = omega arith in
     ap (take (have - used)) m ∙ shifted_front b used (have - used) fits ∙ sym (drop-take used have b)
 
--- a turn after which it goes on, and one after which it does not
-pub on : (go : Bool) → not go ≡ false → go ≡ true
-on true h = refl
-on false h = sym h
+-- ---- how many turns are left at most: one for each record that may still come, and one more while it goes on
+abbrev pub turns_left : ℕ → Bool → ℕ
+turns_left left go = left + cond go 1 0
 
-pub off : (go : Bool) → not go ≡ true → go ≡ false
-off true h = sym h
-off false h = refl
+-- each turn leaves one less
+pub fewer : (left next : ℕ) (go on : Bool) → go ≡ true → next ≤ left → (on ≡ true → next < left) → turns_left next on < turns_left left go
+fewer left next go on e l h = by on h
+  where
+    one : turns_left left go ≡ left + 1
+    one = ap (turns_left left) e
+
+    by : (b : Bool) → (b ≡ true → next < left) → turns_left next b < turns_left left go
+    by true k = let f : next < left = k refl in omega (arith, one)
+    by false k = omega (arith, one)
 
 -- ---- records answered by a rule: b is the buffer before a turn and c after it, d the output before it and e after it
 pub turning : {p : Rule} {most : ℕ} (have : ℕ) (b : List ℕ) {d c e : List ℕ} {count written : ℕ} → have ≤ length b → Block p most (take have b) d e count written → length e ≡ length d

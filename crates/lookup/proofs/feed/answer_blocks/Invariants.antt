@@ -1,9 +1,10 @@
 use Rattle.program.specs.Run.{rule_of}
+use Rattle.program.proofs.turns.Turning.{turns_left}
 use Rattle.lookup.proofs.feed.Loops.{Feeding}
 use Rattle.lookup.proofs.feed.answer_blocks.Given as goal
 
-abbrev pub invariant-loop-next : goal.invariant-loop-next
-invariant-loop-next g l = Feeding (rule_of l.img) l.buf l.out l.held l.left l.ports.counts
+abbrev pub invariant-loop-go : goal.invariant-loop-go
+invariant-loop-go g l = Feeding (rule_of l.img) l.buf l.out l.held l.left l.ports.counts l.go l.printed
 
-abbrev pub decreases-loop-next : goal.decreases-loop-next
-decreases-loop-next g l = l.left
+abbrev pub decreases-loop-go : goal.decreases-loop-go
+decreases-loop-go g l = turns_left l.left l.go

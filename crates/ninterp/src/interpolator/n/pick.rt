@@ -18,7 +18,7 @@ fn pick_place<F: Fn(usize) -> Pick>(shape: Shape, nodes: &[f64], pick: F, point:
     for a in 0..shape.axes {
         let count = shape.counts[a];
         let end = at + count;
-        let i = picks::pick_index(pick(a), &nodes[at..end], point[a]);
+        let i = picks::index_by(pick(a), &nodes[at..end], point[a]);
         flat = flat * count + i;
         at = end;
     }

@@ -14,17 +14,17 @@ pick-requires g c = c.requires.callable _ c.loop-a-test.true
 pub offset_bounds-nodes-at : goal.offset_bounds-nodes-at
 offset_bounds-nodes-at g c = omega (arith, axis_within c.requires.readable_table (picking_walks c.loop-a.invariant) c.loop-a-test.true)
 
-pub slice_bounds-pick_index-end : goal.slice_bounds-pick_index-end
-slice_bounds-pick_index-end g c = omega (arith, axis_within c.requires.readable_table (picking_walks c.loop-a.invariant) c.loop-a-test.true)
+pub slice_bounds-index_by-end : goal.slice_bounds-index_by-end
+slice_bounds-index_by-end g c = omega (arith, axis_within c.requires.readable_table (picking_walks c.loop-a.invariant) c.loop-a-test.true)
 
 pub overflow_mul-flat : goal.overflow_mul-flat
-overflow_mul-flat g c = omega (arith, picking_fits _ c.requires.readable_table c.loop-a.invariant c.loop-a-test.true _ c.pick.ensures c.pick_index-i.ensures)
+overflow_mul-flat g c = omega (arith, picking_fits _ c.requires.readable_table c.loop-a.invariant c.loop-a-test.true _ c.pick.ensures c.index_by-i.ensures)
 
 pub overflow_add-flat : goal.overflow_add-flat
-overflow_add-flat g c = omega (arith, picking_fits _ c.requires.readable_table c.loop-a.invariant c.loop-a-test.true _ c.pick.ensures c.pick_index-i.ensures)
+overflow_add-flat g c = omega (arith, picking_fits _ c.requires.readable_table c.loop-a.invariant c.loop-a-test.true _ c.pick.ensures c.index_by-i.ensures)
 
 pub loop-a-preserved : goal.loop-a-preserved
-loop-a-preserved g c = picking_next _ c.requires.readable_table c.loop-a.invariant c.loop-a-test.true _ c.pick.ensures c.pick_index-i.ensures
+loop-a-preserved g c = picking_next _ c.requires.readable_table c.loop-a.invariant c.loop-a-test.true _ c.pick.ensures c.index_by-i.ensures
 
 pub returns : goal.returns
 returns g c = picking_done _ c.requires.readable_table c.loop-a.invariant c.loop-a-test.false

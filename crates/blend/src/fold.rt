@@ -53,25 +53,32 @@ fn corner_count(locations: &[AxisLocation]) -> usize
 }
 
 // The corners' values blended, axis after axis, the first one first.
-fn fold(mut vals: [f64; 16], locations: [AxisLocation; 4], n: usize) -> f64
-    ensures { result ≡ butterfly (diffs (take n locations)) vals }
+fn fold(vals: &mut [f64; 16], locations: &[AxisLocation; 4], n: usize) -> f64
+    ensures { result ≡ butterfly (diffs (take n locations.now)) vals.old }
 {
     let axes = &locations[..n.min(4)];
     let mut half = corner_count(axes);
     for location in axes {
         half = half_of(*location, half);
-        merge(*location, &mut vals, half);
+        merge(*location, vals, half);
     }
     vals[0]
 }
 
-// The fold's value, or 12.
-pub fn fold_answer(vals: [f64; 16], locations: [AxisLocation; 4], n: usize) -> Answer
-    ensures { result ≡ computed (butterfly (diffs (take n locations)) vals) }
+// The fold's value, or 12; the corners are blended where they stand, since a copy of them would wait for what was stored last.
+pub fn fold_in(vals: &mut [f64; 16], locations: &[AxisLocation; 4], n: usize) -> Answer
+    ensures { result ≡ computed (butterfly (diffs (take n locations.now)) vals.old) }
 {
     let value = fold(vals, locations, n);
     match numbers::result_fault(0, value) {
         Ok(()) => Answer::from(value),
         Err(refusal) => Answer::from(refusal),
     }
+}
+
+// The same of corners of its own.
+pub fn fold_answer(mut vals: [f64; 16], locations: [AxisLocation; 4], n: usize) -> Answer
+    ensures { result ≡ computed (butterfly (diffs (take n locations)) vals) }
+{
+    fold_in(&mut vals, &locations, n)
 }

@@ -23,8 +23,8 @@ pub record Locating (uniform : Bool) (s : Shape) (nodes readings : List Float) (
   pub filled : (k : ℕ) → k < a → get_or found k (Exact 0) ≡ location_by uniform (get_or (axes_of (counts_of s) nodes) k []) (get_or readings k nan)
 
 module _ (uniform : Bool) {s : Shape} {nodes readings : List Float} (t : ReadableTable s nodes readings) where
-  pub locate_begin : Locating uniform s nodes readings (Exact 0 ∷ Exact 0 ∷ Exact 0 ∷ Exact 0 ∷ []) 0 0
-  locate_begin = record { walking = walk_begin t; four = refl; filled = λ k b. absurd (omega arith) }
+  pub locate_begin : (found : List AxisLocation) → length found ≡ 4 → Locating uniform s nodes readings found 0 0
+  locate_begin found four = record { walking = walk_begin t; four = four; filled = λ k b. absurd (omega arith) }
 
   module _ {found : List AxisLocation} {a at : ℕ} (g : Locating uniform s nodes readings found a at) where
     pub locate_again : (l : a < s.axes) {p : AxisLocation} → p ≡ location_found uniform (take (at + get_or s.counts a 0 - at) (drop at nodes)) (get_or readings a nan)

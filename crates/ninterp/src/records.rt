@@ -60,8 +60,10 @@ fn found(kind: Kind, shape: Shape, nodes: &[f64], values: &[f64], point: &[f64])
     ensures { result ≡ kind_found (byte_of kind) shape nodes.now values.now point.now }
 {
     match kind {
-        Kind::Linear => corners::interpolated(false, shape, nodes, values, point),
-        Kind::LinearUniform => corners::interpolated(true, shape, nodes, values, point),
+        Kind::Linear | Kind::LinearUniform => {
+            let uniform = kind == Kind::LinearUniform;
+            corners::interpolated(uniform, shape, nodes, values, point)
+        }
         Kind::Nearest => pick::stored(shape, nodes, values, |_| Pick::Nearest, point),
         Kind::StepLower => pick::stored(shape, nodes, values, |_| Pick::Lower, point),
         Kind::StepUpper => pick::stored(shape, nodes, values, |_| Pick::Upper, point),

@@ -9,10 +9,10 @@ use Rattle.blend.proofs.fold.fold.Goals as goal
 
 pub merge-requires : goal.merge-requires
 merge-requires c =
-    let xs = take c.min.result c.args.locations in
+    let xs = take c.min.result c.args.locations.now in
     let d = c.loop-location.location-index in
-    let four : length c.args.locations ≡ 4 = search rules in
-    let few : length xs ≤ 4 = omega (arith, length-take c.min.result c.args.locations) in
+    let four : length c.args.locations.now ≡ 4 = search rules in
+    let few : length xs ≤ 4 = omega (arith, length-take c.min.result c.args.locations.now) in
     let z = fold_at xs d c.loop-location-test.true c.loop-location.invariant in
     let fits = fold_fits (get_or xs d (Exact 0)) (drop (d + 1) xs) c.loop-location.half c.half_of-half.result z.counted (count_few xs d c.loop-location.half few c.loop-location.invariant.counted) c.half_of-half.ensures in
     let wide : length c.loop-location.vals ≡ 16 = search rules in
@@ -20,12 +20,12 @@ merge-requires c =
 
 pub loop-location-preserved : goal.loop-location-preserved
 loop-location-preserved c =
-    let z = fold_at (take c.min.result c.args.locations) c.loop-location.location-index c.loop-location-test.true c.loop-location.invariant in
+    let z = fold_at (take c.min.result c.args.locations.now) c.loop-location.location-index c.loop-location-test.true c.loop-location.invariant in
     fold_step _ _ _ _ _ _ _ z c.half_of-half.ensures c.merge.ensures
 
 pub returns : goal.returns
 returns c =
-    let four : length c.args.locations ≡ 4 = search rules in
-    let least : c.min.result ≡ min c.args.n (length c.args.locations) = omega arith in
+    let four : length c.args.locations.now ≡ 4 = search rules in
+    let least : c.min.result ≡ min c.args.n (length c.args.locations.now) = omega arith in
     fold_done _ _ c.loop-location-test.false c.loop-location.invariant
-    ∙ ap (λ (ls : List AxisLocation). butterfly (diffs ls) c.args.vals) (ap (λ (k : ℕ). take k c.args.locations) least ∙ take_there c.args.n c.args.locations)
+    ∙ ap (λ (ls : List AxisLocation). butterfly (diffs ls) c.args.vals.now) (ap (λ (k : ℕ). take k c.args.locations.now) least ∙ take_there c.args.n c.args.locations.now)

@@ -1,5 +1,11 @@
-use Rattle.std.proofs.Common.{ap, ◌∙◌, rules}
+use Rattle.std.proofs.Common.{◌≡◌, ap, ◌∙◌, rules, Bool, true, false}
+use mathlib.Core.Logic.{⊎_elim}
 use Rattle.answer.specs.Answer.{answered}
+use Rattle.answer.specs.declared.Answer.{Answer}
+use Rattle.layout.specs.Shape.{counts_of}
+use Rattle.axis.specs.Scaffolding.{location_by}
+use Rattle.blend.specs.Blend.{computed}
+use Rattle.ninterp.specs.Linears.{interpolated}
 use Rattle.axis.specs.declared.picks.Pick.TheVariants.{Lower, Upper, Nearest}
 use Rattle.ninterp.specs.Scaffolding.{kind_found}
 use Rattle.ninterp.proofs.Lookups.{stored_same}
@@ -8,11 +14,12 @@ use Rattle.ninterp.proofs.records.found.Goals as goal
 
 pub returns-in-Linear : goal.returns-in-Linear
 unfolding kind_found
-returns-in-Linear c = c.interpolated.ensures ∙ of_kind _ _ _ _ _ _ c.in-Linear.is
-
-pub returns-in-LinearUniform : goal.returns-in-LinearUniform
-unfolding kind_found
-returns-in-LinearUniform c = c.interpolated-in-LinearUniform.ensures ∙ of_kind _ _ _ _ _ _ c.in-LinearUniform.is
+returns-in-Linear c =
+    let by : Bool → Answer = (λ u. computed (interpolated (location_by u) (counts_of c.args.shape) c.args.nodes.now c.args.values.now c.args.point.now)) in
+    ⊎_elim
+    (λ e. let no : c.eq-uniform.result ≡ false = rw e at c.eq-uniform.ensures in c.interpolated.ensures ∙ ap by no ∙ of_kind _ _ _ _ _ _ e)
+    (λ e. let yes : c.eq-uniform.result ≡ true = rw e at c.eq-uniform.ensures in c.interpolated.ensures ∙ ap by yes ∙ of_kind _ _ _ _ _ _ e)
+    c.in-Linear.is
 
 pub returns-in-Nearest : goal.returns-in-Nearest
 unfolding kind_found

@@ -49,14 +49,14 @@ struct Rest {
 // The flat place of each corner of the axes after the first, by its number: from the last axis on, so that the lower half of an axis
 // comes first.
 fn rest_places(
-    counts: [usize; 4],
-    locations: [AxisLocation; 4],
+    counts: &[usize; 4],
+    locations: &[AxisLocation; 4],
     n: usize,
     places: &mut [usize],
 ) -> Rest
-    requires placeable { Placeable counts locations n }
+    requires placeable { Placeable counts.now locations.now n }
     requires blank { Blank places.old }
-    ensures { Placed counts locations n places.new result.count result.low result.high }
+    ensures { Placed counts.now locations.now n places.new result.count result.low result.high }
 {
     let mut rest = Rest {
         count: 1,
@@ -93,14 +93,14 @@ fn gather(values: &[f64], places: &[usize], low: usize, high: usize) -> [f64; 16
 
 // What the corners come to: the value, or 12. The places are not spread over the first axis: the values are read under its two nodes at
 // once, instead of from places that were just put.
-fn corner_answer(shape: Shape, values: &[f64], locations: [AxisLocation; 4]) -> Answer
-    requires { Cornered shape values.now locations }
-    ensures { result ≡ computed (linear (take shape.axes locations) (table (counts_of shape) values.now)) }
+fn corner_answer(shape: Shape, values: &[f64], locations: &[AxisLocation; 4]) -> Answer
+    requires { Cornered shape values.now locations.now }
+    ensures { result ≡ computed (linear (take shape.axes locations.now) (table (counts_of shape) values.now)) }
 {
     let mut places = [0usize; 16];
-    let rest = rest_places(shape.counts, locations, shape.axes, &mut places);
-    let vals = gather(values, &places[..rest.count], rest.low, rest.high);
-    fold::fold_answer(vals, locations, shape.axes)
+    let rest = rest_places(&shape.counts, locations, shape.axes, &mut places);
+    let mut vals = gather(values, &places[..rest.count], rest.low, rest.high);
+    fold::fold_in(&mut vals, locations, shape.axes)
 }
 
 // The same of a judged reading, by Linear's rule or by LinearUniform's.
@@ -115,6 +115,7 @@ pub(crate) fn interpolated(
     ensures { result ≡ computed (interpolated (location_by uniform) (counts_of shape)
         nodes.now values.now point.now) }
 {
-    let locations = locations::all(uniform, shape, nodes, point);
-    corner_answer(shape, values, locations)
+    let mut locations = [AxisLocation::Exact(0); 4];
+    locations::all(uniform, shape, nodes, point, &mut locations);
+    corner_answer(shape, values, &locations)
 }

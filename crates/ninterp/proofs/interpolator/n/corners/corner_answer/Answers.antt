@@ -18,4 +18,4 @@ gather-vals-requires c = rest_gatherable c.requires.placeable c.rest_places-rest
 
 pub returns : goal.returns
 returns c =
-    c.fold_answer.ensures ∙ ap computed (rest_folded c.requires.placeable c.rest_places-rest.ensures _ refl c.rest_places-rest.auto.places _ _ c.gather-vals.ensures)
+    c.fold_in.ensures ∙ ap computed (rest_folded c.requires.placeable c.rest_places-rest.ensures _ refl c.rest_places-rest.auto.places _ _ c.gather-vals.ensures)

@@ -5,8 +5,8 @@ use Rattle.blend.specs.Blend.{linear, computed}
 use Rattle.ninterp.specs.Linears.{interpolated}
 use Rattle.ninterp.proofs.interpolator.n.corners.interpolated.Goals as goal
 
-pub all-locations-requires : goal.all-locations-requires
-all-locations-requires c = c.requires.readable
+pub all-requires : goal.all-requires
+all-requires c = c.requires.readable
 
 pub corner_answer-requires : goal.corner_answer-requires
 corner_answer-requires c =
@@ -16,9 +16,9 @@ corner_answer-requires c =
         some = c.requires.some;
         few = t.four;
         long_counts = t.long;
-        long_locations = c.all-locations.ensures.long;
+        long_locations = c.all.ensures.long;
         small = t.grid.small;
-        within = c.all-locations.ensures.within;
+        within = c.all.ensures.within;
       };
       stored = c.requires.stored;
     }
@@ -26,4 +26,4 @@ corner_answer-requires c =
 pub returns : goal.returns
 unfolding interpolated
 returns c =
-    c.corner_answer.ensures ∙ ap (λ ps. computed (linear ps (table (counts_of c.args.shape) c.args.values.now))) c.all-locations.ensures.same
+    c.corner_answer.ensures ∙ ap (λ ps. computed (linear ps (table (counts_of c.args.shape) c.args.values.now))) c.all.ensures.same

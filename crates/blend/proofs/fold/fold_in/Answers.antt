@@ -3,7 +3,7 @@ use Rattle.answer.specs.Answer.{answered}
 use Rattle.answer.proofs.Checks.{then_stops, then_goes_on}
 use Rattle.checks.specs.Numbers.{result_fault}
 use Rattle.blend.specs.Blend.{computed}
-use Rattle.blend.proofs.fold.fold_answer.Goals as goal
+use Rattle.blend.proofs.fold.fold_in.Goals as goal
 
 pub returns-in-Ok : goal.returns-in-Ok
 unfolding computed

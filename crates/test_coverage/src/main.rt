@@ -16,5 +16,5 @@ impl Call for Report {
 }
 
 fn main() {
-    test_runs::take_all::<Report>();
+    test_runs::take_all_by::<Report>();
 }

@@ -4,6 +4,8 @@
 
 // what every test that answers a list shares
 pub mod list;
+// runs by a call that is lent
+mod lent;
 // an output of one byte less than a run writes
 mod room;
 
@@ -44,8 +46,8 @@ fn read_length() -> Result<usize, Stop> {
     Ok(little_endian::word(&head, 0, 4) as usize)
 }
 
-// Takes the next run of the list.
-fn take<C: Call>(run: u64, space: &mut [u8], out: &mut [u8]) -> Result<(), Stop> {
+// Reads the next run of the list, and says which it is.
+fn read_run(run: u64, space: &mut [u8]) -> Result<&mut [u8], Stop> {
     let length = read_length()?;
     if length > space.len() {
         return Err(Stop::BadList);
@@ -54,17 +56,62 @@ fn take<C: Call>(run: u64, space: &mut [u8], out: &mut [u8]) -> Result<(), Stop>
     list::read_rest(input)?;
     list::put_number(b"run ", run);
     list::end(b"\n")?;
+    Ok(input)
+}
+
+// Takes the next run of the list.
+fn take<C: Call>(run: u64, space: &mut [u8], out: &mut [u8]) -> Result<(), Stop> {
+    let input = read_run(run, space)?;
     answer::<C>(input, out);
     Ok(())
 }
 
 // Takes all runs of the list, and writes what the call gives of each.
-pub fn take_all<C: Call>() {
+pub fn take_all<F: Fn(&[u8], &mut [u8]) -> RunAnswer>(call: F)
+    requires { F.IsAlwaysCallable call }
+{
+    let mut space = [0u8; MOST_BYTES];
+    let mut out = [0u8; MOST_TEXT];
+    for run in 0..u64::MAX {
+        if let Err(stop) = lent::take(&call, run, &mut space, &mut out) {
+            return list::say_stop(stop);
+        }
+    }
+}
+
+// The same by a call that a type names, of which nothing is asked.
+pub fn take_all_by<C: Call>() {
     let mut space = [0u8; MOST_BYTES];
     let mut out = [0u8; MOST_TEXT];
     for run in 0..u64::MAX {
         if let Err(stop) = take::<C>(run, &mut space, &mut out) {
             return list::say_stop(stop);
         }
+    }
+}
+
+#[cfg(test)]
+mod tests {
+    use super::*;
+    use program::run;
+    use std::cell::Cell;
+    use std::fs;
+    use std::test::Fail;
+
+    // Two runs, of three bytes and of none; neither is an image. Each is run three times.
+    const LIST: [u8; 11] = [3, 0, 0, 0, 1, 2, 3, 0, 0, 0, 0];
+
+    // A call that is lent may hold something: how often it was made, and of how many bytes in all.
+    #[test]
+    fn takes_runs_by_a_call_that_holds(rt: HostRuntime) -> Result<(), Fail> {
+        fs::write(&rt, "/dev/stdin", LIST.as_slice())?;
+        let held = Cell::new((0u32, 0usize));
+        take_all(|input, out| {
+            let (made, bytes) = held.get();
+            held.set((made.wrapping_add(1), bytes.wrapping_add(input.len())));
+            run::run(input, out)
+        });
+        assert_eq!(rt; held.get(), (6, 9));
+        Ok(())
     }
 }

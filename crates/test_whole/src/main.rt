@@ -15,5 +15,5 @@ impl Call for Lines {
 }
 
 fn main() {
-    test_runs::take_all::<Lines>();
+    test_runs::take_all_by::<Lines>();
 }

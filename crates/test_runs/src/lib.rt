@@ -104,6 +104,8 @@ mod tests {
     // A call that is lent may hold something: how often it was made, and of how many bytes in all.
     #[test]
     fn takes_runs_by_a_call_that_holds(rt: HostRuntime) -> Result<(), Fail> {
+        // nothing stands there, so that no file which somebody lends is written over
+        assert!(rt; list::read_head(&mut [0u8; 1]) == Err(Stop::End));
         fs::write(&rt, "/dev/stdin", LIST.as_slice())?;
         let held = Cell::new((0u32, 0usize));
         take_all(|input, out| {
